@@ -1,0 +1,12 @@
+pub mod Sets
+pub mod CutBalance
+pub mod Duality
+pub mod Seniority
+pub mod Order
+pub mod Greatest
+pub mod CutLemmas
+pub mod Balance
+pub mod Outcome
+pub mod Returns
+pub mod Examples
+pub mod Stays

@@ -1,0 +1,167 @@
+-- Lists of numbers, and the order of rights.
+use Rattle.std.proofs.Common.{◌≡◌, ℕ, zero, suc, ◌+◌, ◌≤◌, ◌<◌, Bool, true, false, List, [], ◌∷◌, length, refl, sym, ap, ◌∙◌, arith, inl, inr}
+use Rattle.std.specs.Prelude.{slice_get, Some, None, find, ◌⊎◌, ◌≢◌}
+use Rattle.water_model.specs.Rights.{is_senior_in, AreStrict}
+use Rattle.water_model.specs.declared.types.Right.{Right}
+use Rattle.water_model.proofs.Seniority.{senior_trans, senior_total}
+use Rattle.water_model.specs.Places.{numbers_from, places_of, put_right, sort_rights, by_seniority}
+
+pub length-numbers_from : (from n : ℕ) → length (numbers_from from n) ≡ n
+unfolding numbers_from
+length-numbers_from from zero = refl
+length-numbers_from from (suc n) = ap suc (length-numbers_from (suc from) n)
+
+pub numbers_from-get : (from n k x : ℕ) → k < n → x ≡ from + k → slice_get (numbers_from from n) k ≡ Some x
+unfolding numbers_from
+numbers_from-get from zero k x h e = absurd (omega arith)
+numbers_from-get from (suc n) zero x h e = let same : from ≡ x = omega arith in ap (λ y. Some y) same
+numbers_from-get from (suc n) (suc k) x h e = numbers_from-get (suc from) n k x (omega arith) (omega arith)
+
+-- an element of a list
+abbrev pub Has : List ℕ → ℕ → Type 0
+Has [] x = ⊥
+Has (y ∷ ys) x = (x ≡ y) ⊎ Has ys x
+
+pub numbers_from-has : (from n k x : ℕ) → k < n → x ≡ from + k → Has (numbers_from from n) x
+unfolding numbers_from
+numbers_from-has from zero k x h e = absurd (omega arith)
+numbers_from-has from (suc n) zero x h e = inl (omega arith)
+numbers_from-has from (suc n) (suc k) x h e = inr (numbers_from-has (suc from) n k x (omega arith) (omega arith))
+
+pub numbers_from-below : (from n x : ℕ) → Has (numbers_from from n) x → (from ≤ x) × (x < from + n)
+unfolding numbers_from
+numbers_from-below from zero x h = absurd h
+numbers_from-below from (suc n) x (inl e) = (omega arith, omega arith)
+numbers_from-below from (suc n) x (inr h) = let b = numbers_from-below (suc from) n x h in (omega (arith, b.0), omega (arith, b.1))
+
+put_right-has : (rights : List Right) (r : ℕ) (xs : List ℕ) (x : ℕ) → Has (put_right rights r xs) x → (x ≡ r) ⊎ Has xs x
+put_right-has rights r [] x h = h
+put_right-has rights r (y ∷ ys) x h = by_test (is_senior_in rights r y) refl (put_right-has rights r ys x)
+  where
+    by_test : (t : Bool) → is_senior_in rights r y ≡ t → (Has (put_right rights r ys) x → (x ≡ r) ⊎ Has ys x) → (x ≡ r) ⊎ Has (y ∷ ys) x
+    by_test true e further = let here : Has (r ∷ y ∷ ys) x = rw e at h in here
+    by_test false e further = by_place (rw e at h)
+      where
+        by_place : Has (y ∷ put_right rights r ys) x → (x ≡ r) ⊎ Has (y ∷ ys) x
+        by_place (inl same) = inr (inl same)
+        by_place (inr rest) = elim (further rest) [ inl is ↦ inl is | inr in_rest ↦ inr (inr in_rest) ]
+
+has-put_right : (rights : List Right) (r : ℕ) (xs : List ℕ) (x : ℕ) → (x ≡ r) ⊎ Has xs x → Has (put_right rights r xs) x
+has-put_right rights r [] x h = h
+has-put_right rights r (y ∷ ys) x h = by_test (is_senior_in rights r y) refl (has-put_right rights r ys x)
+  where
+    by_test : (t : Bool) → is_senior_in rights r y ≡ t → ((x ≡ r) ⊎ Has ys x → Has (put_right rights r ys) x) → Has (put_right rights r (y ∷ ys)) x
+    by_test true e further = rw e h
+    by_test false e further = rw e (by_place h)
+      where
+        by_place : (x ≡ r) ⊎ Has (y ∷ ys) x → Has (y ∷ put_right rights r ys) x
+        by_place (inl is) = inr (further (inl is))
+        by_place (inr (inl same)) = inl same
+        by_place (inr (inr rest)) = inr (further (inr rest))
+
+sort_rights-has : (rights : List Right) (xs : List ℕ) (x : ℕ) → Has (sort_rights rights xs) x → Has xs x
+sort_rights-has rights [] x h = h
+sort_rights-has rights (y ∷ ys) x h =
+    elim (put_right-has rights y (sort_rights rights ys) x h) [ inl is ↦ inl is | inr rest ↦ inr (sort_rights-has rights ys x rest) ]
+
+has-sort_rights : (rights : List Right) (xs : List ℕ) (x : ℕ) → Has xs x → Has (sort_rights rights xs) x
+has-sort_rights rights [] x h = h
+has-sort_rights rights (y ∷ ys) x (inl is) = has-put_right rights y (sort_rights rights ys) x (inl is)
+has-sort_rights rights (y ∷ ys) x (inr rest) = has-put_right rights y (sort_rights rights ys) x (inr (has-sort_rights rights ys x rest))
+
+-- every right stands in the order, and nothing else
+pub seniors_have : (rights : List Right) (r : ℕ) → r < length rights → Has (by_seniority rights) r
+unfolding by_seniority
+seniors_have rights r h = has-sort_rights rights (places_of rights) r (numbers_from-has 0 (length rights) r r h (omega arith))
+
+pub seniors_below : (rights : List Right) (r : ℕ) → Has (by_seniority rights) r → r < length rights
+unfolding by_seniority
+seniors_below rights r h =
+    let within = numbers_from-below 0 (length rights) r (sort_rights-has rights (places_of rights) r h) in
+    omega (arith, within.1)
+
+-- Each right in the order is senior to those behind it.
+
+abbrev pub IsOrdered : List Right → List ℕ → Type 0
+IsOrdered rights [] = Unit {0}
+IsOrdered rights (x ∷ xs) = ((y : ℕ) → Has xs y → is_senior_in rights x y ≡ true) × IsOrdered rights xs
+
+put_right-ordered : (rights : List Right) (r : ℕ) (xs : List ℕ) → ((y : ℕ) → Has xs y → is_senior_in rights r y ≡ false → is_senior_in rights y r ≡ true) →
+    IsOrdered rights xs → IsOrdered rights (put_right rights r xs)
+put_right-ordered rights r [] t h = (λ y k. absurd k, tt)
+put_right-ordered rights r (y ∷ ys) t h =
+    by_test (is_senior_in rights r y) refl (put_right-ordered rights r ys (λ z k. t z (inr k)) h.1)
+  where
+    by_test : (s : Bool) → is_senior_in rights r y ≡ s → IsOrdered rights (put_right rights r ys) → IsOrdered rights (put_right rights r (y ∷ ys))
+    by_test true e further = rw e (in_front, h)
+      where
+        in_front : (z : ℕ) → Has (y ∷ ys) z → is_senior_in rights r z ≡ true
+        in_front z (inl same) = ap (λ q. is_senior_in rights r q) same ∙ e
+        in_front z (inr rest) = senior_trans rights r y z e (h.0 z rest)
+    by_test false e further = rw e (in_front, further)
+      where
+        in_front : (z : ℕ) → Has (put_right rights r ys) z → is_senior_in rights y z ≡ true
+        in_front z k = elim (put_right-has rights r ys z k) [
+          | inl same ↦ ap (λ q. is_senior_in rights y q) same ∙ t y (inl refl) e
+          | inr rest ↦ h.0 z rest
+        ]
+
+sort_rights-ordered : (rights : List Right) → AreStrict rights → (from n : ℕ) → from + n ≤ length rights → IsOrdered rights (sort_rights rights (numbers_from from n))
+unfolding numbers_from
+sort_rights-ordered rights strict from zero h = tt
+sort_rights-ordered rights strict from (suc n) h =
+    put_right-ordered rights from (sort_rights rights (numbers_from (suc from) n)) (λ y k e. other y k e) (sort_rights-ordered rights strict (suc from) n (omega arith))
+  where
+    other : (y : ℕ) → Has (sort_rights rights (numbers_from (suc from) n)) y → is_senior_in rights from y ≡ false → is_senior_in rights y from ≡ true
+    other y k e =
+        let within = numbers_from-below (suc from) n y (sort_rights-has rights (numbers_from (suc from) n) y k) in
+        let differ : from ≢ y = λ same. omega (arith, within.0) in
+        elim (senior_total rights strict from y (omega arith) (omega (arith, within.1)) differ) [
+          | inl senior ↦ absurd (clash (sym senior ∙ e))
+          | inr senior ↦ senior
+        ]
+      where
+        clash : true ≡ false → ⊥
+        clash e = cc
+
+pub seniors_ordered : (rights : List Right) → AreStrict rights → IsOrdered rights (by_seniority rights)
+unfolding by_seniority
+seniors_ordered rights strict = sort_rights-ordered rights strict 0 (length rights) (omega arith)
+
+-- the first that passes a test is senior to each other that does
+pub find-passes : (p : ℕ → Bool) (xs : List ℕ) (c : ℕ) → find p xs ≡ Some c → (p c ≡ true) × Has xs c
+find-passes p [] c h = let none : None ≡ Some c = h in cc
+find-passes p (x ∷ xs) c h = by_test (p x) refl (find-passes p xs c)
+  where
+    by_test : (t : Bool) → p x ≡ t → (find p xs ≡ Some c → (p c ≡ true) × Has xs c) → (p c ≡ true) × Has (x ∷ xs) c
+    by_test true e further = let here : Some x ≡ Some c = rw e at h in let same : x ≡ c = cc in (ap p (sym same) ∙ e, inl (sym same))
+    by_test false e further = let f = further (rw e at h) in (f.0, inr f.1)
+
+pub find-first : (rights : List Right) (p : ℕ → Bool) (xs : List ℕ) (c o : ℕ) → IsOrdered rights xs → find p xs ≡ Some c → Has xs o → p o ≡ true →
+    (o ≡ c) ⊎ (is_senior_in rights c o ≡ true)
+find-first rights p [] c o w h k q = absurd k
+find-first rights p (x ∷ xs) c o w h k q = by_test (p x) refl (find-first rights p xs c o w.1)
+  where
+    by_test : (t : Bool) → p x ≡ t → (find p xs ≡ Some c → Has xs o → p o ≡ true → (o ≡ c) ⊎ (is_senior_in rights c o ≡ true)) → (o ≡ c) ⊎ (is_senior_in rights c o ≡ true)
+    by_test true e further = let here : Some x ≡ Some c = rw e at h in let same : x ≡ c = cc in by_place k same
+      where
+        by_place : Has (x ∷ xs) o → x ≡ c → (o ≡ c) ⊎ (is_senior_in rights c o ≡ true)
+        by_place (inl is) same = inl (is ∙ same)
+        by_place (inr rest) same = inr (ap (λ z. is_senior_in rights z o) (sym same) ∙ w.0 o rest)
+    by_test false e further = by_place k
+      where
+        by_place : Has (x ∷ xs) o → (o ≡ c) ⊎ (is_senior_in rights c o ≡ true)
+        by_place (inl is) = let no : false ≡ true = sym e ∙ (ap p (sym is) ∙ q) in cc
+        by_place (inr rest) = further (rw e at h) rest q
+
+pub find-none : (p : ℕ → Bool) (xs : List ℕ) (o : ℕ) → find p xs ≡ None → Has xs o → p o ≡ false
+find-none p [] o h k = absurd k
+find-none p (x ∷ xs) o h k = by_test (p x) refl (find-none p xs o)
+  where
+    by_test : (t : Bool) → p x ≡ t → (find p xs ≡ None → Has xs o → p o ≡ false) → p o ≡ false
+    by_test true e further = let none : Some x ≡ None = rw e at h in cc
+    by_test false e further = by_place k
+      where
+        by_place : Has (x ∷ xs) o → p o ≡ false
+        by_place (inl is) = ap p is ∙ e
+        by_place (inr rest) = further (rw e at h) rest

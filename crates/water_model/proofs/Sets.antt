@@ -1,0 +1,97 @@
+-- Sums over the nodes of a set.
+use Rattle.std.proofs.Common.{◌≡◌, ℕ, zero, suc, ◌+◌, ◌<◌, Bool, true, false, refl, sym, ◌∙◌, ap, arith, List, [], ◌∷◌, length}
+use Rattle.std.specs.Prelude.{if◌then◌else◌, ◌==◌, nat_lt, Option, Some, None, ◌&&◌, not}
+use Rattle.std.proofs.lemmas.Bool.Decides.{nat_tests}
+use Rattle.place_sums.specs.Sums.{total, total_where}
+use Rattle.water_model.specs.Lookups.{has}
+use Rattle.water_model.specs.Basin.{is_at}
+use Rattle.water_model.specs.Cuts.{node_within}
+use Rattle.place_sums.proofs.Totals.{total_same, total_exchange, total_at, total_zero, total_add}
+
+-- a place that is in the set is below its length
+pub has_below : (set : List Bool) (k : ℕ) → has set k ≡ true → k < length set
+has_below [] k h = cc
+has_below (x ∷ set) zero h = omega arith
+has_below (x ∷ set) (suc k) h = omega (arith, has_below set k h)
+
+pub mask_total : (b : Bool) (m : ℕ) (f : ℕ → ℕ) → (if b then total m f else 0) ≡ total m (λ e. if b then f e else 0)
+mask_total true m f = refl
+mask_total false m f = sym (total_zero m (λ e. 0) (λ k h. refl))
+
+-- the sum over the nodes of a set of what stands at each is the sum over what stands within the set
+pub grouped : (n m : ℕ) (y : ℕ → Bool) (p : ℕ → ℕ → Bool) (within : ℕ → Bool) (f : ℕ → ℕ) →
+    ((e x : ℕ) → total n (λ v. if y v then (if p e v then x else 0) else 0) ≡ (if within e then x else 0)) →
+    total n (λ v. if y v then total m (λ e. if p e v then f e else 0) else 0) ≡ total m (λ e. if within e then f e else 0)
+grouped n m y p within f one =
+    total_same n (λ v. if y v then total m (λ e. if p e v then f e else 0) else 0)
+    (λ v. total m (λ e. if y v then (if p e v then f e else 0) else 0))
+    (λ v l. mask_total (y v) m (λ e. if p e v then f e else 0))
+    ∙ total_exchange n m (λ v e. if y v then (if p e v then f e else 0) else 0)
+    ∙ total_same m (λ e. total n (λ v. if y v then (if p e v then f e else 0) else 0))
+    (λ e. if within e then f e else 0)
+    (λ e l. one e (f e))
+
+-- one place: what stands at node k
+pub at_place : (n : ℕ) (set : List Bool) → length set ≡ n → (k x : ℕ) →
+    total n (λ v. if has set v then (if k == v then x else 0) else 0) ≡ (if has set k then x else 0)
+at_place n set len k x =
+    total_same n (λ v. if has set v then (if k == v then x else 0) else 0)
+    (λ v. if k == v then (if has set k then x else 0) else 0)
+    (λ v l. swap_tests (has set) k v x)
+    ∙ (total_at n k (if has set k then x else 0)
+    ∙ drop_test k n (has set k) x (λ h. let l = has_below set k h in omega arith))
+  where
+    swap_tests : (y : ℕ → Bool) (k v x : ℕ) →
+        (if y v then (if k == v then x else 0) else 0) ≡ (if k == v then (if y k then x else 0) else 0)
+    swap_tests y k v x = grind (arith, nat_tests)
+
+    drop_test : (k n : ℕ) (b : Bool) (x : ℕ) → (b ≡ true → k < n) →
+        (if nat_lt k n then (if b then x else 0) else 0) ≡ (if b then x else 0)
+    drop_test k n b x h = grind (arith, nat_tests)
+
+-- the same where there may be no place
+pub at_some_place : (n : ℕ) (set : List Bool) → length set ≡ n → (o : Option ℕ) (x : ℕ) →
+    total n (λ v. if has set v then (if is_at o v then x else 0) else 0) ≡ (if node_within o set then x else 0)
+at_some_place n set len None x = total_zero n (λ v. if has set v then 0 else 0) (λ v l. same (has set v) 0)
+  where
+    same : (b : Bool) (z : ℕ) → (if b then z else z) ≡ z
+    same true z = refl
+    same false z = refl
+at_some_place n set len (Some k) x = at_place n set len k x
+
+-- a sum over a set splits like its terms
+pub total_where_add : (n : ℕ) (y : ℕ → Bool) (f g : ℕ → ℕ) →
+    total_where n y (λ k. f k + g k) ≡ total_where n y f + total_where n y g
+total_where_add n y f g =
+    total_same n (λ k. if y k then f k + g k else 0) (λ k. (if y k then f k else 0) + (if y k then g k else 0))
+    (λ k l. split (y k) (f k) (g k))
+    ∙ total_add n (λ k. if y k then f k else 0) (λ k. if y k then g k else 0)
+  where
+    split : (b : Bool) (x z : ℕ) → (if b then x + z else 0) ≡ (if b then x else 0) + (if b then z else 0)
+    split true x z = refl
+    split false x z = refl
+
+pub total_where_same : (n : ℕ) (y : ℕ → Bool) (f g : ℕ → ℕ) → ((k : ℕ) → k < n → f k ≡ g k) →
+    total_where n y f ≡ total_where n y g
+total_where_same n y f g h =
+    total_same n (λ k. if y k then f k else 0) (λ k. if y k then g k else 0) (λ k l. ap (λ x. if y k then x else 0) (h k l))
+
+-- what has an end in the set has its other end there too, or crosses
+pub total_crossing : (n : ℕ) (a c : ℕ → Bool) (f : ℕ → ℕ) →
+    total_where n a f ≡ total_where n (λ k. a k && not (c k)) f + total_where n (λ k. a k && c k) f
+total_crossing n a c f =
+    total_same n (λ k. if a k then f k else 0)
+    (λ k. (if a k && not (c k) then f k else 0) + (if a k && c k then f k else 0))
+    (λ k l. split (a k) (c k) (f k))
+    ∙ total_add n (λ k. if a k && not (c k) then f k else 0) (λ k. if a k && c k then f k else 0)
+  where
+    split : (p q : Bool) (x : ℕ) → (if p then x else 0) ≡ (if p && not q then x else 0) + (if p && q then x else 0)
+    split p q x = grind (arith, nat_tests)
+
+pub total_swap : (n : ℕ) (a c : ℕ → Bool) (f : ℕ → ℕ) →
+    total_where n (λ k. a k && c k) f ≡ total_where n (λ k. c k && a k) f
+total_swap n a c f =
+    total_same n (λ k. if a k && c k then f k else 0) (λ k. if c k && a k then f k else 0) (λ k l. swap (a k) (c k) (f k))
+  where
+    swap : (p q : Bool) (x : ℕ) → (if p && q then x else 0) ≡ (if q && p then x else 0)
+    swap p q x = grind (arith, nat_tests)

@@ -1,0 +1,65 @@
+-- Cuts of a right, their bounds, and reaches.
+use Rattle.std.specs.Prelude.{◌≡◌, ℕ, ℤ, pos, ◌-ℤ◌, ◌+◌, ◌<◌, Bool, false, ◌&&◌, not, List, length, slice_index, Option, Some, None, IsTrue}
+use Rattle.place_sums.specs.Sums.{total_where, greatest_where}
+use Rattle.water_model.specs.Lookups.{has}
+use Rattle.water_model.specs.Basin.{tail_of, head_of, is_on_link, taking_node, instream_link, is_senior}
+use Rattle.water_model.specs.Plans.{carry_of}
+use Rattle.water_text.specs.declared.month.Month.{Month}
+use Rattle.water_model.specs.declared.types.Basin.{Basin}
+
+-- whether a link enters, and leaves, a set of nodes
+abbrev pub enters : Basin → List Bool → ℕ → Bool
+enters b cut link = has cut (head_of b link) && not (has cut (tail_of b link))
+
+abbrev pub leaves : Basin → List Bool → ℕ → Bool
+leaves b cut link = has cut (tail_of b link) && not (has cut (head_of b link))
+
+-- whether a diversion or zone takes within a set of nodes
+abbrev pub node_within : Option ℕ → List Bool → Bool
+node_within None cut = false
+node_within (Some node) cut = has cut node
+
+abbrev pub takes_within : Basin → List Bool → ℕ → Bool
+takes_within b cut right = node_within (taking_node b right) cut
+
+-- what is kept on a link for the instream rights that are senior to a right
+abbrev pub kept_on : Basin → List ℕ → ℕ → ℕ → ℕ
+kept_on b delivered right link =
+    greatest_where (length b.rights) (λ s. is_on_link b s link && is_senior b s right) (λ s. slice_index delivered s)
+
+-- the supply in a set of nodes and the carry of the links that enter it: the most that can come in
+abbrev pub cut_capacity : Basin → Month → List ℕ → List Bool → ℕ
+cut_capacity b month supply cut =
+    total_where (length b.nodes) (λ n. has cut n) (λ n. slice_index supply n)
+    + total_where (length b.links) (λ e. enters b cut e) (λ e. carry_of b month e)
+
+-- what is kept for seniors, on the links that leave the set other than the right's own, and by takes in the set
+abbrev pub cut_kept : Basin → List ℕ → ℕ → List Bool → ℕ
+cut_kept b delivered right cut =
+    total_where (length b.links) (λ e. leaves b cut e && not (is_on_link b right e)) (λ e. kept_on b delivered right e)
+    + total_where (length b.rights) (λ s. takes_within b cut s && is_senior b s right) (λ s. slice_index delivered s)
+
+-- the most that a right can be delivered beside its seniors
+abbrev pub cut_bound : Basin → Month → List ℕ → List ℕ → ℕ → List Bool → ℤ
+cut_bound b month supply delivered right cut =
+    pos (cut_capacity b month supply cut) -ℤ pos (cut_kept b delivered right cut)
+
+-- a set with the node of a diversion or zone, or with the tail and not the head of an instream right's link
+abbrev pub Separates : Basin → Option ℕ → Option ℕ → List Bool → Type 0
+Separates b taking None cut = IsTrue (node_within taking cut)
+Separates b taking (Some link) cut = (link < length b.links) × IsTrue (leaves b cut link)
+
+pub record IsCut (b : Basin) (right : ℕ) (cut : List Bool) : Type 0 where
+  pub one_each : length cut ≡ length b.nodes
+  pub separates : Separates b (taking_node b right) (instream_link b right) cut
+
+-- a cut whose bound is what the right is delivered
+pub record IsTight (b : Basin) (month : Month) (supply delivered : List ℕ) (right : ℕ) (cut : List Bool) : Type 0 where
+  pub is_cut : IsCut b right cut
+  pub tight : cut_capacity b month supply cut ≡ slice_index delivered right + cut_kept b delivered right cut
+
+-- the tight cut that contains every tight cut
+pub record IsReach (b : Basin) (month : Month) (supply delivered : List ℕ) (right : ℕ) (cut : List Bool) : Type 0 where
+  pub is_tight : IsTight b month supply delivered right cut
+  pub contains : (other : List Bool) → IsTight b month supply delivered right other →
+      (n : ℕ) → IsTrue (has other n) → IsTrue (has cut n)

@@ -1,0 +1,96 @@
+-- Records of months, histories, reaches and calling rights.
+use Rattle.std.specs.Prelude.{◌≡◌, ℕ, ◌+◌, ◌-◌, ◌<◌, ◌≤◌, Bool, false, List, map, length, slice_index, slice_get, Option, Some, None, IsTrue, IfSome, IfNone, IsSomeAnd, take}
+use Rattle.place_sums.specs.Sums.{total_where}
+use Rattle.water_model.specs.Lookups.{of_entry}
+use Rattle.water_model.specs.Basin.{is_senior, is_at}
+use Rattle.water_model.specs.Plans.{IsPlan, delivery}
+use Rattle.water_model.specs.CutSets.{set_of}
+use Rattle.water_model.specs.Cuts.{IsTight, takes_within}
+use Rattle.water_model.specs.Hydrology.{run_month, in_year, inflow_at, evaporation, returned_at, stored_at, used_of, want_of}
+use Rattle.water_model.specs.declared.types.Basin.{Basin}
+use Rattle.water_model.specs.declared.types.Inflows.{Inflows}
+use Rattle.water_model.specs.declared.types.MonthRecord.{MonthRecord}
+use Rattle.water_model.specs.declared.types.RightKind.{RightKind}
+use Rattle.water_model.specs.declared.types.RightKind.TheVariants.{Diversion, Instream, Zone}
+
+-- a right is short if it is delivered less than its want
+abbrev pub IsShort : MonthRecord → ℕ → Type 0
+IsShort m right = slice_index m.delivered right < slice_index m.want right
+
+-- the set that the record has of a right
+abbrev pub cut_of : MonthRecord → ℕ → Option (List Bool)
+cut_of m right = set_of m.cuts right
+
+-- whether the right is a zone of the reservoir
+abbrev pub is_zone_of_kind : RightKind → ℕ → Bool
+is_zone_of_kind (Diversion node) reservoir = false
+is_zone_of_kind (Instream link) reservoir = false
+is_zone_of_kind (Zone at level) reservoir = is_at (Some at) reservoir
+
+abbrev pub is_zone_of : Basin → ℕ → ℕ → Bool
+is_zone_of b right reservoir = of_entry b.rights right (λ r. is_zone_of_kind r.kind reservoir) false
+
+-- the storage in which a month opens: the basin's, or the closing of the month before
+abbrev pub opening_after : Basin → List MonthRecord → List ℕ
+opening_after b before =
+    of_entry before (length before - 1) (λ m. m.closing) (map (λ v. v.opening) b.reservoirs)
+
+-- each list has one number for each reservoir, node, right or link
+pub record FitsBasin (b : Basin) (m : MonthRecord) : Type 0 where
+  pub opening : length m.opening ≡ length b.reservoirs
+  pub evaporated : length m.evaporated ≡ length b.reservoirs
+  pub closing : length m.closing ≡ length b.reservoirs
+  pub returned : length m.returned ≡ length b.nodes
+  pub supply : length m.supply ≡ length b.nodes
+  pub used : length m.used ≡ length b.rights
+  pub want : length m.want ≡ length b.rights
+  pub delivered : length m.delivered ≡ length b.rights
+  pub cuts : length m.cuts.sets ≡ length b.rights
+  pub cut_nodes : m.cuts.nodes ≡ length b.nodes
+
+-- a record of the month that follows the records before
+pub record Follows (b : Basin) (series : Inflows) (before : List MonthRecord) (m : MonthRecord) : Type 0 where
+  pub fits : FitsBasin b m
+  pub index : m.index ≡ length before
+  pub month : m.month ≡ run_month b m.index
+  pub opening : m.opening ≡ opening_after b before
+  pub evaporated : (v : ℕ) → v < length b.reservoirs → slice_index m.evaporated v
+      ≡ of_entry b.reservoirs v (λ r. evaporation r.area (slice_index m.opening v) (slice_index r.rate (in_year b m.index))) 0
+  pub returned : (n : ℕ) → n < length b.nodes → slice_index m.returned n
+      ≡ returned_at b (map (λ k. k.delivered) before) n m.index
+  pub supply : (n : ℕ) → n < length b.nodes → slice_index m.supply n
+      ≡ inflow_at b series n m.index + slice_index m.returned n + stored_at b m.opening m.evaporated n
+  pub used : (r : ℕ) → r < length b.rights → slice_index m.used r
+      ≡ used_of b (map (λ k. k.delivered) before) r m.index
+  pub want : (r : ℕ) → r < length b.rights → slice_index m.want r
+      ≡ want_of b series r m.index (slice_index m.used r)
+  pub plan : IsPlan b m.month m.supply m.want m.plan
+  pub delivered : (r : ℕ) → r < length b.rights → slice_index m.delivered r ≡ delivery b m.want m.plan r
+  pub short : (r : ℕ) → r < length b.rights → IsShort m r →
+      (cut : List Bool) × (cut_of m r ≡ Some cut) × IsTight b m.month m.supply m.delivered r cut
+  pub met : (r : ℕ) → r < length b.rights → slice_index m.want r ≤ slice_index m.delivered r → cut_of m r ≡ None
+  pub closing : (v : ℕ) → v < length b.reservoirs → slice_index m.closing v
+      ≡ total_where (length b.rights) (λ r. is_zone_of b r v) (λ r. slice_index m.plan.take r)
+
+-- each record follows those before it
+pub record IsPartialHistory (b : Basin) (series : Inflows) (records : List MonthRecord) : Type 0 where
+  pub within : length records ≤ b.months
+  pub each : (i : ℕ) (m : MonthRecord) → slice_get records i ≡ Some m → Follows b series (take i records) m
+
+pub record IsHistory (b : Basin) (series : Inflows) (records : List MonthRecord) : Type 0 where
+  pub partial : IsPartialHistory b series records
+  pub whole : length records ≡ b.months
+
+-- a right that another right answers to: it is short and senior, and its set holds the other's node
+pub record Calls (b : Basin) (m : MonthRecord) (caller called : ℕ) : Type 0 where
+  pub in_range : caller < length b.rights
+  pub short : IsShort m caller
+  pub senior : IsTrue (is_senior b caller called)
+  pub wanted : 0 < slice_index m.want called
+  pub holds : IsSomeAnd (cut_of m caller) (λ cut. IsTrue (takes_within b cut called))
+
+-- the most senior right that calls, or none
+pub record IsCallingRight (b : Basin) (m : MonthRecord) (called : ℕ) (answer : Option ℕ) : Type 0 where
+  pub calls : IfSome answer (λ caller. Calls b m caller called)
+  pub first : IfSome answer (λ caller. (other : ℕ) → Calls b m other called → IsTrue (is_senior b other caller) → ⊥)
+  pub none : IfNone answer ((other : ℕ) → Calls b m other called → ⊥)

@@ -1,0 +1,50 @@
+-- Lists of numbers, and the order of rights.
+use Rattle.std.specs.Prelude.{ℕ, zero, suc, Bool, true, false, List, [], ◌∷◌, length, filter, ◌==◌, if◌then◌else◌, is_some}
+use Rattle.std.specs.List.{list_any}
+use Rattle.water_model.specs.Lookups.{of_entry}
+use Rattle.water_model.specs.Rights.{is_senior_in}
+use Rattle.water_model.specs.Basin.{is_outlet}
+use Rattle.water_model.specs.declared.types.Basin.{Basin}
+use Rattle.water_model.specs.declared.types.Right.{Right}
+
+-- from, from + 1, .., so many numbers
+unfoldable pub numbers_from : ℕ → ℕ → List ℕ
+numbers_from from zero = []
+numbers_from from (suc count) = from ∷ numbers_from (suc from) count
+
+-- the numbers of the entries of a list: 0, 1, .., below its length
+abbrev pub places_of : {X : Type 0} → List X → List ℕ
+places_of xs = numbers_from 0 (length xs)
+
+-- the places of a set of nodes, in order
+unfoldable pub members_from : ℕ → List Bool → List ℕ
+members_from from [] = []
+members_from from (true ∷ set) = from ∷ members_from (suc from) set
+members_from from (false ∷ set) = members_from (suc from) set
+
+-- a right put before the first one that it is senior to
+abbrev pub put_right : List Right → ℕ → List ℕ → List ℕ
+put_right rights right [] = right ∷ []
+put_right rights right (other ∷ others) =
+    if is_senior_in rights right other then right ∷ other ∷ others else other ∷ put_right rights right others
+
+abbrev pub sort_rights : List Right → List ℕ → List ℕ
+sort_rights rights [] = []
+sort_rights rights (right ∷ others) = put_right rights right (sort_rights rights others)
+
+-- every right once, seniors first
+unfoldable pub by_seniority : List Right → List ℕ
+by_seniority rights = sort_rights rights (places_of rights)
+
+abbrev pub seniors_first : Basin → List ℕ
+seniors_first b = by_seniority b.rights
+
+-- the nodes that some return row names, the outlets, and the rights with a volume
+abbrev pub return_nodes : Basin → List ℕ
+return_nodes b = filter (λ n. list_any (λ row. row.node == n) b.returns) (places_of b.nodes)
+
+abbrev pub outlets : Basin → List ℕ
+outlets b = filter (λ n. is_outlet b n) (places_of b.nodes)
+
+abbrev pub rights_with_volume : Basin → List ℕ
+rights_with_volume b = filter (λ r. of_entry b.rights r (λ right. is_some right.volume) false) (seniors_first b)

@@ -1,0 +1,118 @@
+//! For each right none or a set of nodes.
+ghost use Rattle.std.specs.Prelude.{◌≡◌, ◌<◌, ◌≤◌, None, Some, length, replicate, slice_set, false, true, IfOk, OnOk, OnErr, IfSome, IfNone, IsSome, IsNone, IsTrue, ◌↔◌, map};
+ghost use Rattle.water_model.specs.Lookups.{has};
+ghost use Rattle.water_model.specs.CutInside.{emptied};
+ghost use Rattle.water_model.specs.CutSets.{set_of, with_set, with_room, without_sets, has_room, CutSets};
+
+use std::alloc::{AllocError, Global};
+use std::marker::Model;
+
+/// The memory for one right's set, and whether it holds one.
+#[derive(Drop)]
+pub struct Slot {
+    held: bool,
+    has_room: bool,
+    members: Vec<bool>,
+}
+
+/// For each right none or a set of nodes: the cuts of a month, which show why rights are short.
+///
+/// Contracts see the sets, indexed by right, as lists of truth values, indexed by node.
+#[derive(Drop)]
+pub struct CutList {
+    slots: Vec<Slot>,
+    nodes: usize,
+}
+
+impl Model for CutList {
+    ghost use Rattle.std.specs.Prelude.{All};
+    ghost use Rattle.water_model.specs.CutSets.{CutSets};
+
+    ghost Value = { CutSets };
+
+    ghost use Rattle.water_model.specs.CutInside.{cut_sets, IsSizedSlot};
+
+    ghost view = { λ c. cut_sets c.nodes c.slots.items };
+
+    ghost invariant = { λ c. All (IsSizedSlot c.nodes) c.slots.items };
+}
+
+impl CutList {
+    /// Holds none for each of the rights, over so many nodes.
+    pub fn open(alloc: Global, rights: u32, nodes: u32) -> Result<CutList, AllocError>
+        ensures { IfOk result (λ c. c ≡ record { nodes = nodes; sets = replicate rights None; room = replicate rights false }) }
+    {
+        let mut slots = Vec::new(alloc);
+        for _right in 0..rights {
+            slots.push(Slot {
+                held: false,
+                has_room: false,
+                members: Vec::new(alloc),
+            })?;
+        }
+        Ok(CutList {
+            slots,
+            nodes: nodes as usize,
+        })
+    }
+
+    /// Whether a right's set holds a node, or none exactly where it has no set.
+    pub fn holds(&self, right: u32, node: u32) -> Option<bool>
+        requires right { right < length self.now.sets }
+        requires node { node < self.now.nodes }
+        ensures none { IsNone result ↔ (set_of self.now right ≡ None) }
+        ensures some { IfSome result (λ held. IfSome (set_of self.now right) (λ set. held ≡ has set node)) }
+    {
+        let slot = &self.slots[right as usize];
+        if slot.held {
+            Some(slot.members[node as usize])
+        } else {
+            None
+        }
+    }
+
+    /// Adds a node to a right's set. The other rights' sets stay.
+    pub fn add(&mut self, right: u32, node: u32)
+        requires right { right < length self.old.sets }
+        requires node { node < self.old.nodes }
+        requires held { IsSome (set_of self.old right) }
+        ensures { IfSome (set_of self.old right) (λ set. self.new ≡ with_set self.old right (Some (slice_set set node true))) }
+    {
+        let slot = &mut self.slots[right as usize];
+        slot.members[node as usize] = true;
+    }
+
+    /// Gives a right the empty set, and room from now on. Memory can run out only for a right that never had a set;
+    /// nothing is changed then.
+    pub fn begin(&mut self, right: u32) -> Result<(), AllocError>
+        requires right { right < length self.old.sets }
+        requires free { set_of self.old right ≡ None }
+        ensures ok { OnOk result (self.new ≡ with_room (with_set self.old right (Some (replicate self.old.nodes false))) right) }
+        ensures err { OnErr result (self.new ≡ self.old) }
+        ensures room { OnErr result (has_room self.old right ≡ false) }
+    {
+        let nodes = self.nodes;
+        let slot = &mut self.slots[right as usize];
+        slot.members.clear();
+        slot.members.resize(nodes, false)?;
+        slot.held = true;
+        slot.has_room = true;
+        Ok(())
+    }
+
+    /// Gives up all sets, and keeps their room.
+    pub fn clear(&mut self)
+        ensures { self.new ≡ without_sets self.old }
+    {
+        give_up(&mut self.slots);
+    }
+}
+
+/// Gives up each slot's set, and keeps its room.
+fn give_up(slots: &mut [Slot])
+    ensures { slots.new ≡ map emptied slots.old }
+{
+    for slot in slots.iter_mut() {
+        slot.held = false;
+    }
+}

@@ -1,0 +1,9 @@
+//! The types of a basin and of a month's record, and the definitions that every contract speaks of.
+#![tactic(auto)]
+
+pub mod calls;
+pub mod cut_list;
+pub mod item;
+pub mod laws;
+pub mod rows;
+pub mod types;
