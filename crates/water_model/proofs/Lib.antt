@@ -9,4 +9,5 @@ pub mod Balance
 pub mod Outcome
 pub mod Returns
 pub mod Examples
+pub mod RiverRows
 pub mod Stays
