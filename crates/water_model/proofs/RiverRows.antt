@@ -1,6 +1,6 @@
 -- The run of the river and its text on worked basins, by a plain slow program.
 use Rattle.std.proofs.Common.{◌≡◌, ℕ, zero, suc, ◌+◌, Bool, true, false, not, refl, List, [], ◌∷◌, length, map, replicate}
-use Rattle.std.specs.Prelude.{◌==◌, ◌&&◌, codes, slice_index, if◌then◌else◌, Option, Some, None}
+use Rattle.std.specs.Prelude.{◌==◌, ◌&&◌, codes, if◌then◌else◌}
 use Rattle.std.specs.List.{list_any, range_with_len}
 use Rattle.std.specs.Fmt.{digits}
 use Rattle.place_sums.specs.Sums.{total, total_where}

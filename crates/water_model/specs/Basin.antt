@@ -1,5 +1,5 @@
 -- What the entries of a basin say of one another.
-use Rattle.std.specs.Prelude.{ℕ, Bool, true, false, List, [], Option, Some, None, ◌==◌}
+use Rattle.std.specs.Prelude.{ℕ, Bool, false, List, [], Option, Some, None, ◌==◌}
 use Rattle.water_model.specs.Lookups.{of_entry}
 use Rattle.water_model.specs.Network.{tail_in, head_in, is_river_in, is_outlet_in}
 use Rattle.water_model.specs.Rights.{priority_in, is_senior_in, AreStrict}

@@ -1,5 +1,5 @@
 -- What a list of cuts holds.
-use Rattle.std.specs.Prelude.{◌≡◌, ℕ, Bool, true, List, length, Option, Some, None, slice_set, map}
+use Rattle.std.specs.Prelude.{ℕ, Bool, true, List, Option, None, slice_set, map}
 use Rattle.water_model.specs.Lookups.{of_entry, has}
 
 -- for each right none or a set of the nodes, one truth value for each node; and for which rights memory for a set is there

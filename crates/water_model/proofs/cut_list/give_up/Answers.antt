@@ -1,4 +1,4 @@
-use Rattle.std.proofs.Common.{arith, refl, ap, add-one, ◌∙◌, sym, ◌<◌, length}
+use Rattle.std.proofs.Common.{arith, add-one, ◌<◌, length}
 use Rattle.water_model.specs.CutInside.{emptied}
 use Rattle.water_model.proofs.CutLemmas.{one_more, one_less}
 use Rattle.water_model.proofs.cut_list.give_up.Goals as goal

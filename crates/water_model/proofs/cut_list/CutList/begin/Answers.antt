@@ -1,5 +1,5 @@
 use Rattle.std.proofs.lemmas.Result.{err_from_is_err_and}
-use Rattle.std.proofs.Common.{◌≡◌, ◌∙◌, ℕ, List, Bool, false, refl, arith, ap, length, take, replicate, ◌++◌, ◌-◌, []}
+use Rattle.std.proofs.Common.{◌≡◌, ◌∙◌, ℕ, false, refl, arith, ap, length, take, replicate, ◌++◌, ◌-◌, []}
 use Rattle.std.proofs.lemmas.List.{length-map}
 use Rattle.std.proofs.lemmas.Grind.{common_steps}
 use Rattle.std.specs.Prelude.{slice_get, Some}
