@@ -5,7 +5,7 @@ ghost use Rattle.water_model.specs.Plans.{carry_of, carry_of_kind};
 ghost use Rattle.water_model.specs.Valid.{IsValidBasin, IsValidCarry};
 
 use crate::types::{Basin, Carry};
-use water_text::Month;
+use water_text::month::Month;
 
 /// What a link of this kind carries in a month.
 fn carry_in_month(carry: &Carry, month: Month) -> u64

@@ -1,8 +1,8 @@
-//! The lines of a result text.
-use water_text::Month;
+//! The lines of a result text, as what they say.
+use water_text::month::Month;
 
-/// What one line says, by the basin's numbers.
-#[derive(Clone, Copy)]
+/// What one line of a result text says, by the basin's numbers. Amounts are in units of 1,000 cubic metres.
+#[derive(Clone, Copy, Debug, PartialEq, Eq)]
 pub enum Item {
     Title,
     Run { first: Month, months: u32 },

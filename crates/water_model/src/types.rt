@@ -1,8 +1,15 @@
 //! A basin, its inflows, a plan and a month's record.
+//!
+//! Water is counted in units of 1,000 cubic metres, areas in hectares, evaporation in millimetres a month. Nodes, links,
+//! reservoirs and rights are numbered from 0 in the order of the file, the months of a run from 0. Lists of twelve run
+//! from January to December.
 use crate::cut_list::CutList;
 use crate::rows::Rows;
-use water_text::{Day, Month, Name};
+use water_text::day::Day;
+use water_text::month::Month;
+use water_text::name::Name;
 
+/// A place of the basin where water comes together. Water that reaches an outlet leaves the basin.
 #[derive(Drop)]
 pub struct Node {
     pub name: Name,
@@ -10,12 +17,14 @@ pub struct Node {
     pub inflow: Inflow,
 }
 
+/// What flows in at a node from outside: an amount for each calendar month, or a gauge's record in the series.
 #[derive(Drop)]
 pub enum Inflow {
     Monthly([u64; 12]),
     Gauged,
 }
 
+/// A river or canal from one node to another.
 #[derive(Drop)]
 pub struct Link {
     pub name: Name,
@@ -24,18 +33,23 @@ pub struct Link {
     pub carry: Carry,
 }
 
+/// What a link can carry: a river any amount, a canal so much a day, and nothing in the calendar months in which it is
+/// shut.
 #[derive(Drop)]
 pub enum Carry {
     River,
     Canal { per_day: u64, shut: [bool; 12] },
 }
 
-#[derive(Clone, Copy)]
+/// The area of a reservoir's surface, in hectares, at a storage.
+#[derive(Clone, Copy, Debug, PartialEq, Eq)]
 pub struct AreaPoint {
     pub storage: u64,
     pub area: u64,
 }
 
+/// A reservoir at a node: what it holds when the run begins, its areas by rising storage, and for each calendar month
+/// how many millimetres evaporate from it.
 #[derive(Drop)]
 pub struct Reservoir {
     pub node: u32,
@@ -44,13 +58,18 @@ pub struct Reservoir {
     pub rate: [u64; 12],
 }
 
-#[derive(Clone, Copy)]
+/// What a right is to: water taken at a node, water left in a link, or water kept in a reservoir up to a level.
+#[derive(Clone, Copy, Debug, PartialEq, Eq)]
 pub enum RightKind {
     Diversion { node: u32 },
     Instream { link: u32 },
     Zone { reservoir: u32, level: u8 },
 }
 
+/// A water right. Of two rights the one with the earlier date is senior, and of one date the one with the lower order.
+///
+/// `want` has the amount for each calendar month. A volume bounds what a diversion takes in a water year, and `series`
+/// says that the wants stand in the series; no basin of format 1 has either.
 #[derive(Drop)]
 pub struct Right {
     pub name: Name,
@@ -62,7 +81,8 @@ pub struct Right {
     pub series: bool,
 }
 
-#[derive(Clone, Copy)]
+/// A part of what a diversion takes, in parts of 10,000, which comes back to a node after a lag in months.
+#[derive(Clone, Copy, Debug, PartialEq, Eq)]
 pub struct ReturnRow {
     pub right: u32,
     pub node: u32,
@@ -70,6 +90,8 @@ pub struct ReturnRow {
     pub lag: u32,
 }
 
+/// A river basin and the months of a run. The rights are all diversions, then all instream rights, then all zones.
+/// A water year begins with the calendar month `year_start`.
 #[derive(Drop)]
 pub struct Basin {
     pub format: u32,
@@ -83,6 +105,8 @@ pub struct Basin {
     pub returns: Rows<ReturnRow>,
 }
 
+/// The series of a run: month by month the amounts of the gauged nodes, listed in `gauged`, and the wants of the rights
+/// in `wanted`. The amount of gauge `g` in month `i` stands at `i * gauged.len() + g`, and a want likewise.
 #[derive(Drop)]
 pub struct Inflows {
     pub gauged: Rows<u32>,
@@ -91,6 +115,8 @@ pub struct Inflows {
     pub want: Rows<u64>,
 }
 
+/// What a month does with its water: the flow on each link, what each right takes (0 for an instream right), and what
+/// leaves the basin at each node (0 where there is no outlet).
 #[derive(Drop)]
 pub struct Plan {
     pub flow: Rows<u64>,
@@ -98,6 +124,8 @@ pub struct Plan {
     pub out: Rows<u64>,
 }
 
+/// All that is known of a month of a run. `opening`, `evaporated` and `closing` are indexed by reservoir, `returned` and
+/// `supply` by node, `used`, `want`, `delivered` and the sets of `cuts` by right.
 #[derive(Drop)]
 pub struct MonthRecord {
     pub index: u32,

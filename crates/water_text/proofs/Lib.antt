@@ -1,0 +1,6 @@
+pub mod AmountLaws
+pub mod DayNumbers
+pub mod DecimalDigits
+pub mod MonthLaws
+pub mod ShapeLaws
+pub mod Values

@@ -1,3 +1,5 @@
-pub mod Names
-pub mod Months
+pub mod Amounts
 pub mod Days
+pub mod Months
+pub mod Names
+pub mod Shapes

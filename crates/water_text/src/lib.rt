@@ -1,10 +1,10 @@
-//! Names, months and days.
+//! The lowest layer of text: names, months, days, amounts and lines. No call takes memory.
 #![tactic(auto)]
 
-mod day;
-mod month;
-mod name;
-
-pub use day::Day;
-pub use month::Month;
-pub use name::{Name, is_name};
+pub mod amount;
+pub mod day;
+mod digits;
+pub mod line;
+pub mod month;
+pub mod name;
+mod shape;

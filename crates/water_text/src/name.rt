@@ -1,11 +1,11 @@
-//! Names, months and days.
-ghost use Rattle.std.specs.Prelude.{◌≡◌, ◌≤◌, ◌<◌, ℕ, Some, None, option_map, length, IsTrue, ◌↔◌, codes, if◌then◌else◌, slice_index};
+//! Names of nodes, links, reservoirs and rights.
+ghost use Rattle.std.specs.Prelude.{◌≡◌, ◌≤◌, Some, None, length, codes, if◌then◌else◌};
 ghost use Rattle.std.specs.List.{list_all};
 ghost use Rattle.water_text.specs.Names.{is_name, is_name_byte};
 
 use std::marker::Model;
 
-/// A name of at most 32 bytes, which it holds in itself.
+/// At most 32 bytes, held in the value itself. Contracts see them as a list.
 #[derive(Drop)]
 pub struct Name {
     bytes: [u8; 32],
@@ -22,23 +22,20 @@ impl Model for Name {
     ghost invariant = { λ n. n.len ≤ 32 };
 }
 
-fn is_name_byte(c: u8) -> bool
-    ensures { result ≡ is_name_byte c }
+fn is_name_byte(byte: u8) -> bool
+    ensures { result ≡ is_name_byte byte }
 {
-    (b'a' <= c && c <= b'z')
-        || (b'A' <= c && c <= b'Z')
-        || (b'0' <= c && c <= b'9')
-        || c == b'_'
-        || c == b'-'
+    byte.is_ascii_alphanumeric() || byte == b'_' || byte == b'-'
 }
 
 fn are_name_bytes(bytes: &[u8]) -> bool
     ensures { result ≡ list_all is_name_byte bytes.now }
 {
-    bytes.iter().all(|c| is_name_byte(*c))
+    bytes.iter().all(|byte| is_name_byte(*byte))
 }
 
-/// Whether the bytes are a name.
+/// Whether the bytes are a name: 1 to 32 of letters, digits, `_` and `-`.
+#[tactic(auto, unfolding(crate::specs::Names::is_name))]
 pub fn is_name(bytes: &[u8]) -> bool
     ensures { result ≡ is_name bytes.now }
 {
@@ -46,7 +43,7 @@ pub fn is_name(bytes: &[u8]) -> bool
 }
 
 impl Name {
-    fn copied(text: &[u8]) -> Name
+    fn copy_of(text: &[u8]) -> Name
         requires { length text.now ≤ 32 }
         ensures { result ≡ text.now }
     {
@@ -58,24 +55,23 @@ impl Name {
         }
     }
 
-    /// The name with these bytes.
+    /// The name that the text is, or `None` where the text is no name.
+    #[tactic(auto, unfolding(crate::specs::Names::is_name))]
     pub fn read(text: &[u8]) -> Option<Name>
         ensures { result ≡ (if is_name text.now then Some text.now else None) }
     {
         if is_name(text) {
-            Some(Name::copied(text))
+            Some(Name::copy_of(text))
         } else {
             None
         }
     }
 
-    /// The name `-`.
+    /// The name `-`, which stands in where a text is no name.
     pub fn dash() -> Name
         ensures { result ≡ codes "-" }
     {
-        let mut bytes = [0; 32];
-        bytes[0] = b'-';
-        Name { bytes, len: 1 }
+        Name::copy_of(b"-")
     }
 
     /// The bytes of the name.
@@ -85,4 +81,3 @@ impl Name {
         &self.bytes[..self.len as usize]
     }
 }
-
