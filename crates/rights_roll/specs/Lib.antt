@@ -1,0 +1,3 @@
+pub mod RollSeen
+pub mod Rolls
+pub mod RollFaults

@@ -1,0 +1,25 @@
+-- The roll of a list of rights.
+use Rattle.std.specs.Prelude.{◌≡◌, ◌≢◌, ℕ, ◌+◌, ◌<◌, ◌≤◌, List, length, map, Option, Some, None, slice_get}
+use Rattle.water_model.specs.Lookups.{of_entry}
+use Rattle.water_model.specs.Basin.{link_of_kind}
+use Rattle.water_model.specs.Places.{by_seniority}
+use Rattle.water_model.specs.declared.types.Right.{Right}
+use Rattle.rights_roll.specs.RollSeen.{RollSeen}
+
+-- the link of an instream right
+abbrev pub link_in : List Right → ℕ → Option ℕ
+link_in rights right = of_entry rights right (λ r. link_of_kind r.kind) None
+
+-- the answer is the first right from a place on that is on the link, or none where there is none
+abbrev pub IsNextOn : List Right → ℕ → ℕ → Option ℕ → Type 0
+IsNextOn rights link start None = (s : ℕ) → start ≤ s → s < length rights → link_in rights s ≢ Some link
+IsNextOn rights link start (Some right) =
+    (start ≤ right) × (right < length rights) × (link_in rights right ≡ Some link)
+    × ((s : ℕ) → start ≤ s → s < right → link_in rights s ≢ Some link)
+
+pub record IsRollOf (rights : List Right) (roll : RollSeen) : Type 0 where
+  pub order : roll.order ≡ by_seniority rights
+  pub wants : roll.wants ≡ map (λ r. r.want) rights
+  pub firsts : (link : ℕ) → IsNextOn rights link 0 (of_entry roll.first_on link (λ first. first) None)
+  pub nexts : (right link : ℕ) → right < length rights → link_in rights right ≡ Some link →
+      IsNextOn rights link (right + 1) (of_entry roll.next_on right (λ next. next) None)
