@@ -9,8 +9,8 @@ use Rattle.water_model.specs.Lookups.{has}
 use Rattle.water_model.specs.Basin.{is_senior, instream_link}
 use Rattle.water_model.specs.Plans.{IsPlan, IsGreatest, DeliversSame, DeliversMore, delivery, delivery_by_link}
 use Rattle.water_model.specs.Cuts.{IsTight, cut_kept, cut_capacity, takes_within}
-use Rattle.water_model.specs.History.{Follows}
-use Rattle.water_model.specs.Laws.{CutBounds, CutsMakeGreatest, TightCutLeavesNothing, GreatestPlansDeliverSame, ReachIsUnique, AreDeliveries, TightMeansBound, MostJuniorInjuresNobody}
+use Rattle.water_model.specs.History.{Follows, cut_of}
+use Rattle.water_model.specs.Laws.{CutBounds, CutsMakeGreatest, NobodyCouldGetMore, ServesSeniors, TightCutLeavesNothing, GreatestPlansDeliverSame, ReachIsUnique, AreDeliveries, TightMeansBound, MostJuniorInjuresNobody}
 use Rattle.water_text.specs.declared.month.Month.{Month}
 use Rattle.water_model.specs.declared.types.Basin.{Basin}
 use Rattle.water_model.specs.declared.types.Inflows.{Inflows}
@@ -146,7 +146,7 @@ record_is_greatest b series before m follows =
 
 pub cuts_make_greatest : CutsMakeGreatest
 cuts_make_greatest b series records history i m at =
-    record_is_greatest b series (take i records) m (history.partial.each i m at)
+    record_is_greatest b series (take i records) m (history.each i m at)
 
 -- two greatest plans of a month deliver the same
 pub greatest_same : GreatestPlansDeliverSame
@@ -216,3 +216,19 @@ most_junior_injures_nobody b month supply want delivered p q junior plan are cut
       | inr other ↦ absurd (let le = no_more b month supply want delivered p q more.right more.in_range gq.plan are
           (cuts more.right more.in_range other) (λ s k h. sym (more.same_to_seniors s k h)) in let lt = more.more in omega arith)
     ]
+
+-- what a record delivers to a right is the most that any plan can that serves the right's seniors as well
+pub record_gives_most : (b : Basin) (series : Inflows) (before : List MonthRecord) (m : MonthRecord) → Follows b series before m →
+    (q : Plan) → IsPlan b m.month m.supply m.want q → (r : ℕ) → r < length b.rights → ServesSeniors b m.delivered m.want q r →
+    delivery b m.want q r ≤ slice_index m.delivered r
+record_gives_most b series before m follows q plan r l serves = elim (cases_lt (slice_index m.delivered r) (slice_index m.want r)) [
+  | inl short ↦ by_cut (follows.short r l short)
+  | inr met ↦ omega (arith, delivery_le_want b m.month m.supply m.want q r l plan)
+]
+  where
+    by_cut : (cut : List Bool) × (cut_of m r ≡ Some cut) × IsTight b m.month m.supply m.delivered r cut → delivery b m.want q r ≤ slice_index m.delivered r
+    by_cut cut =
+        omega (arith, cut.2.tight, cut_slack b m.month m.supply m.delivered r cut.0 m.supply m.want q l cut.2.is_cut plan (λ n k h. refl) serves.each)
+
+pub nobody_could_get_more : NobodyCouldGetMore
+nobody_could_get_more b series records history i m at = record_gives_most b series (take i records) m (history.each i m at)

@@ -6,6 +6,8 @@ pub mod Order
 pub mod Greatest
 pub mod CutLemmas
 pub mod Balance
+pub mod Gauges
+pub mod Histories
 pub mod Outcome
 pub mod Returns
 pub mod Examples

@@ -89,6 +89,12 @@ abbrev pub target_of : Basin → Inflows → ℕ → ℕ → ℕ
 target_of b series right i =
     cap_by_link b (run_month b i) (instream_link b right) (of_entry b.rights right (λ r. number_of b series right i r) 0)
 
+-- the want of a right in a month of a basin without volumes or series: its number for the calendar month, and on a
+-- canal at most what the canal carries
+abbrev pub want_in_month : Basin → Month → ℕ → ℕ
+want_in_month b month right =
+    cap_by_link b month (instream_link b right) (of_entry b.rights right (λ r. slice_index r.want (month.month - 1)) 0)
+
 -- the water year of a month, counted from year 0
 abbrev pub water_year : Basin → ℕ → ℕ
 water_year b i = let m = run_month b i in if nat_lt m.month b.year_start then m.year else m.year + 1

@@ -4,7 +4,7 @@ use Rattle.water_model.specs.Lookups.{has}
 use Rattle.water_model.specs.Basin.{is_senior, HasStrictPriority}
 use Rattle.water_model.specs.Plans.{IsPlan, IsGreatest, DeliversSame, delivery}
 use Rattle.water_model.specs.Cuts.{IsCut, IsTight, IsReach, cut_bound, takes_within}
-use Rattle.water_model.specs.History.{IsHistory, IsPartialHistory}
+use Rattle.water_model.specs.History.{IsPartialHistory}
 use Rattle.water_model.specs.Valid.{IsValidBasin}
 use Rattle.water_text.specs.declared.month.Month.{Month}
 use Rattle.water_model.specs.declared.types.Basin.{Basin}
@@ -34,11 +34,20 @@ CutBounds =
     AgreesOn cut supply other_supply → ServesSeniors b delivered other_want q right →
     pos (delivery b other_want q right) ≤ℤ cut_bound b month supply delivered right cut
 
--- Cuts make it greatest. In a history each month's plan is greatest.
+-- Cuts make it greatest. In a partial history, and so in a history, each month's plan is greatest.
 abbrev pub CutsMakeGreatest : Type 0
 CutsMakeGreatest =
-    (b : Basin) (series : Inflows) (records : List MonthRecord) → IsHistory b series records →
+    (b : Basin) (series : Inflows) (records : List MonthRecord) → IsPartialHistory b series records →
     (i : ℕ) (m : MonthRecord) → slice_get records i ≡ Some m → IsGreatest b m.month m.supply m.want m.plan
+
+-- Nobody could get more. In any plan of a month that delivers at least as much to each right senior to a right, the right
+-- gets no more than it got: no water of a junior could lessen a senior's shortage.
+abbrev pub NobodyCouldGetMore : Type 0
+NobodyCouldGetMore =
+    (b : Basin) (series : Inflows) (records : List MonthRecord) → IsPartialHistory b series records →
+    (i : ℕ) (m : MonthRecord) → slice_get records i ≡ Some m → (q : Plan) → IsPlan b m.month m.supply m.want q →
+    (right : ℕ) → right < length b.rights → ServesSeniors b m.delivered m.want q right →
+    delivery b m.want q right ≤ slice_index m.delivered right
 
 -- in a set, no diversion or zone that is junior to a right takes, and no outlet has outflow
 pub record LeavesNothing (b : Basin) (p : Plan) (right : ℕ) (cut : List Bool) : Type 0 where

@@ -2,9 +2,10 @@
 ghost use Rattle.std.specs.Prelude.{◌≡◌, ◌<◌, ◌≤◌, length};
 ghost use Rattle.water_text.specs.Months.{IsMonth};
 ghost use Rattle.water_model.specs.Plans.{carry_of, carry_of_kind};
-ghost use Rattle.water_model.specs.Valid.{IsValidBasin, IsValidCarry};
+ghost use Rattle.water_model.specs.Hydrology.{inflow_at, in_year, place_in, want_in_month};
+ghost use Rattle.water_model.specs.Valid.{IsValidBasin, IsValidCarry, IsSeriesOf};
 
-use crate::types::{Basin, Carry};
+use crate::types::{Basin, Carry, Inflow, Inflows, RightKind};
 use water_text::month::Month;
 
 /// What a link of this kind carries in a month.
@@ -34,4 +35,60 @@ pub fn carry_of(basin: &Basin, link: u32, month: Month) -> u64
     ensures { result ≡ carry_of basin.now month link }
 {
     carry_in_month(&basin.links[link as usize].carry, month)
+}
+
+/// The want of a right in a month, in units of 1,000 cubic metres: its number for the calendar month, and of an instream
+/// right on a canal at most what the canal carries, because the canal can't hold more.
+pub fn want_of(basin: &Basin, right: u32, month: Month) -> u64
+    requires basin { IsValidBasin basin.now }
+    requires month { IsMonth month }
+    requires right { right < length basin.now.rights }
+    ensures { result ≡ want_in_month basin.now month right }
+{
+    let entry = &basin.rights[right as usize];
+    let number = entry.want[month.month as usize - 1];
+    match entry.kind {
+        RightKind::Instream { link } => number.min(carry_of(basin, link, month)),
+        RightKind::Diversion { .. } => number,
+        RightKind::Zone { .. } => number,
+    }
+}
+
+/// The place in a list of twelve of the month with this index.
+fn place_in_year(basin: &Basin, index: u32) -> usize
+    requires basin { IsValidBasin basin.now }
+    ensures place { result ≡ in_year basin.now index }
+    ensures twelve { result < 12 }
+{
+    ((u64::from(basin.first.month) - 1 + u64::from(index)) % 12) as usize
+}
+
+/// The place of a node in a list of nodes, or the list's length where it isn't there.
+fn place_of(nodes: &[u32], node: u32) -> usize
+    ensures { result ≡ place_in nodes.now node }
+{
+    for (place, other) in nodes.iter().enumerate() {
+        if *other == node {
+            return place;
+        }
+    }
+    nodes.len()
+}
+
+/// The inflow of a node in the month with this index, in units of 1,000 cubic metres: the series' amount of a gauged
+/// node, and else the node's amount for the calendar month.
+pub fn inflow_of(basin: &Basin, inflows: &Inflows, node: u32, index: u32) -> u64
+    requires basin { IsValidBasin basin.now }
+    requires series { IsSeriesOf basin.now inflows.now }
+    requires node { node < length basin.now.nodes }
+    requires index { index < basin.now.months }
+    ensures { result ≡ inflow_at basin.now inflows.now node index }
+{
+    match &basin.nodes[node as usize].inflow {
+        Inflow::Monthly(amounts) => amounts[place_in_year(basin, index)],
+        Inflow::Gauged => {
+            let gauge = place_of(inflows.gauged.as_slice(), node);
+            inflows.amount[index as usize * inflows.gauged.len() + gauge]
+        }
+    }
 }

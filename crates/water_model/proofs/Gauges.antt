@@ -1,0 +1,103 @@
+-- Where a gauge's amounts stand in a series.
+use Rattle.std.proofs.Common.{◌≡◌, ℕ, suc, ◌+◌, ◌*◌, ◌^◌, ◌<◌, ◌≤◌, Bool, true, false, refl, sym, ap, ◌∙◌, arith, List, [], ◌∷◌, length, get_or, inl, inr, filter}
+use Rattle.std.specs.Prelude.{◌==◌, if◌then◌else◌, slice_get, Some, unwrap_or, option_map}
+use Rattle.std.proofs.lemmas.Bool.Decides.{nat_tests}
+use Rattle.std.proofs.lemmas.List.Sums.{position_or_len_is}
+use Rattle.std.proofs.lemmas.Option.{get_or_from_slice_get}
+use Rattle.std.proofs.Math.Nat.{mul-le-mul_right}
+use Rattle.water_model.specs.Hydrology.{place_in, inflow_at, inflow_of_kind}
+use Rattle.water_model.specs.Places.{places_of}
+use Rattle.water_model.specs.Valid.{IsValidBasin, IsSeriesOf, is_gauged, is_gauged_kind}
+use Rattle.water_model.specs.declared.types.Basin.{Basin}
+use Rattle.water_model.specs.declared.types.Inflow.TheVariants.{Gauged}
+use Rattle.water_model.specs.declared.types.Inflows.{Inflows}
+use Rattle.water_model.specs.declared.types.Node.{Node}
+use Rattle.water_model.proofs.Order.{Has, numbers_from-has, length-numbers_from}
+
+-- the place of a number that stands at i and nowhere before, or that stands nowhere where i is the length
+pub place_is : (xs : List ℕ) (x i : ℕ) → i ≤ length xs → ((k : ℕ) → k < i → get_or xs k 0 ≡ x → ⊥) →
+    (i < length xs → get_or xs i 0 ≡ x) → i ≡ place_in xs x
+place_is xs x i within before here =
+    sym (position_or_len_is (λ y. y == x) xs i 0 within (λ k l. differs (get_or xs k 0) x (before k l)) (λ l. same (get_or xs i 0) x (here l)))
+  where
+    differs : (a c : ℕ) → (a ≡ c → ⊥) → a == c ≡ false
+    differs a c h = grind (arith, nat_tests)
+
+    same : (a c : ℕ) → a ≡ c → a == c ≡ true
+    same a c h = grind (arith, nat_tests)
+
+filter-has : (p : ℕ → Bool) (xs : List ℕ) (x : ℕ) → Has xs x → p x ≡ true → Has (filter p xs) x
+filter-has p [] x h e = h
+filter-has p (y ∷ ys) x h e = by_test (p y) refl (filter-has p ys x)
+  where
+    by_test : (t : Bool) → p y ≡ t → (Has ys x → p x ≡ true → Has (filter p ys) x) → Has (if t then y ∷ filter p ys else filter p ys) x
+    by_test true f further = elim h [ inl is ↦ inl is | inr rest ↦ inr (further rest e) ]
+    by_test false f further = elim h [
+      | inl is ↦ let clash : false ≡ true = sym f ∙ (ap p (sym is) ∙ e) in cc
+      | inr rest ↦ further rest e
+    ]
+
+has_place : (xs : List ℕ) (x : ℕ) → Has xs x → place_in xs x < length xs
+has_place [] x h = absurd h
+has_place (y ∷ ys) x h = by_test (y == x) refl (has_place ys x)
+  where
+    is_same : (a c : ℕ) → c ≡ a → a == c ≡ true
+    is_same a c h = grind (arith, nat_tests)
+
+    by_test : (t : Bool) → y == x ≡ t → (Has ys x → place_in ys x < length ys) → place_in (y ∷ ys) x < length (y ∷ ys)
+    by_test true e further = rw e (omega arith)
+    by_test false e further = elim h [
+      | inl is ↦ let clash : false ≡ true = sym e ∙ is_same y x is in cc
+      | inr rest ↦ rw e (let k = further rest in omega arith)
+    ]
+
+-- a gauged node stands in the series
+pub gauge_within : (b : Basin) (series : Inflows) (node : ℕ) → IsSeriesOf b series → node < length b.nodes → is_gauged b node ≡ true →
+    place_in series.gauged node < length series.gauged
+gauge_within b series node fits l gauged =
+    has_place series.gauged node (rw fits.gauged (filter-has (λ n. is_gauged b n) (places_of b.nodes) node
+    (numbers_from-has 0 (length b.nodes) node node l (omega arith)) gauged))
+
+-- a column of a row of a table stands within the table
+pub cell_within : (i m l p : ℕ) → i < m → p < l → i * l + p < m * l
+cell_within i m l p h k = let below : (i + 1) * l ≤ m * l = mul-le-mul_right l (omega arith) in omega arith
+
+filter_short : (p : ℕ → Bool) (xs : List ℕ) → length (filter p xs) ≤ length xs
+filter_short p [] = omega arith
+filter_short p (x ∷ xs) = by_test (p x) (filter_short p xs)
+  where
+    by_test : (t : Bool) → length (filter p xs) ≤ length xs → length (if t then x ∷ filter p xs else filter p xs) ≤ suc (length xs)
+    by_test true h = omega arith
+    by_test false h = omega arith
+
+-- a node whose entry is gauged is gauged
+gauged_here : (b : Basin) (node : ℕ) (n : Node) → slice_get b.nodes node ≡ Some n → n.inflow ≡ Gauged → is_gauged b node ≡ true
+gauged_here b node n at e = ap (λ o. unwrap_or (option_map (λ m. is_gauged_kind m.inflow) o) false) at ∙ ap is_gauged_kind e
+
+-- where the amount of a gauged node in a month stands
+pub record HasCell (b : Basin) (series : Inflows) (node index : ℕ) : Type 0 where
+  pub within : index * length series.gauged + place_in series.gauged node < length series.amount
+  pub small : index * length series.gauged + place_in series.gauged node < 2 ^ 64
+
+pub has_cell : (b : Basin) (series : Inflows) (node index : ℕ) (n : Node) → IsValidBasin b → IsSeriesOf b series → node < length b.nodes →
+    index < b.months → slice_get b.nodes node ≡ Some n → n.inflow ≡ Gauged → HasCell b series node index
+has_cell b series node index n valid fits l k at e = record {
+  within = rw fits.amounts cell;
+  small = small_cell index b.months (length series.gauged) (place_in series.gauged node) cell valid.run.months.1 few;
+}
+  where
+    cell : index * length series.gauged + place_in series.gauged node < b.months * length series.gauged
+    cell = cell_within index b.months (length series.gauged) (place_in series.gauged node) k (gauge_within b series node fits l (gauged_here b node n at e))
+
+    few : length series.gauged ≤ 2000
+    few = rw fits.gauged (omega (arith, filter_short (λ m. is_gauged b m) (places_of b.nodes), length-numbers_from 0 (length b.nodes), valid.few.nodes))
+
+    small_cell : (i m l p : ℕ) → i * l + p < m * l → m ≤ 1200 → l ≤ 2000 → i * l + p < 2 ^ 64
+    small_cell i m l p h months few = let most : m * l ≤ 1200 * l = mul-le-mul_right l months in omega arith
+
+-- what stands there is the inflow
+pub cell_is_inflow : (b : Basin) (series : Inflows) (node index : ℕ) (n : Node) (x : ℕ) → slice_get b.nodes node ≡ Some n → n.inflow ≡ Gauged →
+    slice_get series.amount (index * length series.gauged + place_in series.gauged node) ≡ Some x → x ≡ inflow_at b series node index
+cell_is_inflow b series node index n x at e cell =
+    sym (get_or_from_slice_get series.amount (index * length series.gauged + place_in series.gauged node) x 0 cell)
+    ∙ sym (ap (λ o. unwrap_or (option_map (λ m. inflow_of_kind b series node index m.inflow) o) 0) at ∙ ap (inflow_of_kind b series node index) e)
