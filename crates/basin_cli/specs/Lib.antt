@@ -1,0 +1,5 @@
+pub mod Command
+pub mod Refusal
+pub mod Ending
+pub mod Outcome
+pub mod Code
