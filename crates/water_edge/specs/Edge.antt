@@ -1,0 +1,37 @@
+-- What a call of a shelf or a sink answers, and what it leaves behind.
+use Rattle.std.specs.Prelude.{◌≡◌, ℕ, ◌+◌, ◌-◌, ◌^◌, ◌<◌, ◌≤◌, min, List, length, take, ⊤, Option, None, Some, Result, Ok, Err, Vec}
+use Rattle.std.specs.declared.alloc.Global.{Global}
+use Rattle.std.specs.Io.KnownBytes.{Appends}
+use Rattle.water_edge.specs.declared.shelf.ShelfRefused.{ShelfRefused}
+use Rattle.water_edge.specs.declared.shelf.ShelfRefused.TheVariants.{Failed, TooLong, OutOfMemory}
+
+-- one more than a count of 64 bits, which stands still at its last value
+abbrev pub next_count : ℕ → ℕ
+next_count count = min (count + 1) (2 ^ 64 - 1)
+
+-- the count is greater than before, or stands at its last value
+abbrev pub Rose : ℕ → ℕ → Type 0
+Rose before now = next_count before ≤ now
+
+-- the count of faults never falls, and the fault is answered only where the count rose
+pub record HasCause (before now : ℕ) (fault : Type 0) : Type 0 where
+  pub later : before ≤ now
+  pub rose : fault → Rose before now
+
+-- the bytes that are told under each name stay, and each name that was served still is
+pub record SameShelf (told_old told_new : List ℕ → Option (List ℕ)) (serves_old serves_new : List ℕ → Type 0) : Type 0 where
+  pub told : (name : List ℕ) → told_new name ≡ told_old name
+  pub served : (name : List ℕ) → serves_old name → serves_new name
+
+-- where the file is told: all its bytes, which are within the limit, or else TooLong only where they are beyond it
+abbrev pub ReadsWhole : Option (List ℕ) → ℕ → Result (Vec ℕ Global) ShelfRefused → Type 0
+ReadsWhole None limit result = ⊤
+ReadsWhole (Some whole) limit (Ok bytes) = (bytes.items ≡ whole) × (length whole ≤ limit)
+ReadsWhole (Some whole) limit (Err TooLong) = limit < length whole
+ReadsWhole (Some whole) limit (Err Failed) = ⊤
+ReadsWhole (Some whole) limit (Err OutOfMemory) = ⊤
+
+-- the told bytes grow by the whole piece, or after a failure by a front of it
+abbrev pub Puts : {E : Type 0} → Option (List ℕ) → Option (List ℕ) → Result (Unit {0}) E → List ℕ → Type 0
+Puts old new (Ok _) piece = Appends old new piece
+Puts old new (Err _) piece = (count : ℕ) × (count ≤ length piece) × Appends old new (take count piece)

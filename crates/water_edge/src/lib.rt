@@ -1,0 +1,17 @@
+//! Where bytes come from and where they go: a shelf of named files, and a sink.
+//!
+//! Everything above reads by `Shelf` and writes by `Sink`, so that its contracts can say which bytes were read and
+//! written. In memory both are exact; over the system's files and streams no contract can tell the bytes.
+#![tactic(auto)]
+
+mod file;
+mod memory;
+mod shelf;
+mod sink;
+#[cfg(test)]
+mod tests;
+
+pub use file::{FileShelf, StdSink};
+pub use memory::{MemoryShelf, MemorySink};
+pub use shelf::{Shelf, ShelfRefused};
+pub use sink::{Sink, SinkFailed};

@@ -1,0 +1,47 @@
+//! A shelf serves files by name.
+ghost use Rattle.std.specs.Prelude.{◌≤◌, List, ℕ, Option, IfOk, IsErrOf, vec_len};
+ghost use Rattle.water_edge.specs.declared.shelf.ShelfRefused.TheVariants.{Failed};
+ghost use Rattle.water_edge.specs.Edge.{HasCause, SameShelf, ReadsWhole};
+
+use std::alloc::Global;
+
+/// Why a file could not be read.
+#[derive(Clone, Copy, Debug, PartialEq, Eq)]
+pub enum ShelfRefused {
+    /// There is no file of the name, or opening or reading it failed. The shelf has counted a fault.
+    Failed,
+    /// The file is longer than the limit of the call.
+    TooLong,
+    /// There was no memory for the file's bytes.
+    OutOfMemory,
+}
+
+/// Files by name. A name is UTF-8 text, and a file is its bytes.
+///
+/// A shelf that knows its files tells them, and each answer is then tied to the told bytes. One that doesn't, as a
+/// shelf over the system's files, tells none, and its answers say nothing of bytes.
+pub trait Shelf {
+    /// The bytes of the file under a name. None where the shelf doesn't tell them, and where it has no such file.
+    ghost told: { Self → List ℕ → Option (List ℕ) };
+
+    /// The names that may be asked for, which need not have a file.
+    ghost serves: { Self → List ℕ → Type 0 };
+
+    /// How many calls have failed. The count never falls, and stands still at 2^64 - 1.
+    ghost faults: { Self → ℕ };
+
+    /// All bytes of the file under a served name, if there are at most `limit` of them.
+    ///
+    /// - `Ok` has the whole file. Where bytes are told, they are the told ones.
+    /// - `TooLong`: the file has more than `limit` bytes.
+    /// - `Failed` comes only where this call counted a fault. A name without a file is a fault.
+    /// - `OutOfMemory` may come at any point.
+    ///
+    /// Each answer leaves the told bytes as they were, and serves the names that were served.
+    fn read_whole(&mut self, alloc: Global, name: &str, limit: u64) -> Result<Vec<u8>, ShelfRefused>
+        requires { serves self.old name.now }
+        ensures within { IfOk result (λ bytes. vec_len bytes ≤ limit) }
+        ensures bytes { ReadsWhole (told self.old name.now) limit result }
+        ensures same { SameShelf (told self.old) (told self.new) (serves self.old) (serves self.new) }
+        ensures cause { HasCause (faults self.old) (faults self.new) (IsErrOf result Failed) };
+}

@@ -1,0 +1,27 @@
+//! A sink takes bytes.
+ghost use Rattle.std.specs.Prelude.{List, ℕ, Option, IsErr};
+ghost use Rattle.water_edge.specs.Edge.{HasCause, Puts};
+
+/// A piece could not be written whole. The sink has counted a fault.
+#[derive(Clone, Copy, Debug, PartialEq, Eq)]
+pub struct SinkFailed;
+
+/// What takes bytes, piece after piece.
+///
+/// A sink that knows what it took tells it. One that doesn't, as a sink over a stream of the system, tells none, and
+/// its answers say nothing of bytes.
+pub trait Sink {
+    /// The bytes that it took so far, or None where the sink doesn't tell them.
+    ghost taken: { Self → Option (List ℕ) };
+
+    /// How many calls have failed. The count never falls, and stands still at 2^64 - 1.
+    ghost faults: { Self → ℕ };
+
+    /// Appends a piece to what was taken.
+    ///
+    /// `Ok`: the whole piece was appended. `SinkFailed` comes only where this call counted a fault: a front of the
+    /// piece was then appended, and maybe nothing. What was taken before stays in both cases.
+    fn put(&mut self, bytes: &[u8]) -> Result<(), SinkFailed>
+        ensures bytes { Puts (taken self.old) (taken self.new) result bytes.now }
+        ensures cause { HasCause (faults self.old) (faults self.new) (IsErr result) };
+}
