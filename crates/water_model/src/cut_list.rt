@@ -62,6 +62,7 @@ impl CutList {
         requires node { node < self.now.nodes }
         ensures none { IsNone result ↔ (set_of self.now right ≡ None) }
         ensures some { IfSome result (λ held. IfSome (set_of self.now right) (λ set. held ≡ has set node)) }
+        ensures sized { IfSome (set_of self.now right) (λ set. length set ≡ self.now.nodes) }
     {
         let slot = &self.slots[right as usize];
         if slot.held {
