@@ -1,6 +1,6 @@
 -- Plain amounts are read as they are spelled, and spelled as they are read.
-use Rattle.std.proofs.Common.{◌≡◌, ℕ, zero, suc, ◌+◌, ◌^◌, ◌<◌, ◌≤◌, Bool, true, false, refl, sym, ap, ◌∙◌, arith, List, length, get_or, inl, inr, subst}
-use Rattle.std.specs.Prelude.{Some, None, ◌&&◌, ◌==◌, nat_lt, nat_le, slice_index, Option, if◌then◌else◌}
+use Rattle.std.proofs.Common.{◌≡◌, ℕ, ◌^◌, ◌<◌, ◌≤◌, Bool, true, false, refl, sym, ap, ◌∙◌, arith, List, length, get_or, inl, inr}
+use Rattle.std.specs.Prelude.{Some, None, ◌&&◌, ◌==◌, nat_lt, nat_le, if◌then◌else◌}
 use Rattle.std.specs.Fmt.{decimal}
 use Rattle.std.specs.Str.{all_ascii_digits}
 use Rattle.std.specs.Str.Parse.{digits_value}
@@ -19,6 +19,7 @@ spelling_is_amount n h =
     tests : (k : ℕ) (d : Bool) → 0 < k → k ≤ 19 → d ≡ true → (nat_le 1 k && nat_le k 19) && d ≡ true
     tests k d some short e = grind (arith, nat_tests)
 
+-- and no zero in front
 no_leading_zero : (n : ℕ) → n < 10 ^ 19 → has_leading_zero (decimal n) ≡ false
 no_leading_zero n h = elim (cases_lt n 10) [
   | inl one ↦ ap has_leading_zero (decimal_digit n one)
@@ -48,6 +49,7 @@ pub record IsRead (text : List ℕ) (limit n : ℕ) : Type 0 where
   pub within : n ≤ limit
   pub fits : n < 10 ^ 19
 
+-- what the reader of amounts answers
 pub amount_is_read : (text : List ℕ) (limit n : ℕ) → read_amount text limit ≡ Some n → IsRead text limit n
 unfolding read_amount
 amount_is_read text limit n h =
@@ -80,6 +82,7 @@ pub record IsPlainlyRead (text : List ℕ) (limit n : ℕ) : Type 0 where
   pub spelled : text ≡ decimal n
   pub within : n ≤ limit
 
+-- what the reader of plain amounts answers
 pub plain_is_read : (text : List ℕ) (limit n : ℕ) → read_plain text limit ≡ Some n → IsPlainlyRead text limit n
 unfolding read_plain
 plain_is_read text limit n h = by_test (has_leading_zero text) refl h
@@ -95,3 +98,7 @@ plain_is_read text limit n h = by_test (has_leading_zero text) refl h
         let same : decimal (digits_value 10 text) ≡ text =
         decimal-digits_value numerals text r.digits r.some (leading (length text) (get_or text 0 0) r.some e) v in
         record { spelled = sym same ∙ ap decimal r.value; within = r.within }
+
+-- a number of 64 bits has at most 20 digits
+pub decimal_short : (n : ℕ) → n < 2 ^ 64 → length (decimal n) ≤ 20
+decimal_short n h = length-decimal-le 20 n (omega arith) (omega arith) h

@@ -10,6 +10,7 @@ use Rattle.water_text.specs.Months.{days_of, days_in}
 numbers_differ : (a b c d : ℕ) → a ≡ b + d → unsigned_abs ((pos a -ℤ pos c) -ℤ (pos b -ℤ pos c)) ≡ d
 numbers_differ a b c d e = omega (arith, ints)
 
+-- the next month of a year begins as many days later as the month has
 within_year : (y : ℤ) (m : ℕ) → day_count y (suc (suc m)) 1 ≡ day_count y (suc m) 1 + days_in_month y (suc m)
 unfolding day_count days_of_months
 within_year y m =
@@ -26,6 +27,7 @@ year_of_months y =
       | inr common ↦ rw common refl
     ]
 
+-- the next year begins as many days later as the year has
 next_count : (y : ℕ) → days_of_years (unsigned_abs (pos (y + 1) +ℤ pos 10000)) ≡ days_of_years (unsigned_abs (pos y +ℤ pos 10000)) + days_in_year (pos y)
 unfolding days_of_years
 next_count y =
@@ -34,6 +36,7 @@ next_count y =
     let back : pos (y + 10000) -ℤ pos 10000 ≡ pos y = omega (arith, ints) in
     ap days_of_years next ∙ ap (λ z. days_of_years (y + 10000) + days_in_year z) back ∙ ap (λ n. days_of_years n + days_in_year (pos y)) (sym this)
 
+-- January begins as many days after December as December has
 to_next_year : (y : ℕ) → day_count (pos (y + 1)) 1 1 ≡ day_count (pos y) 12 1 + days_in_month (pos y) 12
 unfolding day_count days_of_months
 to_next_year y = omega (arith, next_count y, year_of_months (pos y))
@@ -65,5 +68,6 @@ unfolding days_of
 days_in-days_in_month y m low high =
     between y m (y + (m - 1 + 1) / 12) ((m - 1 + 1) % 12 + 1) (days_in_month (pos y) m) (following y m low high)
 
+-- a month has at most 31 days
 pub days_in_month-le : (y : ℤ) (m : ℕ) → days_in_month y m ≤ 31
 days_in_month-le y m = grind (arith, nat_tests)

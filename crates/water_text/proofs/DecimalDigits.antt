@@ -14,6 +14,7 @@ one_digit ds at d some within =
     let below : at - 1 < length ds = omega arith in
     drop-set ds (at - 1) d below ∙ ap (λ k. d ∷ drop k ds) back
 
+-- what stands behind the rest is still the end of the spelling
 pub further_digit : (ds : List ℕ) (at rest value : ℕ) → length ds ≡ 20 → 0 < at → at ≤ 20 → 10 ≤ rest → rest < 2 ^ 64 →
     decimal rest ++ drop at ds ≡ decimal value →
     decimal (rest / 10) ++ drop (at - 1) (set ds (at - 1) (48 + rest % 10)) ≡ decimal value
@@ -22,6 +23,7 @@ further_digit ds at rest value len some within more fits h =
     ∙ (sym (append_assoc (decimal (rest / 10)) ((48 + rest % 10) ∷ []) (drop at ds))
     ∙ (ap (λ xs. xs ++ drop at ds) (sym (decimal_step rest more fits)) ∙ h))
 
+-- with the last digit of the rest the spelling is whole
 pub last_digit : (ds : List ℕ) (at rest value : ℕ) → length ds ≡ 20 → 0 < at → at ≤ 20 → rest < 10 →
     decimal rest ++ drop at ds ≡ decimal value →
     take (20 - (at - 1)) (drop (at - 1) (set ds (at - 1) (48 + rest))) ≡ decimal value
@@ -33,6 +35,7 @@ last_digit ds at rest value len some within less h =
     ∙ (one_digit ds at (48 + rest) some (omega arith)
     ∙ (ap (λ xs. xs ++ drop at ds) (sym (decimal_digit rest less)) ∙ h)))
 
+-- a rest of more than one digit leaves room for a further one
 pub less_by_ten : (rest at : ℕ) → 10 ≤ rest → rest < 10 ^ at → (1 < at) × (rest / 10 < 10 ^ (at - 1))
 less_by_ten rest zero more h = absurd (omega arith)
 less_by_ten rest (suc zero) more h = absurd (omega arith)

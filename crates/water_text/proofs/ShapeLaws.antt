@@ -7,7 +7,7 @@ use Rattle.std.proofs.lemmas.List.{drop_all}
 use Rattle.water_text.specs.Shapes.{has_shape, fits_at}
 
 -- both of two tests
-both : (a b : Bool) → a && b ≡ true → (a ≡ true) × (b ≡ true)
+pub both : (a b : Bool) → a && b ≡ true → (a ≡ true) × (b ≡ true)
 both true b h = (refl, h)
 both false b h = (cc, cc)
 
@@ -19,6 +19,7 @@ shape_length [] (t ∷ ts) h = cc
 shape_length (p ∷ ps) [] h = cc
 shape_length (p ∷ ps) (t ∷ ts) h = ap suc (shape_length ps ts (both (fits_at p t) (has_shape ps ts) h).1)
 
+-- a text of another length has another shape
 pub other_length : (ps ts : List ℕ) → length ps ≢ length ts → has_shape ps ts ≡ false
 other_length ps ts ne = by_test (has_shape ps ts) refl
   where
@@ -63,11 +64,13 @@ pub digits_at : (from n : ℕ) (ps qs ts : List ℕ) → has_shape ps ts ≡ tru
     all_ascii_digits (take n (drop from ts)) ≡ true
 digits_at from n ps qs ts h e = digits_front n qs (drop from ts) (ap (λ xs. has_shape xs (drop from ts)) (sym e) ∙ shape_rest ps ts from h)
 
+-- where a month has its digits
 pub record IsMonthText (text : List ℕ) : Type 0 where
   pub bytes : length text ≡ 7
   pub year : all_ascii_digits (slice_range text 0 4) ≡ true
   pub month : all_ascii_digits (slice_range text 5 7) ≡ true
 
+-- a text of the shape of a month has them
 pub month_text : (text : List ℕ) → has_shape (codes "dddd-dd") text ≡ true → IsMonthText text
 month_text text h = record {
   bytes = sym (shape_length (codes "dddd-dd") text h);
@@ -75,12 +78,14 @@ month_text text h = record {
   month = digits_at 5 2 (codes "dddd-dd") [] text h refl;
 }
 
+-- where a day has its digits
 pub record IsDayText (text : List ℕ) : Type 0 where
   pub bytes : length text ≡ 10
   pub year : all_ascii_digits (slice_range text 0 4) ≡ true
   pub month : all_ascii_digits (slice_range text 5 7) ≡ true
   pub day : all_ascii_digits (slice_range text 8 10) ≡ true
 
+-- a text of the shape of a day has them
 pub day_text : (text : List ℕ) → has_shape (codes "dddd-dd-dd") text ≡ true → IsDayText text
 day_text text h = record {
   bytes = sym (shape_length (codes "dddd-dd-dd") text h);

@@ -17,6 +17,7 @@ numerals = numerals_by_value (λ ds. all_ascii_digits ds ≡ true) tells_all_asc
 pub digit_within : (ds : List ℕ) (i : ℕ) → all_ascii_digits ds ≡ true → i < length ds → IsInRange 48 57 (get_or ds i 0)
 digit_within ds i h l = digit_at ds i (numerals.to ds h) l
 
+-- the value of a digit
 digit_is : (c : ℕ) → IsInRange 48 57 c → digit_value c ≡ c - 48
 digit_is c h = grind (arith, nat_tests)
 
@@ -27,6 +28,7 @@ value_more ds i h l =
     let at : digit_value (get_or ds i 0) ≡ get_or ds i 0 - 48 = digit_is (get_or ds i 0) (digit_within ds i h l) in
     omega (arith, digits_value_more 10 ds i l)
 
+-- k digits write a number below 10 ^ k
 pub value_within : (ds : List ℕ) (k : ℕ) → all_ascii_digits ds ≡ true → length ds ≤ k → digits_value 10 ds < 10 ^ k
 value_within ds k h l = digits_value_short numerals ds k h l
 

@@ -8,3 +8,5 @@ pub mod line;
 pub mod month;
 pub mod name;
 mod shape;
+#[cfg(test)]
+mod tests;
