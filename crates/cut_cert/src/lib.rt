@@ -1,0 +1,264 @@
+//! The bound that a set of nodes puts on a right, and whether it shows why the right got no more.
+//!
+//! It needs no flow and no search: supplies, carries and what senior rights keep are all. (The max-flow min-cut theorem
+//! with lower bounds, for one right at a time: Ahuja, Magnanti and Orlin, Network Flows.)
+#![tactic(auto)]
+
+ghost use Rattle.std.specs.Prelude.{◌≡◌, ◌+◌, ◌*◌, ◌<◌, ◌≤◌, ◌^◌, ◌&&◌, not, max, All, if◌then◌else◌, length, slice_index, IsTrue, ◌↔◌};
+ghost use Rattle.place_sums.specs.Sums.{total, total_where};
+ghost use Rattle.water_text.specs.Months.{IsMonth};
+ghost use Rattle.water_model.specs.Lookups.{has};
+ghost use Rattle.water_model.specs.Basin.{is_on_link, instream_link, is_senior, taking_node};
+ghost use Rattle.water_model.specs.Plans.{carry_of};
+ghost use Rattle.water_model.specs.Cuts.{enters, leaves, takes_within, kept_on, cut_bound, Separates, IsTight};
+ghost use Rattle.water_model.specs.Valid.{IsValidBasin};
+ghost use Rattle.rights_roll.specs.Rolls.{IsRollOf};
+ghost use Rattle.cut_cert.specs.Sets.{cut_at, HasCut, AreAmounts};
+
+use rights_roll::priority::is_senior;
+use rights_roll::roll::Roll;
+use water_model::calls::carry_of;
+use water_model::cut_list::CutList;
+use water_model::types::{Basin, RightKind};
+use water_text::month::Month;
+
+/// Whether a right's set holds a node.
+fn holds(cuts: &CutList, right: u32, node: u32) -> bool
+    requires right { right < length cuts.now.sets }
+    requires node { node < cuts.now.nodes }
+    ensures { result ≡ has (cut_at cuts.now right) node }
+{
+    cuts.holds(right, node).unwrap_or(false)
+}
+
+/// Whether a link enters a right's set.
+fn enters(basin: &Basin, cuts: &CutList, right: u32, link: u32) -> bool
+    requires basin { IsValidBasin basin.now }
+    requires cut { HasCut basin.now cuts.now right }
+    requires link { link < length basin.now.links }
+    ensures { result ≡ enters basin.now (cut_at cuts.now right) link }
+{
+    let link = &basin.links[link as usize];
+    holds(cuts, right, link.to) && !holds(cuts, right, link.from)
+}
+
+/// Whether a link leaves a right's set.
+fn leaves(basin: &Basin, cuts: &CutList, right: u32, link: u32) -> bool
+    requires basin { IsValidBasin basin.now }
+    requires cut { HasCut basin.now cuts.now right }
+    requires link { link < length basin.now.links }
+    ensures { result ≡ leaves basin.now (cut_at cuts.now right) link }
+{
+    let link = &basin.links[link as usize];
+    holds(cuts, right, link.from) && !holds(cuts, right, link.to)
+}
+
+/// Whether a right is an instream right on a link.
+fn is_on_link(basin: &Basin, right: u32, link: u32) -> bool
+    requires { right < length basin.now.rights }
+    ensures { result ≡ is_on_link basin.now right link }
+{
+    match basin.rights[right as usize].kind {
+        RightKind::Instream { link: own } => own == link,
+        RightKind::Diversion { .. } => false,
+        RightKind::Zone { .. } => false,
+    }
+}
+
+/// Whether a right is a diversion or zone that takes within the set of another.
+fn takes_within(basin: &Basin, cuts: &CutList, right: u32, taker: u32) -> bool
+    requires basin { IsValidBasin basin.now }
+    requires cut { HasCut basin.now cuts.now right }
+    requires taker { taker < length basin.now.rights }
+    ensures { result ≡ takes_within basin.now (cut_at cuts.now right) taker }
+{
+    match basin.rights[taker as usize].kind {
+        RightKind::Diversion { node } => holds(cuts, right, node),
+        RightKind::Instream { .. } => false,
+        RightKind::Zone { reservoir, .. } => {
+            holds(cuts, right, basin.reservoirs[reservoir as usize].node)
+        }
+    }
+}
+
+/// Whether one right of the basin is senior to another.
+fn is_senior_to(basin: &Basin, one: u32, other: u32) -> bool
+    requires one { one < length basin.now.rights }
+    requires other { other < length basin.now.rights }
+    ensures { result ≡ is_senior basin.now one other }
+{
+    is_senior(&basin.rights[one as usize], &basin.rights[other as usize])
+}
+
+/// The supply in a right's set.
+#[tactic(auto, using(place_sums::proofs::Totals::sums))]
+fn supply_in(cuts: &CutList, right: u32, supply: &[u64]) -> u64
+    requires right { right < length cuts.now.sets }
+    requires supplies { length supply.now ≡ cuts.now.nodes }
+    requires few { cuts.now.nodes ≤ 2000 }
+    requires small { total (length supply.now) (λ n. slice_index supply.now n) < 4 * 10 ^ 13 }
+    ensures sum { result ≡ total_where (length supply.now) (λ n. has (cut_at cuts.now right) n) (λ n. slice_index supply.now n) }
+    ensures small { result < 4 * 10 ^ 13 }
+{
+    let mut sum = 0;
+    for node in 0..supply.len() {
+        if holds(cuts, right, node as u32) {
+            sum += supply[node];
+        }
+    }
+    sum
+}
+
+/// What the links that enter a right's set can bring in.
+#[tactic(auto, using(place_sums::proofs::Totals::sums))]
+fn carry_in(basin: &Basin, month: Month, right: u32, cuts: &CutList) -> u64
+    requires basin { IsValidBasin basin.now }
+    requires month { IsMonth month }
+    requires cut { HasCut basin.now cuts.now right }
+    ensures sum { result ≡ total_where (length basin.now.links) (λ e. enters basin.now (cut_at cuts.now right) e) (λ e. carry_of basin.now month e) }
+    ensures small { result ≤ 4000 * 10 ^ 15 }
+{
+    let mut sum = 0;
+    for link in 0..basin.links.len() as u32 {
+        if enters(basin, cuts, right, link) {
+            sum += carry_of(basin, link, month);
+        }
+    }
+    sum
+}
+
+/// What is kept so far, or what one right more keeps if it is senior.
+fn kept_with(basin: &Basin, delivered: &[u64], right: u32, holder: u32, kept: u64) -> u64
+    requires delivered { length delivered.now ≡ length basin.now.rights }
+    requires right { right < length basin.now.rights }
+    requires holder { holder < length basin.now.rights }
+    ensures { result ≡ (if is_senior basin.now holder right then max kept (slice_index delivered.now holder) else kept) }
+{
+    if is_senior_to(basin, holder, right) {
+        kept.max(delivered[holder as usize])
+    } else {
+        kept
+    }
+}
+
+/// What is kept on a link for the instream rights that are senior to a right.
+fn kept_on(basin: &Basin, roll: &Roll, delivered: &[u64], right: u32, link: u32) -> u64
+    requires roll { IsRollOf basin.now.rights roll.now }
+    requires delivered { length delivered.now ≡ length basin.now.rights }
+    requires right { right < length basin.now.rights }
+    ensures { result ≡ kept_on basin.now delivered.now right link }
+{
+    let mut kept = 0;
+    let mut next = roll.first_on(link);
+    while let Some(holder) = next {
+        kept = kept_with(basin, delivered, right, holder, kept);
+        next = roll.next_on(holder);
+    }
+    kept
+}
+
+/// What seniors keep on the links that leave a right's set, other than the right's own link.
+#[tactic(auto, using(place_sums::proofs::Totals::sums))]
+fn kept_out(basin: &Basin, roll: &Roll, delivered: &[u64], right: u32, cuts: &CutList) -> u64
+    requires basin { IsValidBasin basin.now }
+    requires roll { IsRollOf basin.now.rights roll.now }
+    requires delivered { length delivered.now ≡ length basin.now.rights }
+    requires most { All (λ d. d ≤ 10 ^ 9) delivered.now }
+    requires cut { HasCut basin.now cuts.now right }
+    ensures sum { result ≡ total_where (length basin.now.links) (λ e. leaves basin.now (cut_at cuts.now right) e && not (is_on_link basin.now right e)) (λ e. kept_on basin.now delivered.now right e) }
+    ensures small { result ≤ 4000 * 10 ^ 9 }
+{
+    let mut sum = 0;
+    for link in 0..basin.links.len() as u32 {
+        if leaves(basin, cuts, right, link) && !is_on_link(basin, right, link) {
+            sum += kept_on(basin, roll, delivered, right, link);
+        }
+    }
+    sum
+}
+
+/// What seniors take in a right's set.
+#[tactic(auto, using(place_sums::proofs::Totals::sums))]
+fn kept_by_takes(basin: &Basin, delivered: &[u64], right: u32, cuts: &CutList) -> u64
+    requires basin { IsValidBasin basin.now }
+    requires delivered { length delivered.now ≡ length basin.now.rights }
+    requires most { All (λ d. d ≤ 10 ^ 9) delivered.now }
+    requires cut { HasCut basin.now cuts.now right }
+    ensures sum { result ≡ total_where (length basin.now.rights) (λ s. takes_within basin.now (cut_at cuts.now right) s && is_senior basin.now s right) (λ s. slice_index delivered.now s) }
+    ensures small { result ≤ 2000 * 10 ^ 9 }
+{
+    let mut sum = 0;
+    for taker in 0..basin.rights.len() as u32 {
+        if takes_within(basin, cuts, right, taker) && is_senior_to(basin, taker, right) {
+            sum += delivered[taker as usize];
+        }
+    }
+    sum
+}
+
+/// The bound of a right's set, in units of 1,000 cubic metres: the supply in it and what the links that enter it can
+/// bring in, less what the rights senior to this one keep on the links that leave it, other than its own, and by takes
+/// in it. No plan that serves these seniors as well gives the right more, if the set is a cut of it.
+///
+/// The cost is linear in nodes, links and rights, and no memory is taken.
+pub fn bound(
+    basin: &Basin,
+    roll: &Roll,
+    month: Month,
+    supply: &[u64],
+    delivered: &[u64],
+    right: u32,
+    cuts: &CutList,
+) -> i64
+    requires basin { IsValidBasin basin.now }
+    requires roll { IsRollOf basin.now.rights roll.now }
+    requires month { IsMonth month }
+    requires amounts { AreAmounts basin.now supply.now delivered.now }
+    requires cut { HasCut basin.now cuts.now right }
+    ensures value { result ≡ cut_bound basin.now month supply.now delivered.now right (cut_at cuts.now right) }
+{
+    let capacity = supply_in(cuts, right, supply) + carry_in(basin, month, right, cuts);
+    let kept = kept_out(basin, roll, delivered, right, cuts)
+        + kept_by_takes(basin, delivered, right, cuts);
+    capacity as i64 - kept as i64
+}
+
+/// Whether a right's set is a cut of it: it holds the node of a diversion or zone, and of an instream right the tail of
+/// its link and not the head.
+fn separates(basin: &Basin, right: u32, cuts: &CutList) -> bool
+    requires basin { IsValidBasin basin.now }
+    requires cut { HasCut basin.now cuts.now right }
+    ensures { IsTrue result ↔ Separates basin.now (taking_node basin.now right) (instream_link basin.now right) (cut_at cuts.now right) }
+{
+    match basin.rights[right as usize].kind {
+        RightKind::Diversion { node } => holds(cuts, right, node),
+        RightKind::Instream { link } => leaves(basin, cuts, right, link),
+        RightKind::Zone { reservoir, .. } => {
+            holds(cuts, right, basin.reservoirs[reservoir as usize].node)
+        }
+    }
+}
+
+/// Whether a right's set is a tight cut of it: a cut whose bound is what the right was delivered. Then it shows why the
+/// right got no more.
+pub fn tight(
+    basin: &Basin,
+    roll: &Roll,
+    month: Month,
+    supply: &[u64],
+    delivered: &[u64],
+    right: u32,
+    cuts: &CutList,
+) -> bool
+    requires basin { IsValidBasin basin.now }
+    requires roll { IsRollOf basin.now.rights roll.now }
+    requires month { IsMonth month }
+    requires amounts { AreAmounts basin.now supply.now delivered.now }
+    requires cut { HasCut basin.now cuts.now right }
+    ensures value { IsTrue result ↔ IsTight basin.now month supply.now delivered.now right (cut_at cuts.now right) }
+{
+    let _sized = cuts.holds(right, 0);
+    separates(basin, right, cuts)
+        && bound(basin, roll, month, supply, delivered, right, cuts)
+            == delivered[right as usize] as i64
+}
