@@ -1,0 +1,11 @@
+pub mod Chains
+pub mod Firsts
+pub mod Parts
+pub mod Places
+pub mod Ranks
+pub mod PriorityOrder
+pub mod SameSeniority
+pub mod Seniors
+pub mod Soundness
+pub mod ZoneFaults
+pub mod ZoneTables

@@ -1,3 +1,7 @@
 pub mod RollSeen
 pub mod Rolls
 pub mod RollFaults
+pub mod SeniorityOrder
+pub mod Priorities
+pub mod Tables
+pub mod Zones

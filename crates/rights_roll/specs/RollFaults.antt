@@ -9,6 +9,10 @@ use Rattle.water_model.specs.declared.types.ReturnRow.{ReturnRow}
 use Rattle.rights_roll.specs.declared.RollRefused.{RollRefused}
 use Rattle.rights_roll.specs.declared.RollRefused.TheVariants.{BadDate, SameSeniority, ZoneOrder, ReturnParts, OutOfMemory}
 
+-- the first right whose date is no day of the calendar
+abbrev pub date_fault : List Right → Option RollRefused
+date_fault rights = option_map BadDate (position has_bad_date rights)
+
 -- the first right whose priority an earlier one has, with the first that has it. The rest begins at place n
 abbrev pub same_from : List (List ℕ) → ℕ → List (List ℕ) → Option RollRefused
 same_from keys n [] = None
@@ -18,19 +22,27 @@ same_from keys n (key ∷ rest) =
 abbrev pub same_seniority : List Right → Option RollRefused
 same_seniority rights = let keys = map priority rights in same_from keys 0 keys
 
+-- the first zone at fault
+abbrev pub zone_fault : List Right → Option RollRefused
+zone_fault rights = option_map ZoneOrder (find (has_zone_fault rights) (range_with_len 0 (length rights)))
+
 -- a diversion returns more than it takes
 abbrev pub has_many_parts : List ReturnRow → ℕ → Bool
 has_many_parts returns right = nat_lt 10000 (parts_in returns right)
 
+-- the first diversion that returns more than it takes
+abbrev pub parts_fault : List Right → List ReturnRow → Option RollRefused
+parts_fault rights returns = option_map ReturnParts (find (has_many_parts returns) (range_with_len 0 (length rights)))
+
 -- the first fault: of dates, then of seniority, then of zones, then of return rows
 unfoldable pub roll_fault : List Right → List ReturnRow → Option RollRefused
 roll_fault rights returns =
-    option_or (option_map BadDate (position has_bad_date rights))
-    (option_or (same_seniority rights)
-    (option_or (option_map ZoneOrder (find (has_zone_fault rights) (range_with_len 0 (length rights))))
-    (option_map ReturnParts (find (has_many_parts returns) (range_with_len 0 (length rights))))))
+    option_or (date_fault rights) (option_or (same_seniority rights) (option_or (zone_fault rights) (parts_fault rights returns)))
 
--- the refusal is the first fault; want of memory is free
+-- the refusal is the fault; want of memory is free
+abbrev pub IsRefusal : RollRefused → Option RollRefused → Type 0
+IsRefusal OutOfMemory fault = ⊤
+IsRefusal e fault = fault ≡ Some e
+
 abbrev pub IsRollRefusal : RollRefused → List Right → List ReturnRow → Type 0
-IsRollRefusal OutOfMemory rights returns = ⊤
-IsRollRefusal e rights returns = roll_fault rights returns ≡ Some e
+IsRollRefusal e rights returns = IsRefusal e (roll_fault rights returns)

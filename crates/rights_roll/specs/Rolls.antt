@@ -1,5 +1,5 @@
 -- The roll of a list of rights.
-use Rattle.std.specs.Prelude.{◌≡◌, ◌≢◌, ℕ, ◌+◌, ◌<◌, ◌≤◌, List, length, map, Option, Some, None, slice_get}
+use Rattle.std.specs.Prelude.{◌≡◌, ◌≢◌, ℕ, ◌+◌, ◌<◌, ◌≤◌, List, length, map, Option, Some, None, slice_index_or}
 use Rattle.water_model.specs.Lookups.{of_entry}
 use Rattle.water_model.specs.Basin.{link_of_kind}
 use Rattle.water_model.specs.Places.{by_seniority}
@@ -17,9 +17,16 @@ IsNextOn rights link start (Some right) =
     (start ≤ right) × (right < length rights) × (link_in rights right ≡ Some link)
     × ((s : ℕ) → start ≤ s → s < right → link_in rights s ≢ Some link)
 
+-- the first instream right on each link, and for each instream right the next one on its link
+pub record AreChains (rights : List Right) (first_on next_on : List (Option ℕ)) : Type 0 where
+  pub count : length next_on ≡ length rights
+  pub firsts : (link : ℕ) → IsNextOn rights link 0 (slice_index_or first_on link None)
+  pub nexts : (right link : ℕ) → right < length rights → link_in rights right ≡ Some link →
+      IsNextOn rights link (right + 1) (slice_index_or next_on right None)
+
 pub record IsRollOf (rights : List Right) (roll : RollSeen) : Type 0 where
   pub order : roll.order ≡ by_seniority rights
   pub wants : roll.wants ≡ map (λ r. r.want) rights
-  pub firsts : (link : ℕ) → IsNextOn rights link 0 (of_entry roll.first_on link (λ first. first) None)
+  pub firsts : (link : ℕ) → IsNextOn rights link 0 (slice_index_or roll.first_on link None)
   pub nexts : (right link : ℕ) → right < length rights → link_in rights right ≡ Some link →
-      IsNextOn rights link (right + 1) (of_entry roll.next_on right (λ next. next) None)
+      IsNextOn rights link (right + 1) (slice_index_or roll.next_on right None)

@@ -1,0 +1,289 @@
+-- How much a flow can still rise when a search over rooms of at least `least` is done.
+use Rattle.std.proofs.Common.{ℕ, min, ◌^◌, ◌/◌, zero, suc, Bool, true, false, not, nat_lt, ◌==◌, ◌&&◌, ◌≡◌, ◌≢◌, ◌+◌, ◌-◌, ◌*◌, ◌<◌, ◌≤◌, refl, arith, ap, sym, inl, inr, ◌∙◌}
+use Rattle.std.proofs.Math.Nat.{mul-le-mul_left, mul-le-mul_right, pow-suc}
+use Rattle.std.proofs.Math.Pow.{pow_mono}
+use Rattle.std.proofs.lemmas.Bool.{eq-eqb, ne_eqb, eqb-false, lt-ltb, le-ltb, ltb-true, not-true, cases_lt, cases_eq, and_from, and_parts, and_right, and_left, both_ways}
+use Rattle.place_sums.specs.Sums.{total, when}
+use Rattle.circulation.specs.Network.{Network, IsFlow, HasEnds, enters, leaves}
+use Rattle.place_sums.proofs.Totals.{total_le, total_add, total_change}
+use Rattle.augment.specs.Search.{IsTree, IsClosed}
+use Rattle.augment.proofs.Cuts.{crossing}
+use Rattle.augment.proofs.Trees.{in_set, set_from, not_in_set}
+
+-- a sum of one number
+total-const : (n d : ℕ) → total n (λ k. d) ≡ n * d
+unfolding total
+total-const zero d = omega arith
+total-const (suc n) d = omega (arith, total-const n d)
+
+-- two sets of arcs that are apart
+disjoint_sum : (n d : ℕ) (p q : ℕ → Bool) → ((a : ℕ) → a < n → when (p a) d + when (q a) d ≤ d) →
+    total n (λ a. when (p a) d) + total n (λ a. when (q a) d) ≤ n * d
+disjoint_sum n d p q h =
+    let both = total_le n (λ a. when (p a) d + when (q a) d) (λ a. d) h in
+    omega (arith, both, total_add n (λ a. when (p a) d) (λ a. when (q a) d), total-const n d)
+
+-- terms that are apart by at most d where the test holds
+when-slack : (b : Bool) (x y d : ℕ) → (b ≡ true → x ≤ y + d) → when b x ≤ when b y + when b d
+when-slack true x y d h = h refl
+when-slack false x y d h = omega arith
+
+-- sums of terms that are apart by at most d each
+total-slack : (n d : ℕ) (p : ℕ → Bool) (f g : ℕ → ℕ) → ((a : ℕ) → a < n → p a ≡ true → f a ≤ g a + d) →
+    total n (λ a. when (p a) (f a)) ≤ total n (λ a. when (p a) (g a)) + total n (λ a. when (p a) d)
+total-slack n d p f g h =
+    let each = total_le n (λ a. when (p a) (f a)) (λ a. when (p a) (g a) + when (p a) d)
+    (λ a b. when-slack (p a) (f a) (g a) d (h a b)) in
+    omega (arith, each, total_add n (λ a. when (p a) (g a)) (λ a. when (p a) d))
+
+-- a test that fails leaves the rest as it is
+same_when : (p t : Bool) (x : ℕ) → t ≡ false → when p x ≡ when (p && not t) x
+same_when true t x e = sym (ap (λ (b : Bool). when (not b) x) e)
+same_when false t x e = refl
+
+-- a sum without the term of r
+without : (n r : ℕ) (p : ℕ → Bool) (f : ℕ → ℕ) → r < n → p r ≡ true →
+    total n (λ a. when (p a) (f a)) ≡ f r + total n (λ a. when (p a && not (a == r)) (f a))
+without n r p f b own =
+    let change = total_change n r (λ a. when (p a) (f a)) (λ a. when (p a && not (a == r)) (f a)) b
+    (λ a c ne. same_when (p a) (a == r) (f a) (ne_eqb a r ne)) in
+    let here : when (p r) (f r) ≡ f r = ap (λ (t : Bool). when t (f r)) own in
+    let none : when (p r && not (r == r)) (f r) ≡ 0 = ap (λ (t : Bool). when t (f r))
+    (and_right (p r) (not (r == r)) (ap not (eq-eqb r r refl))) in
+    omega (arith, change, here, none)
+
+-- an arc does not cross a set both ways
+apart_way : (t f e : Bool) (d : ℕ) → when (t && not f) d + when (f && not t && e) d ≤ d
+apart_way true true e d = omega arith
+apart_way true false e d = omega arith
+apart_way false true true d = omega arith
+apart_way false true false d = omega arith
+apart_way false false e d = omega arith
+
+-- a set with r's tail and not its head
+rise_out : (w : Network) (r d : ℕ) (y : ℕ → Bool) (g h : ℕ → ℕ) → r < w.arcs → ((v : ℕ) → w.nodes ≤ v → y v ≡ false) →
+    leaves w y r ≡ true → IsFlow w g → IsFlow w h → ((a : ℕ) → a < w.arcs → enters w y a ≡ true → w.upper a ≤ g a + d) →
+    ((a : ℕ) → a < w.arcs → leaves w y a ≡ true → a ≢ r → g a ≤ w.lower a + d) → h r ≤ g r + w.arcs * d
+rise_out w r d y g h b basin own fg fh full empty =
+    let cross_g = crossing w y g basin fg in
+    let cross_h = crossing w y h basin fh in
+    let part_g = without w.arcs r (leaves w y) g b own in
+    let part_h = without w.arcs r (leaves w y) h b own in
+    let into = total-slack w.arcs d (enters w y) h g (λ a c e. omega (arith, full a c e, fh.high a c)) in
+    let out = total-slack w.arcs d (λ a. leaves w y a && not (a == r)) g h (λ a c e.
+    let parts = and_parts (leaves w y a) (not (a == r)) e in
+    omega (arith, empty a c parts.0 (eqb-false a r (not-true (a == r) parts.1)), fh.low a c)) in
+    let slack = disjoint_sum w.arcs d (enters w y) (λ a. leaves w y a && not (a == r))
+    (λ a c. apart_way (y (w.to a)) (y (w.from a)) (not (a == r)) d) in
+    omega (arith, cross_g, cross_h, part_g, part_h, into, out, slack)
+
+-- a set with r's head and not its tail
+rise_in : (w : Network) (r d : ℕ) (y : ℕ → Bool) (g h : ℕ → ℕ) → r < w.arcs → ((v : ℕ) → w.nodes ≤ v → y v ≡ false) →
+    enters w y r ≡ true → IsFlow w g → IsFlow w h → ((a : ℕ) → a < w.arcs → leaves w y a ≡ true → w.upper a ≤ g a + d) →
+    ((a : ℕ) → a < w.arcs → enters w y a ≡ true → a ≢ r → g a ≤ w.lower a + d) → h r ≤ g r + w.arcs * d
+rise_in w r d y g h b basin own fg fh full empty =
+    let cross_g = crossing w y g basin fg in
+    let cross_h = crossing w y h basin fh in
+    let part_g = without w.arcs r (enters w y) g b own in
+    let part_h = without w.arcs r (enters w y) h b own in
+    let out = total-slack w.arcs d (leaves w y) h g (λ a c e. omega (arith, full a c e, fh.high a c)) in
+    let into = total-slack w.arcs d (λ a. enters w y a && not (a == r)) g h (λ a c e.
+    let parts = and_parts (enters w y a) (not (a == r)) e in
+    omega (arith, empty a c parts.0 (eqb-false a r (not-true (a == r) parts.1)), fh.low a c)) in
+    let slack = disjoint_sum w.arcs d (leaves w y) (λ a. enters w y a && not (a == r))
+    (λ a c. apart_way (y (w.from a)) (y (w.to a)) (not (a == r)) d) in
+    omega (arith, cross_g, cross_h, part_g, part_h, into, out, slack)
+
+-- a node that is not a reached basin node was not reached
+inside_not : (nodes : ℕ) (position : ℕ → ℕ) (v : ℕ) → v ≤ nodes → position nodes ≡ 0 →
+    (nat_lt v nodes && nat_lt 0 (position v)) ≡ false → position v ≡ 0
+inside_not nodes position v b outside e = elim (cases_lt v nodes) [
+  | inl c ↦ elim (cases_eq (position v) 0) [
+    | inl f ↦ f
+    | inr ne ↦ absurd (both_ways (nat_lt v nodes && nat_lt 0 (position v)) e
+        (and_from (nat_lt v nodes) (nat_lt 0 (position v)) (lt-ltb v nodes c) (lt-ltb 0 (position v) (omega arith))))
+  ]
+  | inr c ↦ let at_end : v ≡ nodes = omega arith in ap position at_end ∙ outside
+]
+
+-- when nothing more is reached over rooms of at least `least`, the flow of r can rise by less than that for each arc
+pub remaining_rise : (w : Network) (g h : ℕ → ℕ) (r least : ℕ) (position node step : ℕ → ℕ) (size : ℕ) → r < w.arcs →
+    0 < least → HasEnds w → IsFlow w g → IsFlow w h → IsTree w g r least position node step size →
+    IsClosed w g r least position → position (w.from r) ≡ 0 → h r ≤ g r + w.arcs * (least - 1)
+remaining_rise w g h r least position node step size b some ends fg fh t closed none =
+    let head : 0 < position (w.to r) = omega (arith, ap position t.root, (t.placed 0 t.some).1) in
+    let from_in = ends.from_in r b in
+    let to_in = ends.to_in r b in
+    elim (cases_eq (position w.nodes) 0) [
+      | inl outside ↦
+          let inner : w.to r < w.nodes = elim (cases_lt (w.to r) w.nodes) [
+            | inl c ↦ c
+            | inr c ↦ let is : w.to r ≡ w.nodes = omega arith in absurd (omega (arith, ap position is))
+          ] in
+          rise_in w r (least - 1) (λ v. nat_lt v w.nodes && nat_lt 0 (position v)) g h b
+          (λ v c. and_left (nat_lt v w.nodes) (nat_lt 0 (position v)) (le-ltb v w.nodes c))
+          (and_from (nat_lt (w.to r) w.nodes && nat_lt 0 (position (w.to r)))
+          (not (nat_lt (w.from r) w.nodes && nat_lt 0 (position (w.from r))))
+          (and_from (nat_lt (w.to r) w.nodes) (nat_lt 0 (position (w.to r))) (lt-ltb (w.to r) w.nodes inner)
+          (lt-ltb 0 (position (w.to r)) head)) (ap not
+          (and_right (nat_lt (w.from r) w.nodes) (nat_lt 0 (position (w.from r)))
+          (le-ltb 0 (position (w.from r)) (omega arith)))))
+          fg fh
+          (λ a c e.
+          let parts = and_parts (nat_lt (w.from a) w.nodes && nat_lt 0 (position (w.from a)))
+          (not (nat_lt (w.to a) w.nodes && nat_lt 0 (position (w.to a)))) e in
+          let here = and_parts (nat_lt (w.from a) w.nodes) (nat_lt 0 (position (w.from a))) parts.0 in
+          let there = inside_not w.nodes position (w.to a) (ends.to_in a c) outside
+          (not-true (nat_lt (w.to a) w.nodes && nat_lt 0 (position (w.to a))) parts.1) in
+          elim (cases_lt (g a + (least - 1)) (w.upper a)) [
+            | inl room ↦ elim (cases_eq a r) [
+              | inl is ↦ absurd (omega (
+                arith,
+                ltb-true 0 (position (w.from a)) here.1,
+                ap
+                    (λ (x : ℕ). position (w.from x)) is,
+                none,
+              ))
+              | inr ne ↦ absurd (omega (
+                arith,
+                (closed (w.from a) (ends.from_in a c)
+                    (ltb-true 0 (position (w.from a)) here.1)).out a c refl ne (omega arith),
+                there,
+              ))
+            ]
+            | inr full ↦ full
+          ])
+          (λ a c e ne.
+          let parts = and_parts (nat_lt (w.to a) w.nodes && nat_lt 0 (position (w.to a)))
+          (not (nat_lt (w.from a) w.nodes && nat_lt 0 (position (w.from a)))) e in
+          let here = and_parts (nat_lt (w.to a) w.nodes) (nat_lt 0 (position (w.to a))) parts.0 in
+          let there = inside_not w.nodes position (w.from a) (ends.from_in a c) outside
+          (not-true (nat_lt (w.from a) w.nodes && nat_lt 0 (position (w.from a))) parts.1) in
+          elim (cases_lt (w.lower a + (least - 1)) (g a)) [
+            | inl room ↦ absurd (omega (
+              arith,
+              (closed (w.to a) (ends.to_in a c)
+                  (ltb-true 0 (position (w.to a)) here.1)).into a c refl ne (omega arith),
+              there,
+            ))
+            | inr empty ↦ empty
+          ])
+      | inr reached ↦
+          let out : 0 < position w.nodes = omega arith in
+          let tail_in : w.from r < w.nodes = elim (cases_lt (w.from r) w.nodes) [
+            | inl c ↦ c
+            | inr c ↦ let is : w.from r ≡ w.nodes = omega arith in absurd (omega (arith, ap position is))
+          ] in
+          rise_out w r (least - 1) (λ v. nat_lt v w.nodes && (position v == 0)) g h b
+          (λ v c. and_left (nat_lt v w.nodes) (position v == 0) (le-ltb v w.nodes c))
+          (and_from (nat_lt (w.from r) w.nodes && (position (w.from r) == 0))
+          (not (nat_lt (w.to r) w.nodes && (position (w.to r) == 0)))
+          (set_from w.nodes position (w.from r) tail_in none)
+          (ap not (and_right (nat_lt (w.to r) w.nodes) (position (w.to r) == 0)
+          (ne_eqb (position (w.to r)) 0 (λ e. absurd (omega arith))))))
+          fg fh
+          (λ a c e.
+          let parts = and_parts (nat_lt (w.to a) w.nodes && (position (w.to a) == 0))
+          (not (nat_lt (w.from a) w.nodes && (position (w.from a) == 0))) e in
+          let into = in_set w.nodes position (w.to a) parts.0 in
+          let from = not_in_set w.nodes position (w.from a) (ends.from_in a c) out
+          (not-true (nat_lt (w.from a) w.nodes && (position (w.from a) == 0)) parts.1) in
+          elim (cases_lt (g a + (least - 1)) (w.upper a)) [
+            | inl room ↦ elim (cases_eq a r) [
+              | inl is ↦ absurd (omega (arith, head, into.1, ap (λ (x : ℕ). position (w.to x)) is))
+              | inr ne ↦ absurd (omega (arith, (closed (w.from a) (ends.from_in a c) from).out a c refl ne (omega arith), into.1))
+            ]
+            | inr full ↦ full
+          ])
+          (λ a c e ne.
+          let parts = and_parts (nat_lt (w.from a) w.nodes && (position (w.from a) == 0))
+          (not (nat_lt (w.to a) w.nodes && (position (w.to a) == 0))) e in
+          let from = in_set w.nodes position (w.from a) parts.0 in
+          let into = not_in_set w.nodes position (w.to a) (ends.to_in a c) out
+          (not-true (nat_lt (w.to a) w.nodes && (position (w.to a) == 0)) parts.1) in
+          elim (cases_lt (w.lower a + (least - 1)) (g a)) [
+            | inl room ↦ absurd (omega (arith, (closed (w.to a) (ends.to_in a c) into).into a c refl ne (omega arith), from.1))
+            | inr empty ↦ empty
+          ])
+    ]
+
+-- one less is not more
+below_twice : (least : ℕ) → 2 * least - 1 ≤ 2 * least
+below_twice least = omega arith
+
+-- order is passed on
+le_trans_here : {a b c : ℕ} → a ≤ b → b ≤ c → a ≤ c
+le_trans_here {a} {b} {c} x y = omega arith
+
+-- more pushes than twice the arcs would raise the flow too far
+too_many : (least arcs pushes : ℕ) → 0 < least → 2 * arcs < pushes → pushes * least ≤ arcs * (2 * least - 1) → ⊥
+too_many least arcs pushes some more each =
+    let enough : 2 * arcs + 1 ≤ pushes = omega arith in
+    let steps = mul-le-mul_right least enough in
+    let rise = mul-le-mul_left arcs (below_twice least) in
+    omega (arith, steps, rise, each, some)
+
+-- pushes of a phase: each but the last raises the flow by `least`, and it can rise by at most `arcs * (2 * least - 1)`
+pub phase_pushes : (least arcs pushes rise : ℕ) → 0 < least → pushes * least ≤ rise → rise ≤ arcs * (2 * least - 1) →
+    pushes ≤ 2 * arcs
+phase_pushes least arcs pushes rise some each limit = elim (cases_lt (2 * arcs) pushes) [
+  | inl more ↦ absurd (too_many least arcs pushes some more (le_trans_here each limit))
+  | inr fits ↦ fits
+]
+
+-- a product with one more
+next_product : (n d : ℕ) → (n + 1) * d ≡ n * d + d
+next_product n d = omega arith
+
+-- one push more in a phase
+pub phase_next : (least arcs start before after from now next want : ℕ) → 0 < least → start ≤ before →
+    after ≡ before + 1 → (before - start) * least + from ≤ now → now ≤ from + arcs * (2 * least - 1) → now < want →
+    now + min least (want - now) ≤ next →
+    (after ≤ start + (2 * arcs + 1)) × (next < want → (after - start) * least + from ≤ next)
+phase_next least arcs start before after from now next want some order step each reach less wide =
+    let count : before - start ≤ 2 * arcs = phase_pushes least arcs (before - start) (now - from) some
+    (omega (arith, each)) (omega (arith, reach)) in (
+      omega (arith, count, step, order),
+      λ short.
+          let more : after - start ≡ before - start + 1 = omega arith in
+          let whole : now + least ≤ next = omega (arith, wide, short) in
+          let product : (after - start) * least ≡ (before - start) * least + least = ap
+          (λ (n : ℕ). n * least) more ∙ next_product (before - start) least in
+          omega (arith, product, whole, each),
+    )
+
+-- an order and its opposite
+contradicts : {a b : ℕ} → a ≤ b → b < a → ⊥
+contradicts {a} {b} x y = omega arith
+
+-- one more, as powers count
+next_is_suc : (k : ℕ) → k + 1 ≡ suc k
+next_is_suc k = omega arith
+
+-- a lesser power has a lesser exponent
+pub power_below : (k n : ℕ) → 2 ^ k < 2 ^ n → k < n
+power_below k n b = elim (cases_lt k n) [ inl c ↦ c | inr c ↦ absurd (contradicts (pow_mono c) b) ]
+
+-- the next power of two
+pub power_next : (k : ℕ) → 2 ^ (k + 1) ≡ 2 ^ k * 2
+power_next k = ap (λ (n : ℕ). 2 ^ n) (next_is_suc k) ∙ pow-suc 2 k
+
+-- half of a power of two
+pub power_half : (k x : ℕ) → 0 < k → x ≡ 2 ^ k → (x / 2 ≡ 2 ^ (k - 1)) × (2 * (x / 2) ≡ x)
+power_half k x some is =
+    let split : k ≡ k - 1 + 1 = omega arith in
+    let twice = is ∙ ap (λ (n : ℕ). 2 ^ n) split ∙ power_next (k - 1) in
+    (omega (arith, twice), omega (arith, twice))
+
+-- the ticks of the phases so far
+pub phases_cost : (count left arcs start before after : ℕ) → left < count →
+    before ≤ start + (count - (left + 1)) * (2 * arcs + 2) → after ≤ before + (2 * arcs + 1) →
+    after ≤ start + (count - left) * (2 * arcs + 2)
+phases_cost count left arcs start before after b each more =
+    let split : count - left ≡ count - (left + 1) + 1 = omega arith in
+    let product = ap (λ (n : ℕ). n * (2 * arcs + 2)) split ∙ next_product (count - (left + 1)) (2 * arcs + 2) in
+    omega (arith, product, each, more)
+
+-- the cost of at most thirty phases
+pub thirty : (count arcs : ℕ) → count ≤ 30 → count * (2 * arcs + 2) ≤ 30 * (2 * arcs + 2)
+thirty count arcs b = mul-le-mul_right (2 * arcs + 2) b

@@ -1,0 +1,307 @@
+-- The tree of the nodes that a search reached, and the cut that it leaves.
+use Rattle.std.proofs.Common.{ℕ, zero, suc, Bool, true, false, not, nat_lt, ◌==◌, ◌&&◌, ◌≡◌, ◌≢◌, ◌+◌, ◌-◌, ◌<◌, ◌≤◌, List, [], ◌∷◌, refl, arith, ap, sym, subst, inl, inr, ◌∙◌}
+use Rattle.std.proofs.lemmas.Bool.{eq-eqb, ne_eqb, eqb-true, eqb-false, lt-ltb, le-ltb, ltb-true, ltb-false, not-true, cases_lt, cases_eq, cases_Bool, and_from, and_parts, and_cases, and_left, and_right, both_ways}
+use Rattle.place_sums.specs.Sums.{total, when}
+use Rattle.circulation.specs.Network.{Network, IsFlow, HasEnds, IsTight, LeadsOut}
+use Rattle.circulation.specs.Residual.{arc_of, is_back, by_way, start_of}
+use Rattle.place_sums.proofs.Totals.{total_change, total_pick}
+use Rattle.circulation.proofs.RowSums.{total_at_most}
+use Rattle.augment.specs.Search.{IsBranch, IsTree, IsClosed, Grows}
+use Rattle.augment.specs.Raised.{HasWayOut}
+use Rattle.augment.proofs.Cuts.{IsSaturated, tight-from_closed, saturated-from_tight}
+
+-- a test counts at most 1
+when_one : (b : Bool) → when b 1 ≤ 1
+when_one true = omega arith
+when_one false = omega arith
+
+-- of terms up to 1, one that is 0
+total_less : (n v : ℕ) (f : ℕ → ℕ) → v < n → ((k : ℕ) → f k ≤ 1) → f v ≡ 0 → total n f + 1 ≤ n
+unfolding total
+total_less zero v f b h z = absurd (omega arith)
+total_less (suc n) v f b h z = elim (cases_eq v n) [
+  | inl e ↦
+      let last = subst (λ (j : ℕ). f j ≡ 0) e z in
+      omega (arith, last, total_at_most n 1 f h)
+  | inr ne ↦ omega (arith, total_less n v f (omega arith) h z, h n)
+]
+
+-- while a node was not reached, there is room for it
+pub tree_room : (w : Network) (g : ℕ → ℕ) (r least : ℕ) (position node step : ℕ → ℕ) (size v : ℕ) →
+    IsTree w g r least position node step size → v ≤ w.nodes → position v ≡ 0 → size ≤ w.nodes
+tree_room w g r least position node step size v t b z =
+    let less = total_less (w.nodes + 1) v (λ u. when (nat_lt 0 (position u)) 1) (omega arith)
+    (λ u. when_one (nat_lt 0 (position u))) (ap (λ (x : ℕ). when (nat_lt 0 x) 1) z) in
+    omega (arith, less, t.counted)
+
+-- no more nodes are reached than there are
+pub tree_size : (w : Network) (g : ℕ → ℕ) (r least : ℕ) (position node step : ℕ → ℕ) (size : ℕ) →
+    IsTree w g r least position node step size → size ≤ w.nodes + 1
+tree_size w g r least position node step size t = omega (
+  arith,
+  t.counted,
+  total_at_most (w.nodes + 1) 1 (λ u. when (nat_lt 0 (position u)) 1)
+      (λ u. when_one (nat_lt 0 (position u))),
+)
+
+-- the tree of the root alone
+pub tree_start : (w : Network) (g : ℕ → ℕ) (r least : ℕ) (position node step : ℕ → ℕ) → w.to r ≤ w.nodes →
+    node 0 ≡ w.to r → position (w.to r) ≡ 1 → ((v : ℕ) → v ≤ w.nodes → v ≢ w.to r → position v ≡ 0) →
+    IsTree w g r least position node step 1
+tree_start w g r least position node step b root here none = record {
+  some = omega arith;
+  root = root;
+  counted = sym (total_pick (w.nodes + 1) (w.to r) (λ v. when (nat_lt 0 (position v)) 1) (omega arith)
+      (λ v c ne. ap (λ (x : ℕ). when (nat_lt 0 x) 1) (none v (omega arith) ne)) ∙ ap
+      (λ (x : ℕ). when (nat_lt 0 x) 1) here);
+  placed = λ k c.
+      let first : k ≡ 0 = omega arith in
+      subst (λ (j : ℕ). (node j ≤ w.nodes) × (position (node j) ≡ j + 1)) (sym first)
+      (omega (arith, root), ap position root ∙ here);
+  marked = λ v c m. elim (cases_eq v (w.to r)) [
+    | inl e ↦
+        let one : position v ≡ 1 = ap position e ∙ here in
+        (omega arith, ap (λ (x : ℕ). node (x - 1)) one ∙ root ∙ sym e)
+    | inr ne ↦ absurd (omega (arith, none v c ne))
+  ];
+  grown = λ k c d. absurd (omega arith);
+}
+
+-- what bounds both bounds either
+by_way_both : (back : Bool) (x y n : ℕ) → x ≤ n → y ≤ n → by_way back x y ≤ n
+by_way_both true x y n a b = b
+by_way_both false x y n a b = a
+
+-- a step starts at a node
+pub start_within : (w : Network) (s : ℕ) → HasEnds w → arc_of s < w.arcs → start_of w s ≤ w.nodes
+start_within w s ends b = by_way_both (is_back s) (w.from (arc_of s)) (w.to (arc_of s)) w.nodes
+    (ends.from_in (arc_of s) b) (ends.to_in (arc_of s) b)
+
+-- a branch stays when more nodes are reached
+branch-kept : (w : Network) (g : ℕ → ℕ) (r least : ℕ) (old new : ℕ → ℕ) (k s v : ℕ) → HasEnds w →
+    ((u : ℕ) → u ≤ w.nodes → 0 < old u → new u ≡ old u) → IsBranch w g r least old k s v →
+    IsBranch w g r least new k s v
+branch-kept w g r least old new k s v ends same b =
+    let within = start_within w s ends b.arc in
+    let e = same (start_of w s) within b.marked in
+    record {
+      arc = b.arc;
+      other = b.other;
+      enters = b.enters;
+      marked = omega (arith, e, b.marked);
+      before = omega (arith, e, b.before);
+      room = b.room;
+    }
+
+-- a node more
+pub tree_next : (w : Network) (g : ℕ → ℕ) (r least : ℕ) (old position node node' step step' : ℕ → ℕ) (size s v : ℕ) →
+    HasEnds w → IsTree w g r least old node step size → v ≤ w.nodes → old v ≡ 0 → position v ≡ size + 1 →
+    ((u : ℕ) → u ≤ w.nodes → u ≢ v → position u ≡ old u) → node' size ≡ v → ((k : ℕ) → k < size → node' k ≡ node k) →
+    step' size ≡ s → ((k : ℕ) → k < size → step' k ≡ step k) → IsBranch w g r least old size s v →
+    IsTree w g r least position node' step' (size + 1)
+tree_next w g r least old position node node' step step' size s v ends t b none here others at_node nodes at_step steps branch =
+    let kept = λ (u : ℕ) (c : u ≤ w.nodes) (m : 0 < old u). others u c (λ e. absurd (omega (arith, ap old e, none))) in
+    let count = total_change (w.nodes + 1) v (λ u. when (nat_lt 0 (position u)) 1) (λ u. when (nat_lt 0 (old u)) 1)
+    (omega arith) (λ u c ne. ap (λ (x : ℕ). when (nat_lt 0 x) 1) (others u (omega arith) ne)) in
+    let was : when (nat_lt 0 (old v)) 1 ≡ 0 = ap (λ (x : ℕ). when (nat_lt 0 x) 1) none in
+    let is : when (nat_lt 0 (position v)) 1 ≡ 1 = ap (λ (x : Bool). when x 1) (lt-ltb 0 (position v) (omega arith)) in
+    record {
+      some = omega arith;
+      root = nodes 0 t.some ∙ t.root;
+      counted = omega (arith, count, was, is, t.counted);
+      placed = λ k c. elim (cases_eq k size) [
+        | inl e ↦ subst (λ (j : ℕ). (node' j ≤ w.nodes) × (position (node' j) ≡ j + 1)) (sym e)
+            (omega (arith, at_node), ap position at_node ∙ here)
+        | inr ne ↦
+            let old_place = t.placed k (omega arith) in
+            let same : node' k ≡ node k = nodes k (omega arith) in
+            let still = kept (node k) old_place.0 (omega (arith, old_place.1)) in
+            (omega (arith, same, old_place.0), ap position same ∙ still ∙ old_place.1)
+      ];
+      marked = λ u c m. elim (cases_eq u v) [
+        | inl e ↦
+            let place : position u ≡ size + 1 = ap position e ∙ here in
+            let back : position u - 1 ≡ size = omega arith in
+            (omega arith, ap node' back ∙ at_node ∙ sym e)
+        | inr ne ↦
+            let same : position u ≡ old u = others u c ne in
+            let there = t.marked u c (omega arith) in (
+              omega (arith, there.0),
+              nodes (position u - 1) (omega (arith, there.0)) ∙ ap
+                  (λ (x : ℕ). node (x - 1)) same ∙ there.1,
+            )
+      ];
+      grown = λ k c d. elim (cases_eq k size) [
+        | inl e ↦
+            let last = branch-kept w g r least old position size s v ends kept branch in
+            let moved = subst (λ (x : ℕ). IsBranch w g r least position size x v) (sym at_step) last in
+            let at_last = subst (λ (x : ℕ). IsBranch w g r least position size (step' size) x) (sym at_node) moved in
+            subst (λ (j : ℕ). IsBranch w g r least position j (step' j) (node' j)) (sym e) at_last
+        | inr ne ↦
+            let before : k < size = omega arith in
+            let last = branch-kept w g r least old position k (step k) (node k) ends kept (t.grown k c before) in
+            let moved = subst (λ (x : ℕ). IsBranch w g r least position k x (node k)) (sym (steps k before)) last in
+            subst (λ (x : ℕ). IsBranch w g r least position k (step' k) x) (sym (nodes k before)) moved
+      ];
+    }
+
+-- one more node is behind those before
+pub grows_next : (nodes : ℕ) (old new : ℕ → ℕ) (size v : ℕ) → old v ≡ 0 → new v ≡ size + 1 →
+    ((u : ℕ) → u ≤ nodes → u ≢ v → new u ≡ old u) → Grows nodes old new size (size + 1)
+grows_next nodes old new size v none here others = record {
+  same = λ u c m. others u c (λ e. absurd (omega (arith, ap old e, none)));
+  fresh = λ u c z m. elim (cases_eq u v) [
+    | inl e ↦ omega (arith, ap new e, here)
+    | inr ne ↦ absurd (omega (arith, others u c ne))
+  ];
+  larger = omega arith;
+}
+
+-- growing twice
+pub grows_more : (nodes : ℕ) (a b c : ℕ → ℕ) (n m k : ℕ) → Grows nodes a b n m → Grows nodes b c m k →
+    Grows nodes a c n k
+grows_more nodes a b c n m k first second = record {
+  same = λ u d z. second.same u d (omega (arith, first.same u d z)) ∙ first.same u d z;
+  fresh = λ u d z p. elim (cases_eq (b u) 0) [
+    | inl e ↦ omega (arith, second.fresh u d e p, first.larger)
+    | inr ne ↦ omega (arith, first.fresh u d z (omega arith), second.same u d (omega arith))
+  ];
+  larger = omega (arith, first.larger, second.larger);
+}
+
+-- growing by nothing
+pub grows_none : (nodes : ℕ) (a : ℕ → ℕ) (n : ℕ) → Grows nodes a a n n
+grows_none nodes a n = record { same = λ u d z. refl; fresh = λ u d z p. absurd (omega arith); larger = omega arith }
+
+-- a node that is not reached was not reached before
+pub unreached_before : (nodes : ℕ) (old new : ℕ → ℕ) (size more v : ℕ) → Grows nodes old new size more → v ≤ nodes →
+    new v ≡ 0 → old v ≡ 0
+unreached_before nodes old new size more v grows b none = elim (cases_eq (old v) 0) [
+  | inl e ↦ e
+  | inr ne ↦ absurd (omega (arith, grows.same v b (omega arith)))
+]
+
+-- the path to the outside is reached
+reached_along : (w : Network) (g : ℕ → ℕ) (r : ℕ) (position : ℕ → ℕ) (v : ℕ) (path : List ℕ) → HasEnds w → IsFlow w g →
+    IsClosed w g r 1 position → v ≤ w.nodes → 0 < position v → LeadsOut w r v path → 0 < position w.nodes
+reached_along w g r position v [] ends flow closed b m leads = subst (λ (u : ℕ). 0 < position u) leads m
+reached_along w g r position v (a ∷ path) ends flow closed b m leads =
+    reached_along w g r position (w.to a) path ends flow closed (ends.to_in a leads.0)
+    ((closed v b m).out a leads.0 leads.1 leads.2 (omega (arith, leads.3 g flow))) leads.4
+
+-- what the test of an unreached basin node says
+pub in_set : (nodes : ℕ) (position : ℕ → ℕ) (v : ℕ) → (nat_lt v nodes && (position v == 0)) ≡ true →
+    (v < nodes) × (position v ≡ 0)
+in_set nodes position v e =
+    let p = and_parts (nat_lt v nodes) (position v == 0) e in (ltb-true v nodes p.0, eqb-true (position v) 0 p.1)
+
+-- the test of an unreached basin node holds
+pub set_from : (nodes : ℕ) (position : ℕ → ℕ) (v : ℕ) → v < nodes → position v ≡ 0 →
+    (nat_lt v nodes && (position v == 0)) ≡ true
+set_from nodes position v b z = and_from (nat_lt v nodes) (position v == 0) (lt-ltb v nodes b) (eq-eqb (position v) 0 z)
+
+-- where the outside is reached, so is each node that fails the test
+pub not_in_set : (nodes : ℕ) (position : ℕ → ℕ) (v : ℕ) → v ≤ nodes → 0 < position nodes →
+    (nat_lt v nodes && (position v == 0)) ≡ false → 0 < position v
+not_in_set nodes position v b out e = elim (and_cases (nat_lt v nodes) (position v == 0) e) [
+  | inl f ↦
+      let at_end : v ≡ nodes = omega (arith, ltb-false v nodes f) in
+      subst (λ (u : ℕ). 0 < position u) (sym at_end) out
+  | inr f ↦ let ne = eqb-false (position v) 0 f in omega (arith, ne)
+]
+
+-- where the search reached all that it could and not the tail, the nodes that it did not reach are a tight cut
+pub tight_cut : (w : Network) (g : ℕ → ℕ) (r : ℕ) (position node step : ℕ → ℕ) (size : ℕ) → r < w.arcs → HasEnds w →
+    IsFlow w g → HasWayOut w r → IsTree w g r 1 position node step size → IsClosed w g r 1 position →
+    position (w.from r) ≡ 0 → IsTight w g r (λ v. nat_lt v w.nodes && (position v == 0))
+tight_cut w g r position node step size b ends flow way t closed none =
+    let head : 0 < position (w.to r) = omega (arith, ap position t.root, (t.placed 0 t.some).1) in
+    let out = reached_along w g r position (w.to r) way.path ends flow closed (ends.to_in r b) head way.leads in
+    let tail_in : w.from r < w.nodes = elim (cases_lt (w.from r) w.nodes) [
+      | inl c ↦ c
+      | inr c ↦
+          let from_in = ends.from_in r b in
+          let is : w.from r ≡ w.nodes = omega arith in
+          absurd (omega (arith, ap position is))
+    ] in
+    tight-from_closed w r (λ v. nat_lt v w.nodes && (position v == 0)) g b
+    record {
+      basin = λ v c. and_left (nat_lt v w.nodes) (position v == 0) (le-ltb v w.nodes c);
+      tail = set_from w.nodes position (w.from r) tail_in none;
+      head = and_right (nat_lt (w.to r) w.nodes) (position (w.to r) == 0)
+          (ne_eqb (position (w.to r)) 0 (λ e. absurd (omega arith)));
+    }
+    flow
+    (λ a c e.
+    let parts = and_parts (nat_lt (w.to a) w.nodes && (position (w.to a) == 0))
+    (not (nat_lt (w.from a) w.nodes && (position (w.from a) == 0))) e in
+    let into = in_set w.nodes position (w.to a) parts.0 in
+    let from = not_in_set w.nodes position (w.from a) (ends.from_in a c) out
+    (not-true (nat_lt (w.from a) w.nodes && (position (w.from a) == 0)) parts.1) in
+    elim (cases_lt (g a) (w.upper a)) [
+      | inl room ↦
+          elim (cases_eq a r) [
+            | inl is ↦ absurd (omega (arith, head, into.1, ap (λ (x : ℕ). position (w.to x)) is))
+            | inr ne ↦ absurd (omega (arith, (closed (w.from a) (ends.from_in a c) from).out a c refl ne (omega arith), into.1))
+          ]
+      | inr full ↦ omega (arith, flow.high a c)
+    ])
+    (λ a c e ne.
+    let parts = and_parts (nat_lt (w.from a) w.nodes && (position (w.from a) == 0))
+    (not (nat_lt (w.to a) w.nodes && (position (w.to a) == 0))) e in
+    let from = in_set w.nodes position (w.from a) parts.0 in
+    let into = not_in_set w.nodes position (w.to a) (ends.to_in a c) out
+    (not-true (nat_lt (w.to a) w.nodes && (position (w.to a) == 0)) parts.1) in
+    elim (cases_lt (w.lower a) (g a)) [
+      | inl room ↦ absurd (omega (arith, (closed (w.to a) (ends.to_in a c) into).into a c refl ne (omega arith), from.1))
+      | inr empty ↦ omega (arith, flow.low a c)
+    ])
+
+-- no step with room leads into a set whose arcs have none
+blocked : (back : Bool) (w : Network) (g : ℕ → ℕ) (r least a : ℕ) (z : ℕ → Bool) → IsSaturated w g r z → a < w.arcs →
+    a ≢ r → 0 < least → z (by_way back (w.from a) (w.to a)) ≡ false →
+    least ≤ by_way back (w.upper a - g a) (g a - w.lower a) → z (by_way back (w.to a) (w.from a)) ≡ false
+blocked false w g r least a z s b ne p out room = elim (cases_Bool (z (w.to a))) [
+  | inl e ↦ absurd (omega (arith, s.full a b (and_from (z (w.to a)) (not (z (w.from a))) e (ap not out))))
+  | inr e ↦ e
+]
+blocked true w g r least a z s b ne p out room = elim (cases_Bool (z (w.from a))) [
+  | inl e ↦ absurd (omega (arith, s.empty a b (and_from (z (w.from a)) (not (z (w.to a))) e (ap not out)) ne))
+  | inr e ↦ e
+]
+
+-- no node of a tight cut was reached
+reached_outside : (n : ℕ) (w : Network) (g : ℕ → ℕ) (r : ℕ) (position node step : ℕ → ℕ) (size : ℕ) (z : ℕ → Bool) →
+    HasEnds w → IsTree w g r 1 position node step size → IsSaturated w g r z → z (w.to r) ≡ false → (k : ℕ) → k < n →
+    k < size → z (node k) ≡ false
+reached_outside zero w g r position node step size z ends t s head k b c = absurd (omega arith)
+reached_outside (suc n) w g r position node step size z ends t s head k b c = elim (cases_eq k 0) [
+  | inl e ↦ ap z (ap node e ∙ t.root) ∙ head
+  | inr ne ↦
+      let branch = t.grown k (omega arith) c in
+      let within = start_within w (step k) ends branch.arc in
+      let there = t.marked (start_of w (step k)) within branch.marked in
+      let earlier = reached_outside n w g r position node step size z ends t s head
+      (position (start_of w (step k)) - 1) (omega (arith, branch.marked, branch.before))
+      (omega (arith, branch.marked, there.0)) in
+      let start : z (start_of w (step k)) ≡ false = sym (ap z there.1) ∙ earlier in
+      sym (ap z branch.enters) ∙ blocked (is_back (step k)) w g r 1 (arc_of (step k)) z s branch.arc branch.other
+      (omega arith) start branch.room
+]
+
+-- the nodes that were not reached contain every tight cut
+pub greatest_cut : (w : Network) (g : ℕ → ℕ) (r : ℕ) (position node step : ℕ → ℕ) (size : ℕ) → r < w.arcs → HasEnds w →
+    IsFlow w g → IsTree w g r 1 position node step size → (z : ℕ → Bool) → IsTight w g r z → (v : ℕ) → z v ≡ true →
+    (nat_lt v w.nodes && (position v == 0)) ≡ true
+greatest_cut w g r position node step size b ends flow t z tight v e =
+    let basin : v < w.nodes = elim (cases_lt v w.nodes)
+    [ inl c ↦ c | inr c ↦ absurd (both_ways (z v) (tight.cut.basin v c) e) ] in
+    elim (cases_eq (position v) 0) [
+      | inl none ↦ set_from w.nodes position v basin none
+      | inr ne ↦
+          let there = t.marked v (omega arith) (omega arith) in
+          let outside = reached_outside size w g r position node step size z ends t
+          (saturated-from_tight w r z g b flow tight) tight.cut.head (position v - 1) (omega (arith, there.0, ne))
+          (omega (arith, there.0, ne)) in
+          absurd (both_ways (z v) (sym (ap z there.1) ∙ outside) e)
+    ]

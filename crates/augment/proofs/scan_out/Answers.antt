@@ -1,0 +1,51 @@
+use Rattle.std.proofs.Common.{◌+◌, arith, ap, length}
+use Rattle.circulation.specs.Contents.{Contents}
+use Rattle.circulation.proofs.RowPlaces.{row_falls}
+use Rattle.augment.proofs.Scans.{scan_out_start, scan_out_next, scan_out_end, scan_out_at}
+use Rattle.augment.proofs.scan_out.Goals as goal
+
+pub loop-next-init : goal.loop-next-init
+loop-next-init c = record {
+  at = (0, scan_out_start _ _ _ _ _ _ c.requires.tree c.first_out-next.ensures.arc);
+  kept =
+      c.requires.kept;
+}
+
+pub try_arc-count-requires-clause-via : goal.try_arc-count-requires-clause-via
+try_arc-count-requires-clause-via c = (scan_out_at _ _ _ _ _ _ _ _ _ _ c.loop-next.invariant.at.1 c.in-Some.is
+    c.requires.node c.requires.marked).0
+
+pub try_arc-count-requires-clause-marked : goal.try_arc-count-requires-clause-marked
+try_arc-count-requires-clause-marked c = (scan_out_at _ _ _ _ _ _ _ _ _ _ c.loop-next.invariant.at.1 c.in-Some.is
+    c.requires.node c.requires.marked).1
+
+pub try_arc-count-requires-clause-tree : goal.try_arc-count-requires-clause-tree
+try_arc-count-requires-clause-tree c = c.loop-next.invariant.at.1.visited.tree
+
+pub next_out-next-requires : goal.next_out-next-requires
+next_out-next-requires c =
+    let at = scan_out_at _ _ _ _ _ _ _ _ _ _ c.loop-next.invariant.at.1 c.in-Some.is c.requires.node c.requires.marked in
+    omega (arith, at.0, ap (λ (x : Contents). length x.from) c.try_arc-count.ensures.visited.rest)
+
+pub loop-next-preserved : goal.loop-next-preserved
+loop-next-preserved c = record {
+  at = (
+    c.in-Some.via + 1,
+    scan_out_next _ _ _ _ _ _ _ _ _ _ _ _ _ c.requires.kept c.loop-next.invariant.at.1
+        c.in-Some.is c.try_arc-count.ensures.visited c.try_arc-count.ensures.done c.next_out-next.ensures,
+  );
+  kept = c.try_arc-count.ensures.kept;
+}
+
+pub loop-next-smaller : goal.loop-next-smaller
+loop-next-smaller c =
+    let at = scan_out_at _ _ _ _ _ _ _ _ _ _ c.loop-next.invariant.at.1 c.in-Some.is c.requires.node c.requires.marked in
+    let more = scan_out_next _ _ _ _ _ _ _ _ _ _ _ _ _ c.requires.kept c.loop-next.invariant.at.1 c.in-Some.is
+    c.try_arc-count.ensures.visited c.try_arc-count.ensures.done c.next_out-next.ensures in
+    row_falls _ c.in-Some.via _ c.next_out-next.result c.in-Some.is at.2 more.row.after
+
+pub returns-clause-visited : goal.returns-clause-visited
+returns-clause-visited c = c.loop-next.invariant.at.1.visited
+
+pub returns-clause-done : goal.returns-clause-done
+returns-clause-done c = λ _. scan_out_end _ _ _ _ _ _ _ _ _ c.loop-next.invariant.at.1 c.in_default.is

@@ -1,5 +1,0 @@
-pub mod Command
-pub mod Refusal
-pub mod Ending
-pub mod Outcome
-pub mod Code

@@ -1,0 +1,6 @@
+use Rattle.basin_tree.specs.Tables.{row_of}
+use Rattle.basin_tree.proofs.Chains.{list_any-map}
+use Rattle.basin_tree.proofs.keys.lacks_key.Goals as goal
+
+pub returns : goal.returns
+returns c = rw (← c.keys.ensures) (rw (list_any-map row_of) c.lacks_some.ensures)

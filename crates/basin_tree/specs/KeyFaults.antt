@@ -1,0 +1,56 @@
+-- Faults of keys and values: whether an entry has them. Each is one test of an entry, given the whole document.
+use Rattle.std.specs.Prelude.{ℕ, ◌==◌, List, [], ◌∷◌, Bool, false, not, ◌&&◌, ◌||◌, is_some, codes, option_and_then}
+use Rattle.std.specs.List.{list_any}
+use Rattle.std.specs.Option.{option_map_or}
+use Rattle.std.specs.Str.{bytes_eq}
+use Rattle.toml.specs.Data.{Data, Members, no_members, member, get_member, as_array}
+use Rattle.basin_tree.specs.declared.tables.BasinTable.{BasinTable}
+use Rattle.basin_tree.specs.declared.tables.BasinTable.TheVariants.{Top}
+use Rattle.basin_tree.specs.declared.tables.Kind.{Kind}
+use Rattle.basin_tree.specs.Tables.{KeyRow, keys_of}
+use Rattle.basin_tree.specs.Kinds.{has_kind}
+use Rattle.toml_tree.specs.Items.{items_len}
+use Rattle.basin_tree.specs.Ranges.{in_range, ends_late}
+use Rattle.basin_tree.specs.Entries.{Entry}
+
+abbrev pub names_in : Members → List (List ℕ)
+names_in no_members = []
+names_in (member name d ms) = name ∷ names_in ms
+
+abbrev pub is_known : List KeyRow → List ℕ → Bool
+is_known keys name = list_any (λ key. bytes_eq name key.name) keys
+
+-- the entry has a key that its table doesn't know
+abbrev pub unknown_key : Members → Entry → Bool
+unknown_key tree e = list_any (λ name. not (is_known (keys_of e.table) name)) (names_in e.row)
+
+abbrev pub lacks_key : BasinTable → Members → Bool
+lacks_key table row = list_any (λ key. key.is_required && not (is_some (get_member key.name row))) (keys_of table)
+
+-- `node` is an empty list
+abbrev pub has_no_nodes : BasinTable → Members → Bool
+has_no_nodes Top row =
+    option_map_or (λ items. items_len items == 0) (option_and_then as_array (get_member (codes "node") row)) false
+has_no_nodes _ row = false
+
+-- a key that has to be there is absent, or no node is listed
+abbrev pub missing_key : Members → Entry → Bool
+missing_key tree e = lacks_key e.table e.row || has_no_nodes e.table e.row
+
+-- whether the value at some key of the entry passes a test of the key's kind and the value
+abbrev pub any_value : (Kind → Data → Bool) → BasinTable → Members → Bool
+any_value test table row =
+    list_any (λ key. option_map_or (test key.kind) (get_member key.name row) false) (keys_of table)
+
+-- a value isn't of its key's kind
+abbrev pub wrong_kind : Members → Entry → Bool
+wrong_kind tree e = any_value (λ kind d. not (has_kind kind d)) e.table e.row
+
+-- the run that is told by the top table ends too late
+abbrev pub runs_late : BasinTable → Members → Bool
+runs_late Top row = ends_late row
+runs_late _ row = false
+
+-- a number or month is out of its range, or the run ends too late
+abbrev pub out_of_range : Members → Entry → Bool
+out_of_range tree e = any_value (λ kind d. not (in_range kind d)) e.table e.row || runs_late e.table e.row

@@ -1,0 +1,10 @@
+pub mod Faults
+pub mod Tables
+pub mod Kinds
+pub mod Ranges
+pub mod Entries
+pub mod KeyFaults
+pub mod Places
+pub mod NameFaults
+pub mod Order
+pub mod Documents

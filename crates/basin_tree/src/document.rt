@@ -1,0 +1,143 @@
+//! A document, and where the entries stand that its names name.
+ghost use Rattle.std.specs.Prelude.{◌≡◌, [], codes, IfOk, option_map, if◌then◌else◌};
+ghost use Rattle.toml.specs.View.{table_view, items_view};
+ghost use Rattle.toml_tree.specs.FirstPlaces.{KeepsPlaces, earlier_from};
+ghost use Rattle.toml_tree.specs.Texts.{texts_behind, earlier_like};
+ghost use Rattle.basin_tree.specs.Entries.{items_at};
+ghost use Rattle.basin_tree.specs.Places.{own_key, texts_in, texts_of, named_at};
+ghost use Rattle.basin_tree.specs.declared.tables.BasinTable.TheVariants.{Return};
+ghost use Rattle.basin_tree.specs.declared.tables.Space.TheVariants.{Nodes, Links, Reservoirs, Diversions, Rights};
+
+use crate::tables::{BasinTable, Space};
+use indexmap::IndexMap;
+use std::alloc::{AllocError, Global};
+use toml::{Table, Value};
+use toml_tree::places::{add_places, earlier_of, places_of};
+use toml_tree::values::{items_of, member};
+
+/// A document with, for each name of a space, the first place that has it, and for each return row the number of
+/// earlier rows of its diversion.
+#[derive(Drop)]
+pub struct Document<'a> {
+    pub tree: &'a Table,
+    nodes: IndexMap<&'a str, u64>,
+    links: IndexMap<&'a str, u64>,
+    reservoirs: IndexMap<&'a str, u64>,
+    diversions: IndexMap<&'a str, u64>,
+    rights: IndexMap<&'a str, u64>,
+    earlier: Vec<u64>,
+    ghost nodes_kept: { KeepsPlaces nodes (texts_of (table_view tree.now) Nodes) },
+    ghost links_kept: { KeepsPlaces links (texts_of (table_view tree.now) Links) },
+    ghost reservoirs_kept: { KeepsPlaces reservoirs (texts_of (table_view tree.now) Reservoirs) },
+    ghost diversions_kept: { KeepsPlaces diversions (texts_of (table_view tree.now) Diversions) },
+    ghost rights_kept: { KeepsPlaces rights (texts_of (table_view tree.now) Rights) },
+    ghost earlier_kept: {
+        earlier.items ≡ earlier_from [] (texts_behind (codes "diversion") (items_at (table_view tree.now) Return))
+    },
+}
+
+/// What a table lists.
+fn listed_at(tree: &Table, table: BasinTable) -> &[Value]
+    ensures { items_view result.now ≡ items_at (table_view tree.now) table }
+{
+    match member(tree, table.name()) {
+        Some(value) => match items_of(value) {
+            Some(items) => items,
+            None => &[],
+        },
+        None => &[],
+    }
+}
+
+/// The key whose text names an entry.
+pub fn own_key(table: BasinTable) -> &'static str
+    ensures { result.now ≡ own_key table }
+{
+    match table {
+        BasinTable::Reservoir => "node",
+        _ => "name",
+    }
+}
+
+fn table_places<'a>(
+    alloc: Global,
+    tree: &'a Table,
+    table: BasinTable,
+) -> Result<IndexMap<&'a str, u64>, AllocError>
+    ensures {
+        IfOk result (λ places. KeepsPlaces places (texts_in (table_view tree.now) table))
+    }
+{
+    places_of(alloc, listed_at(tree, table), own_key(table))
+}
+
+fn right_places<'a>(alloc: Global, tree: &'a Table) -> Result<IndexMap<&'a str, u64>, AllocError>
+    ensures { IfOk result (λ places. KeepsPlaces places (texts_of (table_view tree.now) Space.Rights)) }
+{
+    let diversions = listed_at(tree, BasinTable::Diversion);
+    let instreams = listed_at(tree, BasinTable::Instream);
+    let zones = listed_at(tree, BasinTable::Zone);
+    let mut places = places_of(alloc, diversions, "name")?;
+    add_places(&mut places, instreams, "name", diversions.len() as u64)?;
+    add_places(
+        &mut places,
+        zones,
+        "name",
+        diversions.len() as u64 + instreams.len() as u64,
+    )?;
+    Ok(places)
+}
+
+impl<'a> Document<'a> {
+    ghost use Rattle.basin_tree.specs.Documents.{tree_of};
+
+    /// The document with this top table.
+    pub fn of(alloc: Global, tree: &'a Table) -> Result<Document<'a>, AllocError>
+        ensures { IfOk result (λ document. tree_of document ≡ table_view tree.now) }
+    {
+        let nodes = table_places(alloc, tree, BasinTable::Node)?;
+        let links = table_places(alloc, tree, BasinTable::Link)?;
+        let reservoirs = table_places(alloc, tree, BasinTable::Reservoir)?;
+        let diversions = table_places(alloc, tree, BasinTable::Diversion)?;
+        let rights = right_places(alloc, tree)?;
+        let earlier = earlier_of(alloc, listed_at(tree, BasinTable::Return), "diversion")?;
+        Ok(Document {
+            tree,
+            nodes,
+            links,
+            reservoirs,
+            diversions,
+            rights,
+            earlier,
+        })
+    }
+
+    /// What a table lists, in the order of the file.
+    pub fn items_at(&self, table: BasinTable) -> &[Value]
+        ensures { items_view result.now ≡ items_at (tree_of self.now) table }
+    {
+        listed_at(self.tree, table)
+    }
+
+    /// The place in its space, from 0, of the first entry that has the name.
+    pub fn named_at(&self, space: Space, name: &str) -> Option<u64>
+        ensures { result ≡ named_at (tree_of self.now) space name.now }
+    {
+        match space {
+            Space::Nodes => self.nodes.get(name).copied(),
+            Space::Links => self.links.get(name).copied(),
+            Space::Reservoirs => self.reservoirs.get(name).copied(),
+            Space::Diversions => self.diversions.get(name).copied(),
+            Space::Rights => self.rights.get(name).copied(),
+        }
+    }
+
+    /// How many earlier return rows have the row's diversion, by the place of the row from 0.
+    pub fn earlier_rows(&self, place: u64) -> u64
+        ensures {
+            result ≡ earlier_like (texts_behind (codes "diversion") (items_at (tree_of self.now) BasinTable.Return)) place
+        }
+    {
+        self.earlier.get(place as usize).copied().unwrap_or(0)
+    }
+}

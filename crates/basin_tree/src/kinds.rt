@@ -1,0 +1,146 @@
+//! Values of the wrong kind.
+ghost use Rattle.std.specs.Prelude.{◌≡◌, ◌==◌, ◌&&◌, not, false, is_some, codes, length};
+ghost use Rattle.std.specs.List.{list_all};
+ghost use Rattle.std.specs.Option.{option_map_or};
+ghost use Rattle.std.specs.Str.{bytes_eq};
+ghost use Rattle.toml.specs.Data.{as_array, as_table};
+ghost use Rattle.toml.specs.View.{view};
+ghost use Rattle.water_text.specs.Shapes.{has_shape};
+ghost use Rattle.toml_tree.specs.Items.{items_all};
+ghost use Rattle.basin_tree.specs.Kinds.{has_kind, is_whole, is_listed, is_monthly, is_text};
+ghost use Rattle.basin_tree.specs.KeyFaults.{wrong_kind};
+
+use crate::document::Document;
+use crate::keys::{ValueTest, any_value};
+use crate::tables::{BasinTable, Kind};
+use crate::walk::EntryTest;
+use toml::{Table, Value};
+use toml_tree::values::items_of;
+use water_text::day::has_day_shape;
+use water_text::month::has_month_shape;
+
+/// The test of `BasinFault::WrongKind`.
+pub struct WrongKind;
+
+impl ValueTest for WrongKind {
+    ghost fails = { λ _ kind d. not (has_kind kind d) };
+
+    fn fails_for(_document: &Document, kind: Kind, value: &Value) -> bool {
+        !has_kind(kind, value)
+    }
+}
+
+impl EntryTest for WrongKind {
+    ghost fails = { wrong_kind };
+
+    fn fails_at(document: &Document, table: BasinTable, _number: u64, row: &Table) -> bool {
+        any_value::<WrongKind>(document, table, row)
+    }
+}
+
+fn is_whole(value: &Value) -> bool
+    ensures { result ≡ is_whole (view value.now) }
+{
+    value.is_integer()
+}
+
+fn are_whole(values: &[Value]) -> bool
+    ensures { result ≡ list_all (λ v. is_whole (view v)) values.now }
+{
+    values.iter().all(|value| is_whole(value))
+}
+
+fn are_so_many_whole(values: &[Value], count: usize) -> bool
+    ensures { result ≡ (length values.now == count && list_all (λ v. is_whole (view v)) values.now) }
+{
+    values.len() == count && are_whole(values)
+}
+
+fn is_whole_list(value: &Value, count: usize) -> bool
+    ensures { result ≡ is_listed is_whole count (view value.now) }
+{
+    match items_of(value) {
+        Some(values) => are_so_many_whole(values, count),
+        None => false,
+    }
+}
+
+fn is_monthly(value: &Value) -> bool
+    ensures { result ≡ is_monthly (view value.now) }
+{
+    is_whole(value) || is_whole_list(value, 12)
+}
+
+fn are_tables(values: &[Value]) -> bool
+    ensures { result ≡ list_all (λ v. is_some (as_table (view v))) values.now }
+{
+    values.iter().all(|value| value.is_table())
+}
+
+fn is_table_list(value: &Value) -> bool
+    ensures { result ≡ option_map_or (items_all (λ x. is_some (as_table x))) (as_array (view value.now)) false }
+{
+    match items_of(value) {
+        Some(values) => are_tables(values),
+        None => false,
+    }
+}
+
+fn are_pairs(values: &[Value]) -> bool
+    ensures { result ≡ list_all (λ v. is_listed is_whole 2 (view v)) values.now }
+{
+    values.iter().all(|value| is_whole_list(value, 2))
+}
+
+fn is_pair_list(value: &Value) -> bool
+    ensures { result ≡ option_map_or (items_all (is_listed is_whole 2)) (as_array (view value.now)) false }
+{
+    match items_of(value) {
+        Some(values) => are_pairs(values),
+        None => false,
+    }
+}
+
+fn is_month_text(value: &Value) -> bool
+    ensures { result ≡ is_text (has_shape (codes "dddd-dd")) (view value.now) }
+{
+    match value.as_str() {
+        Some(text) => has_month_shape(text.as_bytes()),
+        None => false,
+    }
+}
+
+fn is_date_text(value: &Value) -> bool
+    ensures { result ≡ is_text (has_shape (codes "dddd-dd-dd")) (view value.now) }
+{
+    match value.as_str() {
+        Some(text) => has_day_shape(text.as_bytes()),
+        None => false,
+    }
+}
+
+fn is_gauged(value: &Value) -> bool
+    ensures { result ≡ is_text (bytes_eq (codes "gauged")) (view value.now) }
+{
+    match value.as_str() {
+        Some(text) => "gauged" == text,
+        None => false,
+    }
+}
+
+fn has_kind(kind: Kind, value: &Value) -> bool
+    ensures { result ≡ has_kind kind (view value.now) }
+{
+    match kind {
+        Kind::Tables => is_table_list(value),
+        Kind::Whole(..) => is_whole(value),
+        Kind::Truth => value.is_bool(),
+        Kind::Name => value.is_str(),
+        Kind::Refers(_) => value.is_str(),
+        Kind::MonthText => is_month_text(value),
+        Kind::DateText => is_date_text(value),
+        Kind::Monthly(_) => is_monthly(value),
+        Kind::Inflow => is_monthly(value) || is_gauged(value),
+        Kind::Points => is_pair_list(value),
+    }
+}

@@ -1,0 +1,145 @@
+//! Numbers and months out of their range.
+ghost use Rattle.std.specs.Prelude.{◌≡◌, not, true, is_some};
+ghost use Rattle.std.specs.List.{list_all};
+ghost use Rattle.std.specs.Option.{option_map_or};
+ghost use Rattle.toml.specs.Data.{as_array, as_str};
+ghost use Rattle.toml.specs.View.{view, table_view, items_view};
+ghost use Rattle.water_text.specs.Months.{read_month};
+ghost use Rattle.toml_tree.specs.Items.{items_all};
+ghost use Rattle.basin_tree.specs.Ranges.{number_in, numbers_in, pair_in, points_in, in_range, ends_late};
+ghost use Rattle.basin_tree.specs.KeyFaults.{out_of_range, runs_late};
+
+use crate::document::Document;
+use crate::keys::{ValueTest, any_value};
+use crate::tables::{BasinTable, Kind};
+use crate::walk::EntryTest;
+use toml::{Table, Value};
+use toml_tree::values::{is_between, items_of, text_or_empty, whole_at};
+use water_text::month::Month;
+
+/// The test of `BasinFault::OutOfRange`.
+pub struct OutOfRange;
+
+impl ValueTest for OutOfRange {
+    ghost fails = { λ _ kind d. not (in_range kind d) };
+
+    fn fails_for(_document: &Document, kind: Kind, value: &Value) -> bool {
+        !in_range(kind, value)
+    }
+}
+
+impl EntryTest for OutOfRange {
+    ghost fails = { out_of_range };
+
+    fn fails_at(document: &Document, table: BasinTable, _number: u64, row: &Table) -> bool {
+        any_value::<OutOfRange>(document, table, row) || runs_late(table, row)
+    }
+}
+
+fn ends_late(top: &Table) -> bool
+    ensures { result ≡ ends_late (table_view top.now) }
+{
+    match Month::read(text_or_empty(top, "first_month").as_bytes()) {
+        Some(first) => {
+            let months = whole_at(top, "months", 1, 1_200, 1) as u32;
+            first.plus(months - 1).is_none()
+        }
+        None => false,
+    }
+}
+
+fn runs_late(table: BasinTable, row: &Table) -> bool
+    ensures { result ≡ runs_late table (table_view row.now) }
+{
+    match table {
+        BasinTable::Top => ends_late(row),
+        _ => false,
+    }
+}
+
+fn month_in(value: &Value) -> bool
+    ensures { result ≡ option_map_or (λ text. is_some (read_month text)) (as_str (view value.now)) true }
+{
+    match value.as_str() {
+        Some(text) => Month::read(text.as_bytes()).is_some(),
+        None => true,
+    }
+}
+
+fn number_in(value: &Value, least: u64, most: u64) -> bool
+    ensures { result ≡ number_in least most (view value.now) }
+{
+    match value.as_integer() {
+        Some(z) => is_between(z, least, most),
+        None => true,
+    }
+}
+
+fn all_in(values: &[Value], most: u64) -> bool
+    ensures { result ≡ list_all (λ v. number_in 0 most (view v)) values.now }
+{
+    values.iter().all(|value| number_in(value, 0, most))
+}
+
+fn items_in(value: &Value, most: u64) -> bool
+    ensures { result ≡ option_map_or (items_all (number_in 0 most)) (as_array (view value.now)) true }
+{
+    match items_of(value) {
+        Some(values) => all_in(values, most),
+        None => true,
+    }
+}
+
+fn numbers_in(value: &Value, most: u64) -> bool
+    ensures { result ≡ numbers_in most (view value.now) }
+{
+    number_in(value, 0, most) && items_in(value, most)
+}
+
+fn pair_in(values: &[Value]) -> bool
+    ensures { result ≡ pair_in (items_view values.now) }
+{
+    match values {
+        [storage, area, ..] => {
+            number_in(storage, 0, 16_000_000_000) && number_in(area, 0, 1_000_000_000)
+        }
+        _ => true,
+    }
+}
+
+fn point_in(value: &Value) -> bool
+    ensures { result ≡ option_map_or pair_in (as_array (view value.now)) true }
+{
+    match items_of(value) {
+        Some(values) => pair_in(values),
+        None => true,
+    }
+}
+
+fn all_points_in(values: &[Value]) -> bool
+    ensures { result ≡ list_all (λ v. option_map_or pair_in (as_array (view v)) true) values.now }
+{
+    values.iter().all(|value| point_in(value))
+}
+
+fn points_in(value: &Value) -> bool
+    ensures { result ≡ points_in (view value.now) }
+{
+    match items_of(value) {
+        Some(values) => all_points_in(values),
+        None => true,
+    }
+}
+
+fn in_range(kind: Kind, value: &Value) -> bool
+    ensures { result ≡ in_range kind (view value.now) }
+{
+    match kind {
+        Kind::Whole(least, most) => number_in(value, least, most),
+        Kind::Monthly(most) => numbers_in(value, most),
+        Kind::Inflow => numbers_in(value, 1_000_000_000),
+        Kind::MonthText => month_in(value),
+        Kind::Points => points_in(value),
+        _ => true,
+    }
+}

@@ -1,0 +1,158 @@
+-- A push along a closed walk keeps the flow: what holds when the steps before `at` are done.
+use Rattle.std.proofs.Common.{ℕ, Bool, true, false, not, ◌==◌, ◌≡◌, ◌≢◌, ◌+◌, ◌-◌, ◌<◌, ◌≤◌, List, length, slice_index, refl, arith, ap, sym, subst, inl, inr, ◌∙◌}
+use Rattle.std.proofs.lemmas.Bool.Decides.{eqb_tells}
+use Rattle.place_sums.specs.Sums.{when}
+use Rattle.circulation.specs.Contents.{Contents, network, flow_of, step_of, IsCirculation}
+use Rattle.circulation.specs.Network.{Network, IsFlow, inflow, outflow}
+use Rattle.circulation.specs.Residual.{arc_of, is_back, by_way, start_of, end_of, IsClosedWalk, IsPushed}
+use Rattle.place_sums.proofs.Totals.{total_change}
+use Rattle.circulation.proofs.Kept.{flow-kept}
+
+-- the sums at a node, by the way of the step and whether its arc leaves or enters the node
+step_sums : (back f t : Bool) (d x y o p i j : ℕ) → y + when back d ≡ x + when (not back) d →
+    p + when f x ≡ o + when f y → j + when t x ≡ i + when t y →
+    p + i + when (by_way back t f) d ≡ o + j + when (by_way back f t) d
+step_sums true true true d x y o p i j a b c = omega arith
+step_sums true true false d x y o p i j a b c = omega arith
+step_sums true false true d x y o p i j a b c = omega arith
+step_sums true false false d x y o p i j a b c = omega arith
+step_sums false true true d x y o p i j a b c = omega arith
+step_sums false true false d x y o p i j a b c = omega arith
+step_sums false false true d x y o p i j a b c = omega arith
+step_sums false false false d x y o p i j a b c = omega arith
+
+-- a test of the one that is chosen
+by_way-test : (back : Bool) (x y v : ℕ) → (by_way back x y == v) ≡ by_way back (x == v) (y == v)
+by_way-test true x y v = refl
+by_way-test false x y v = refl
+
+-- one step moves its amount from the node that it enters to the node that it leaves
+pub moved_by_step : (w : Network) (g h : ℕ → ℕ) (s d : ℕ) → arc_of s < w.arcs →
+    h (arc_of s) + when (is_back s) d ≡ g (arc_of s) + when (not (is_back s)) d →
+    ((a : ℕ) → a < w.arcs → a ≢ arc_of s → h a ≡ g a) → (v : ℕ) →
+    outflow w h v + inflow w g v + when (end_of w s == v) d ≡ outflow w g v + inflow w h v + when (start_of w s == v) d
+moved_by_step w g h s d b change other v =
+    let out = total_change w.arcs (arc_of s) (λ a. when (w.from a == v) (h a)) (λ a. when (w.from a == v) (g a)) b
+    (λ a c ne. ap (when (w.from a == v)) (other a c ne)) in
+    let into = total_change w.arcs (arc_of s) (λ a. when (w.to a == v) (h a)) (λ a. when (w.to a == v) (g a)) b
+    (λ a c ne. ap (when (w.to a == v)) (other a c ne)) in
+    let sums = step_sums (is_back s) (w.from (arc_of s) == v) (w.to (arc_of s) == v) d (g (arc_of s)) (h (arc_of s))
+    (outflow w g v) (outflow w h v) (inflow w g v) (inflow w h v) change out into in
+    let enter = ap (λ (b : Bool). when b d) (by_way-test (is_back s) (w.to (arc_of s)) (w.from (arc_of s)) v) in
+    let leave = ap (λ (b : Bool). when b d) (by_way-test (is_back s) (w.from (arc_of s)) (w.to (arc_of s)) v) in
+    omega (arith, sums, enter, leave)
+
+-- the steps from `first` to `at` are done
+pub record IsPushing (w : Network) (old new step : ℕ → ℕ) (first last at amount : ℕ) : Type 0 where
+  pub low : (a : ℕ) → a < w.arcs → w.lower a ≤ new a
+  pub high : (a : ℕ) → a < w.arcs → new a ≤ w.upper a
+  pub pushed : IsPushed old new step first at amount
+  pub moved : (t : ℕ) → (at < last → t ≡ start_of w (step at)) → (at ≡ last → t ≡ start_of w (step first)) →
+      (v : ℕ) → outflow w new v + inflow w old v + when (t == v) amount ≡ outflow w old v + inflow w new v + when
+      (start_of w (step first) == v) amount
+
+-- before the first step nothing changed
+pub pushing_start : (w : Network) (old step : ℕ → ℕ) (first last amount : ℕ) → first < last → IsFlow w old →
+    IsPushing w old old step first last first amount
+pushing_start w old step first last amount some flow = record {
+  low = flow.low;
+  high = flow.high;
+  pushed = record { on = λ i a b. absurd (omega arith); off = λ a h. refl };
+  moved = λ t at_last _ v. subst (λ (x : ℕ). outflow w old v + inflow w old v + when
+      (x == v) amount ≡ outflow w old v + inflow w old v + when (start_of w (step first) == v) amount)
+      (sym (at_last some)) refl;
+}
+
+-- after the last step each node is in balance again
+pub pushing_end : (w : Network) (old new step : ℕ → ℕ) (first last amount : ℕ) → IsFlow w old →
+    IsPushing w old new step first last last amount → IsFlow w new
+pushing_end w old new step first last amount flow p = record {
+  low = p.low;
+  high = p.high;
+  balanced = λ v b. omega (arith, flow.balanced v b, p.moved (start_of w (step first)) (λ c. absurd (omega arith)) (λ c. refl) v);
+}
+
+-- the arc of the next step has still its old flow
+pub untouched : (w : Network) (old new step : ℕ → ℕ) (first last at amount : ℕ) →
+    IsClosedWalk w old step first last amount → IsPushing w old new step first last at amount → first ≤ at → at < last →
+    new (arc_of (step at)) ≡ old (arc_of (step at))
+untouched w old new step first last at amount walk p a b = p.pushed.off (arc_of (step at)) (λ i c d. walk.once i at c d b)
+
+-- an amount within the room keeps the bounds
+within_room : (back : Bool) (d x y low high : ℕ) → 0 < d → low ≤ x → x ≤ high → d ≤ by_way back (high - x) (x - low) →
+    y + when back d ≡ x + when (not back) d → (low ≤ y) × (y ≤ high)
+within_room true d x y low high p a b room change = (omega arith, omega arith)
+within_room false d x y low high p a b room change = (omega arith, omega arith)
+
+-- one more step is done
+pub pushing_next : (w : Network) (old new next step : ℕ → ℕ) (first last at amount : ℕ) → IsFlow w old →
+    IsClosedWalk w old step first last amount → IsPushing w old new step first last at amount → first ≤ at → at < last →
+    next (arc_of (step at)) + when (is_back (step at)) amount ≡ new (arc_of (step at)) + when (not (is_back (step at))) amount →
+    ((a : ℕ) → a ≢ arc_of (step at) → next a ≡ new a) → IsPushing w old next step first last (at + 1) amount
+pushing_next w old new next step first last at amount flow walk p a b change other =
+    let same : new (arc_of (step at)) ≡ old (arc_of (step at)) = untouched w old new step first last at amount walk p a b in
+    let inside : arc_of (step at) < w.arcs = walk.arc at a b in
+    let bounds = within_room (is_back (step at)) amount (old (arc_of (step at))) (next (arc_of (step at)))
+    (w.lower (arc_of (step at))) (w.upper (arc_of (step at))) walk.positive (flow.low _ inside)
+    (flow.high _ inside) (walk.room at a b) (omega (arith, same, change)) in
+    record {
+      low = λ x c. elim (eqb_tells x (arc_of (step at))) [
+        | inl e ↦ subst (λ (y : ℕ). w.lower y ≤ next y) (sym e.1) bounds.0
+        | inr e ↦ omega (arith, p.low x c, other x e.1)
+      ];
+      high = λ x c. elim (eqb_tells x (arc_of (step at))) [
+        | inl e ↦ subst (λ (y : ℕ). next y ≤ w.upper y) (sym e.1) bounds.1
+        | inr e ↦ omega (arith, p.high x c, other x e.1)
+      ];
+      pushed = record {
+        on = λ i c d. elim (eqb_tells i at) [
+          | inl e ↦ subst (λ (y : ℕ). next (arc_of (step y)) + when (is_back (step y)) amount ≡ old
+              (arc_of (step y)) + when (not (is_back (step y))) amount) (sym e.1) (omega (arith, same, change))
+          | inr e ↦
+              let before : i < at = omega arith in
+              omega (arith, p.pushed.on i c before, other (arc_of (step i)) (walk.once i at c before b))
+        ];
+        off = λ x h. other x (λ e. h at a (omega arith) (sym e)) ∙ p.pushed.off x (λ i c d. h i c (omega arith));
+      };
+      moved = λ t on_way at_end v.
+          let before = p.moved (start_of w (step at)) (λ c. refl) (λ c. absurd (omega arith)) v in
+          let now = moved_by_step w new next (step at) amount inside change (λ x c ne. other x ne) v in
+          let joined : end_of w (step at) ≡ t = elim
+          (eqb_tells (at + 1) last) [
+            | inl e ↦ walk.closed at e.1 ∙ sym
+                (at_end e.1)
+            | inr e ↦ let c : at + 1 < last = omega arith in walk.joined at a c ∙ sym (on_way c)
+          ] in
+          let there = ap (λ (x : ℕ). when (x == v) amount) joined in
+          omega (arith, before, now, there);
+    }
+
+-- the amount can be taken or added at the next step
+pub change_fits : (w : Network) (old new step : ℕ → ℕ) (first last at amount : ℕ) → IsFlow w old →
+    IsClosedWalk w old step first last amount → IsPushing w old new step first last at amount → first ≤ at → at < last →
+    (is_back (step at) ≡ true → amount ≤ new (arc_of (step at))) ×
+    (is_back (step at) ≡ false → new (arc_of (step at)) + amount ≤ w.upper (arc_of (step at)))
+change_fits w old new step first last at amount flow walk p a b =
+    let same : new (arc_of (step at)) ≡ old (arc_of (step at)) = untouched w old new step first last at amount walk p a b in
+    let room = walk.room at a b in
+    let low = flow.low _ (walk.arc at a b) in
+    let positive : 0 < amount = walk.positive in (
+      λ e. let r = subst (λ (t : Bool). amount ≤ by_way t (w.upper (arc_of (step at)) - old (arc_of (step at)))
+          (old (arc_of (step at)) - w.lower (arc_of (step at)))) e room in omega (arith, r, same),
+      λ e. let r = subst (λ (t : Bool). amount ≤ by_way t (w.upper (arc_of (step at)) - old (arc_of (step at)))
+          (old (arc_of (step at)) - w.lower (arc_of (step at)))) e room in omega (arith, r, same),
+    )
+
+-- a circulation keeps what it is when the steps are done
+pub pushed-kept : (c x : Contents) (written flow : List ℕ) (first last at amount : ℕ) → c ≡ x → IsCirculation c →
+    length flow ≡ length c.flow → written ≡ flow → at ≡ last →
+    IsPushing (network x) (flow_of x) (λ a. slice_index flow a) (step_of x) first last at amount →
+    IsCirculation (record c { flow = written })
+pushed-kept c x written flow first last at amount view k same is end p =
+    let kept = subst IsCirculation view k in
+    let done = subst (λ (n : ℕ). IsPushing (network x) (flow_of x) (λ a. slice_index flow a)
+    (step_of x) first last n amount) end p in
+    let last_flow = pushing_end (network x) (flow_of x) (λ a. slice_index flow a) (step_of x) first last amount kept.flow done in
+    let own_flow = subst (λ (y : Contents). IsFlow (network y) (λ a. slice_index flow a)) (sym view) last_flow in
+    let length_now : length flow ≡ length c.from = omega (arith, same, k.shape.flow) in
+    subst (λ (xs : List ℕ). IsCirculation (record c { flow = xs })) (sym is) (flow-kept c flow k length_now own_flow)

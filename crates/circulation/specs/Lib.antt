@@ -1,0 +1,5 @@
+pub mod Network
+pub mod Residual
+pub mod Contents
+pub mod ArcRows
+pub mod Circulation

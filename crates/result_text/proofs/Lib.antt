@@ -1,0 +1,6 @@
+pub mod Lengths
+pub mod Puts
+pub mod Entries
+pub mod Members
+pub mod MonthLines
+pub mod Whole

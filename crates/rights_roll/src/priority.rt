@@ -1,0 +1,41 @@
+//! What the order of rights goes by.
+ghost use Rattle.std.specs.Prelude.{◌≡◌};
+ghost use Rattle.water_model.specs.Rights.{priority, is_lower};
+ghost use Rattle.rights_roll.specs.Priorities.{numbers_of};
+
+use water_model::types::Right;
+
+/// The date of a right, and its order among the rights of that date. The lower is senior.
+#[derive(Clone, Copy, PartialEq, Eq, PartialOrd, Ord)]
+pub struct Priority {
+    year: u16,
+    month: u8,
+    day: u8,
+    order: u32,
+}
+
+impl Priority {
+    pub fn of(right: &Right) -> Priority
+        ensures { numbers_of result ≡ priority right.now }
+    {
+        Priority {
+            year: right.date.year,
+            month: right.date.month,
+            day: right.date.day,
+            order: right.order,
+        }
+    }
+
+    pub fn is_senior_to(&self, other: &Priority) -> bool
+        ensures { result ≡ is_lower (numbers_of self.now) (numbers_of other.now) }
+    {
+        self < other
+    }
+}
+
+/// Whether the one right is senior to the other: its date is earlier, or the dates are equal and its order is lower.
+pub fn is_senior(one: &Right, other: &Right) -> bool
+    ensures { result ≡ is_lower (priority one.now) (priority other.now) }
+{
+    Priority::of(one).is_senior_to(&Priority::of(other))
+}

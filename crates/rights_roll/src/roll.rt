@@ -1,0 +1,88 @@
+//! The roll of rights.
+ghost use Rattle.std.specs.Prelude.{◌≡◌, ◌-◌, ◌<◌, ◌≤◌, length, slice_index, slice_index_or, [], All, None, OnOk, IfOk, IfErr};
+ghost use Rattle.water_model.specs.Rights.{IsSoundRoll};
+ghost use Rattle.rights_roll.specs.RollFaults.{roll_fault, IsRollRefusal};
+ghost use Rattle.rights_roll.specs.Rolls.{IsRollOf};
+
+use crate::RollRefused;
+use crate::faults::{check_dates, check_parts};
+use crate::links::{Chains, chains_of};
+use crate::order::order_of;
+use crate::zones::check_zones;
+use std::alloc::{AllocError, Global};
+use std::marker::Model;
+use water_model::types::{ReturnRow, Right};
+
+/// The rights of a basin, without their names: their order by seniority, their wants, and the instream rights on each
+/// link. Rights and links are numbered from 0.
+#[derive(Drop)]
+pub struct Roll {
+    order: Vec<u32>,
+    wants: Vec<[u64; 12]>,
+    first_on: Vec<Option<u32>>,
+    next_on: Vec<Option<u32>>,
+}
+
+impl Model for Roll {
+    ghost use Rattle.std.specs.Prelude.{◌≡◌, length};
+    ghost use Rattle.rights_roll.specs.RollSeen.{RollSeen};
+
+    ghost Value = { RollSeen };
+
+    ghost view = { λ r. record { order = r.order.items; wants = r.wants.items; first_on = r.first_on.items; next_on = r.next_on.items } };
+
+    ghost invariant = { λ r. length r.next_on.items ≡ length r.wants.items };
+}
+
+impl Roll {
+    /// The roll of the rights, or what is at fault first: of dates, then of seniority, then of zones, then of return
+    /// rows. The rows name rights of the list, and parts are parts of 10,000.
+    pub fn build(alloc: Global, rights: &[Right], returns: &[ReturnRow]) -> Result<Roll, RollRefused>
+        requires few { length rights.now ≤ 2000 }
+        requires rows { All (λ row. row.right < length rights.now) returns.now }
+        ensures ok { IfOk result (IsRollOf rights.now) }
+        ensures sound { OnOk result (IsSoundRoll rights.now returns.now) }
+        ensures faultless { OnOk result (roll_fault rights.now returns.now ≡ None) }
+        ensures refused { IfErr result (λ e. IsRollRefusal e rights.now returns.now) }
+    {
+        check_dates(rights)?;
+        let order = order_of(alloc, rights)?;
+        check_zones(alloc, rights)?;
+        check_parts(alloc, rights, returns)?;
+        let wants = rights.iter().map(|right| right.want).collect(alloc)?;
+        let Chains { first_on, next_on } = chains_of(alloc, rights)?;
+        Ok(Roll { order, wants, first_on, next_on })
+    }
+
+    /// Every right once, seniors first.
+    pub fn by_seniority(&self) -> &[u32]
+        ensures { result.now ≡ self.now.order }
+    {
+        self.order.as_slice()
+    }
+
+    /// The right's want in a calendar month, from 1 to 12, in units of 1,000 cubic metres.
+    pub fn want(&self, right: u32, month: u8) -> u64
+        requires right { right < length self.now.wants }
+        requires first { 1 ≤ month }
+        requires last { month ≤ 12 }
+        ensures { result ≡ slice_index (slice_index_or self.now.wants right []) (month - 1) }
+    {
+        self.wants[right as usize][month as usize - 1]
+    }
+
+    /// The first instream right on the link, or `None` where there is none.
+    pub fn first_on(&self, link: u32) -> Option<u32>
+        ensures { result ≡ slice_index_or self.now.first_on link None }
+    {
+        self.first_on.get(link as usize).copied().flatten()
+    }
+
+    /// The next instream right on the link of an instream right, or `None` where there is none.
+    pub fn next_on(&self, right: u32) -> Option<u32>
+        requires { right < length self.now.wants }
+        ensures { result ≡ slice_index_or self.now.next_on right None }
+    {
+        self.next_on[right as usize]
+    }
+}

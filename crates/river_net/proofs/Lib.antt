@@ -1,0 +1,16 @@
+pub mod Entries
+pub mod FirstLinks
+pub mod Counts
+pub mod Places
+pub mod Entering
+pub mod Sorts
+pub mod Releases
+pub mod Walks
+pub mod Chains
+pub mod Sorted
+pub mod Searches
+pub mod Finds
+pub mod NoFault
+pub mod Builds
+pub mod Runs
+pub mod Ranks

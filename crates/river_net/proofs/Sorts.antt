@@ -1,0 +1,270 @@
+-- Nodes get their places while links are handled.
+use Rattle.std.proofs.Common.{◌≡◌, ◌≢◌, ℕ, ◌+◌, ◌-◌, ◌<◌, ◌≤◌, Bool, true, false, refl, sym, ◌∙◌, ap, subst, arith, List, [], ◌∷◌, ◌++◌, length, inl, inr}
+use Rattle.std.proofs.lemmas.Bool.{cases_lt, cases_eq, cases_Bool, eqb-true, eq-eqb, ne_eqb, false≢true, or_cases, le-ltb, lt-ltb, ltb-true}
+use Rattle.std.proofs.lemmas.Bool.Decides.{nat_tests}
+use Rattle.std.proofs.lemmas.List.{get_or-set_same, get_or-set_other, length-set}
+use Rattle.std.proofs.lemmas.Grind.{common_steps}
+use Rattle.std.specs.Prelude.{◌==◌, ◌&&◌, ◌||◌, not, slice_index, slice_set, nat_lt, if◌then◌else◌, ◌⊎◌, Option, Some, None, IfSome}
+use Rattle.place_sums.specs.Sums.{total, count_where}
+use Rattle.place_sums.proofs.Totals.{total_same, total_change, term_le_total_where}
+use Rattle.water_model.specs.Network.{tail_in, head_in}
+use Rattle.river_net.specs.Firsts.{IsWithin, IsFirstFrom, leaves}
+use Rattle.river_net.specs.GraphSeen.{GraphSeen}
+use Rattle.river_net.specs.Sorting.{AreEntering, IsPlacing, IsSorting, HasSources, IsReleased, IsReleasing, is_before}
+use Rattle.river_net.proofs.Counts.{none_passes}
+use Rattle.river_net.proofs.Places.{with_place, at_place, off_place, placing_start, placing_next, room}
+
+-- the count of the links to a node that are not handled
+abbrev pub waiting_at : GraphSeen → (ℕ → Bool) → ℕ → ℕ
+waiting_at g handled v = count_where (length g.links) (λ e. head_in g.links e == v && not (handled e))
+
+-- a node that waits for none gets its place
+sorting_place : (g : GraphSeen) (order waits : List ℕ) (place : ℕ → ℕ) (handled : ℕ → Bool) (bound v : ℕ) →
+    IsWithin g.nodes g.links → IsPlacing g order place → length waits ≡ g.nodes →
+    ((u : ℕ) → u < g.nodes → slice_index waits u ≡ waiting_at g handled u) →
+    ((u : ℕ) → u < g.nodes → u < bound → u ≢ v → slice_index waits u ≡ 0 → place u < length order) →
+    ((u : ℕ) → u < g.nodes → place u < length order → (u < bound) × (slice_index waits u ≡ 0)) →
+    ((e : ℕ) → e < length g.links → handled e ≡ true → place (tail_in g.links e) < length order) →
+    v < g.nodes → v < bound → place v ≡ g.nodes → slice_index waits v ≡ 0 →
+    IsSorting g (order ++ v ∷ []) waits (with_place place v (length order)) handled bound
+sorting_place g order waits place handled bound v within placing count waiting free idle tails inside below unplaced none = record {
+  placing = placing_next g order place v within placing inside unplaced (λ e l at. tails e l (all_handled e l at));
+  count = count;
+  waiting = waiting;
+  free = λ u l b zero. elim (cases_eq u v) [
+    | inl same ↦ (let at = ap place' same in omega (arith, more, here))
+    | inr other ↦ (let f = free u l b other zero in let q = there u other in omega (arith, more))
+  ];
+  idle = λ u l placed. elim (cases_eq u v) [
+    | inl same ↦ (omega arith, ap (slice_index waits) same ∙ none)
+    | inr other ↦ idle u l (old u l (there u other) placed)
+  ];
+  tails = λ e l h. let t = tails e l h in
+      let q = there (tail_in g.links e) (λ same. let p = ap place same in absurd (omega (arith, full))) in omega (arith, more);
+}
+  where
+    place' : ℕ → ℕ
+    place' = with_place place v (length order)
+
+    full : length order < g.nodes
+    full = room g order place v placing inside unplaced
+
+    more : length (order ++ v ∷ []) ≡ length order + 1
+    more = grind (arith, common_steps)
+
+    here : place' v ≡ length order
+    here = at_place place v (length order)
+
+    there : (u : ℕ) → u ≢ v → place' u ≡ place u
+    there u ne = off_place place v (length order) u ne
+
+    old : (u : ℕ) → u < g.nodes → place' u ≡ place u → place' u < length (order ++ v ∷ []) → place u < length order
+    old u l q placed = elim (placing.each u l) [
+      | inl other ↦ absurd (omega (arith, more, full))
+      | inr p ↦ p.0
+    ]
+
+    all_handled : (e : ℕ) → e < length g.links → head_in g.links e ≡ v → handled e ≡ true
+    all_handled e l at = tells (head_in g.links e) v (handled e) at
+        (none_passes (length g.links) (λ e. head_in g.links e == v && not (handled e)) (sym (waiting v inside) ∙ none) e l)
+      where
+        tells : (x v : ℕ) (h : Bool) → x ≡ v → (x == v && not h) ≡ false → h ≡ true
+        tells x v h same fails = grind (arith, nat_tests)
+
+-- at the start no link is handled
+pub sources_start : (g : GraphSeen) (order waits : List ℕ) → order ≡ [] → AreEntering g (length g.links) waits → HasSources g order waits 0
+sources_start g order waits none entering = subst (λ xs. HasSources g xs waits 0) (sym none) record {
+  place = λ v. g.nodes;
+  sorting = record {
+    placing = placing_start g;
+    count = entering.count;
+    waiting = λ v l. entering.each v l ∙ total_same (length g.links) (λ e. if head_in g.links e == v then 1 else 0)
+        (λ e. if head_in g.links e == v && not false then 1 else 0) (λ e k. ap (λ t. if t then 1 else 0) (unhandled (head_in g.links e == v)));
+    free = λ v l below zero. absurd (omega arith);
+    idle = λ v l placed. absurd (omega arith);
+    tails = λ e l h. absurd (false≢true h);
+  };
+}
+  where
+    unhandled : (t : Bool) → t ≡ (t && not false)
+    unhandled true = refl
+    unhandled false = refl
+
+-- a node that no link leads to gets its place
+pub source_next : (g : GraphSeen) (order order' waits : List ℕ) (v : ℕ) → IsWithin g.nodes g.links → v < g.nodes → slice_index waits v ≡ 0 →
+    order' ≡ order ++ v ∷ [] → HasSources g order waits v → HasSources g order' waits (v + 1)
+source_next g order order' waits v within inside none more now = subst (λ xs. HasSources g xs waits (v + 1)) (sym more) record {
+  place = with_place now.place v (length order);
+  sorting = sorting_place g order waits now.place (λ e. false) (v + 1) v within now.sorting.placing now.sorting.count now.sorting.waiting
+      (λ u l b other zero. now.sorting.free u l (omega arith) zero)
+      (λ u l placed. let i = now.sorting.idle u l placed in let b = i.0 in (omega arith, i.1))
+      (λ e l h. absurd (false≢true h)) inside (omega arith)
+      (elim (now.sorting.placing.each v inside) [
+        | inl unplaced ↦ unplaced
+        | inr placed ↦ (let b = (now.sorting.idle v inside placed.0).0 in absurd (omega arith))
+      ]) none;
+}
+
+-- any other node waits
+pub source_skip : (g : GraphSeen) (order waits : List ℕ) (v : ℕ) → slice_index waits v ≢ 0 →
+    HasSources g order waits v → HasSources g order waits (v + 1)
+source_skip g order waits v some now = record {
+  place = now.place;
+  sorting = record {
+    placing = now.sorting.placing;
+    count = now.sorting.count;
+    waiting = now.sorting.waiting;
+    free = λ u l b zero. elim (cases_eq u v) [
+      | inl same ↦ absurd (some (ap (slice_index waits) (sym same) ∙ zero))
+      | inr other ↦ now.sorting.free u l (omega arith) zero
+    ];
+    idle = λ u l placed. let i = now.sorting.idle u l placed in let b = i.0 in (omega arith, i.1);
+    tails = now.sorting.tails;
+  };
+}
+
+pub sources_end : (g : GraphSeen) (order waits : List ℕ) → HasSources g order waits g.nodes → IsReleased g order waits 0
+sources_end g order waits now = record {
+  place = now.place;
+  handled = λ e. false;
+  sorting = now.sorting;
+  within = omega arith;
+  which = λ e l. sym (le-ltb (now.place (tail_in g.links e)) 0 (omega arith));
+}
+
+-- one link more is handled
+abbrev pub and_link : (ℕ → Bool) → ℕ → ℕ → Bool
+and_link handled e f = handled f || f == e
+
+-- its head waits for one link fewer
+less_waiting : (g : GraphSeen) (handled : ℕ → Bool) (e v : ℕ) → e < length g.links → handled e ≡ false →
+    waiting_at g (and_link handled e) v + (if head_in g.links e == v then 1 else 0) ≡ waiting_at g handled v
+less_waiting g handled e v below unhandled_yet =
+    let change = total_change (length g.links) e (λ f. if head_in g.links f == v && not (and_link handled e f) then 1 else 0)
+        (λ f. if head_in g.links f == v && not (handled f) then 1 else 0) below (λ f l other. same (head_in g.links f == v) (handled f) f e 1 other) in
+    let gone = none (head_in g.links e == v) (handled e) e 1 in
+    let was = one (head_in g.links e == v) (handled e) 1 unhandled_yet in
+    omega arith
+  where
+    same : (t h : Bool) (f e x : ℕ) → f ≢ e → (if t && not (h || f == e) then x else 0) ≡ (if t && not h then x else 0)
+    same t h f e x other = grind (arith, nat_tests)
+
+    none : (t h : Bool) (e x : ℕ) → (if t && not (h || e == e) then x else 0) ≡ 0
+    none t h e x = grind (arith, nat_tests)
+
+    one : (t h : Bool) (x : ℕ) → h ≡ false → (if t && not h then x else 0) ≡ (if t then x else 0)
+    one t h x unhandled_yet = grind (arith, nat_tests)
+
+-- the head of a link that is not handled waits
+pub waits_for : (g : GraphSeen) (order waits : List ℕ) (place : ℕ → ℕ) (handled : ℕ → Bool) (e : ℕ) → IsWithin g.nodes g.links →
+    IsSorting g order waits place handled g.nodes → e < length g.links → handled e ≡ false → 0 < slice_index waits (head_in g.links e)
+waits_for g order waits place handled e within now below unhandled_yet =
+    let inside = (within.ends e below).1 in
+    let less = less_waiting g handled e (head_in g.links e) below unhandled_yet in
+    let one = own (head_in g.links e) 1 in
+    omega (arith, now.waiting (head_in g.links e) inside)
+  where
+    own : (u x : ℕ) → (if u == u then x else 0) ≡ x
+    own u x = grind (arith, nat_tests)
+
+pub record IsSettled (g : GraphSeen) (order waits : List ℕ) (place : ℕ → ℕ) (handled : ℕ → Bool) (e : ℕ) (order' waits' : List ℕ) : Type 0 where
+  pub place' : ℕ → ℕ
+  pub sorting : IsSorting g order' waits' place' (and_link handled e) g.nodes
+  pub keeps : (u : ℕ) → place u < length order → place' u ≡ place u
+  pub grows : (u : ℕ) → u < g.nodes → (place' u ≡ place u) ⊎ ((place u ≡ g.nodes) × (place' u ≡ length order))
+  pub same : (k : ℕ) → k < length order → slice_index order' k ≡ slice_index order k
+  pub more : length order ≤ length order'
+
+pub settled : (g : GraphSeen) (order waits : List ℕ) (place : ℕ → ℕ) (handled : ℕ → Bool) (e : ℕ) (order' waits' : List ℕ) →
+    IsWithin g.nodes g.links → IsSorting g order waits place handled g.nodes → e < length g.links → handled e ≡ false →
+    place (tail_in g.links e) < length order →
+    waits' ≡ slice_set waits (head_in g.links e) (slice_index waits (head_in g.links e) - 1) →
+    order' ≡ (if slice_index waits (head_in g.links e) == 1 then order ++ head_in g.links e ∷ [] else order) →
+    IsSettled g order waits place handled e order' waits'
+settled g order waits place handled e order' waits' within now below unhandled_yet behind waits_are order_is =
+    elim (cases_eq (slice_index waits h) 1) [
+      | inl last ↦ subst (λ xs. IsSettled g order waits place handled e xs waits') (sym (order_is ∙ ap (λ t. if t then order ++ h ∷ [] else order) (eq-eqb (slice_index waits h) 1 last))) (placed last)
+      | inr further ↦ subst (λ xs. IsSettled g order waits place handled e xs waits') (sym (order_is ∙ ap (λ t. if t then order ++ h ∷ [] else order) (ne_eqb (slice_index waits h) 1 further))) (kept further)
+    ]
+  where
+    h : ℕ
+    h = head_in g.links e
+
+    inside : h < g.nodes
+    inside = (within.ends e below).1
+
+    some : 0 < slice_index waits h
+    some = waits_for g order waits place handled e within now below unhandled_yet
+
+    at : slice_index waits' h ≡ slice_index waits h - 1
+    at = ap (λ (xs : List ℕ). slice_index xs h) waits_are ∙ get_or-set_same waits h (slice_index waits h - 1) 0 (let c = now.count in omega (arith, inside))
+
+    off : (u : ℕ) → u ≢ h → slice_index waits' u ≡ slice_index waits u
+    off u ne = ap (λ (xs : List ℕ). slice_index xs u) waits_are ∙ get_or-set_other waits h u (slice_index waits h - 1) 0 ne
+
+    count : length waits' ≡ g.nodes
+    count = ap length waits_are ∙ (length-set waits h (slice_index waits h - 1) ∙ now.count)
+
+    own : (u x : ℕ) → (if u == u then x else 0) ≡ x
+    own u x = grind (arith, nat_tests)
+
+    apart : (u v x : ℕ) → u ≢ v → (if v == u then x else 0) ≡ 0
+    apart u v x ne = grind (arith, nat_tests)
+
+    waiting : (u : ℕ) → u < g.nodes → slice_index waits' u ≡ waiting_at g (and_link handled e) u
+    waiting u l = elim (cases_eq u h) [
+      | inl same ↦ ap (slice_index waits') same ∙ (let less = less_waiting g handled e h below unhandled_yet in let one = own h 1 in
+          let w = now.waiting h inside in let t : slice_index waits' h ≡ waiting_at g (and_link handled e) h = omega (arith, at) in
+          t ∙ ap (waiting_at g (and_link handled e)) (sym same))
+      | inr other ↦ off u other ∙ (let less = less_waiting g handled e u below unhandled_yet in let none = apart u h 1 other in
+          let w = now.waiting u l in omega arith)
+    ]
+
+    unplaced : place h ≡ g.nodes
+    unplaced = elim (now.placing.each h inside) [
+      | inl none ↦ none
+      | inr p ↦ (let i = (now.idle h inside p.0).1 in absurd (omega (arith, some)))
+    ]
+
+    tails : (f : ℕ) → f < length g.links → and_link handled e f ≡ true → place (tail_in g.links f) < length order
+    tails f l t = elim (or_cases (handled f) (f == e) t) [
+      | inl before ↦ now.tails f l before
+      | inr here ↦ (let p = ap (λ x. place (tail_in g.links x)) (eqb-true f e here) in omega (arith, behind))
+    ]
+
+    idle : (u : ℕ) → u < g.nodes → place u < length order → (u < g.nodes) × (slice_index waits' u ≡ 0)
+    idle u l p = (l, off u (λ same. let i = (now.idle u l p).1 in let q = ap (slice_index waits) same in absurd (omega (arith, some))) ∙ (now.idle u l p).1)
+
+    kept : (slice_index waits h ≡ 1 → ⊥) → IsSettled g order waits place handled e order waits'
+    kept further = record {
+      place' = place;
+      sorting = record {
+        placing = now.placing;
+        count = count;
+        waiting = waiting;
+        free = λ u l b zero. elim (cases_eq u h) [
+          | inl same ↦ (let q = ap (slice_index waits') same in absurd (further (omega (arith, at, some))))
+          | inr other ↦ now.free u l b (sym (off u other) ∙ zero)
+        ];
+        idle = idle;
+        tails = tails;
+      };
+      keeps = λ u l. refl;
+      grows = λ u l. inl refl;
+      same = λ k l. refl;
+      more = omega arith;
+    }
+
+    placed : slice_index waits h ≡ 1 → IsSettled g order waits place handled e (order ++ h ∷ []) waits'
+    placed last = record {
+      place' = with_place place h (length order);
+      sorting = sorting_place g order waits' place (and_link handled e) g.nodes h within now.placing count waiting
+          (λ u l b other zero. now.free u l b (sym (off u other) ∙ zero)) idle tails inside inside unplaced (omega (arith, at));
+      keeps = λ u l. off_place place h (length order) u (λ same. let p = ap place same in let r = room g order place h now.placing inside unplaced in absurd (omega (arith, unplaced)));
+      grows = λ u l. elim (cases_eq u h) [
+        | inl same ↦ inr (ap place same ∙ unplaced, ap (with_place place h (length order)) same ∙ at_place place h (length order))
+        | inr other ↦ inl (off_place place h (length order) u other)
+      ];
+      same = λ k l. grind (arith, common_steps);
+      more = (let m : length (order ++ h ∷ []) ≡ length order + 1 = grind (arith, common_steps) in omega arith);
+    }

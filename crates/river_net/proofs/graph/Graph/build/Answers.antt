@@ -1,0 +1,36 @@
+use Rattle.std.proofs.Common.{ℕ, ◌≡◌, ◌<◌, ◌-◌, ◌+◌, arith, subst, sym, ◌∙◌, ap, length, get_or}
+use Rattle.std.proofs.lemmas.List.{get_or_default}
+use Rattle.std.specs.Prelude.{None}
+use Rattle.water_model.specs.Network.{tail_in}
+use Rattle.water_model.specs.declared.types.Link.{Link}
+use Rattle.river_net.specs.Firsts.{IsLeaving, IsWithin}
+use Rattle.river_net.proofs.Entries.{entry_is, ends_in}
+use Rattle.river_net.proofs.FirstLinks.{leaving_next}
+use Rattle.river_net.proofs.graph.Graph.build.Goals as goal
+
+pub loop-place-preserved : goal.loop-place-preserved
+loop-place-preserved c =
+    let links = c.args.links.now in
+    let e : ℕ = c.loop-place.place - 1 in
+    let v : ℕ = (get_or links e c.index-links-place.result).from in
+    let below : e < length links = omega arith in
+    let at : tail_in links e ≡ v = entry_is links e c.index-links-place.result (λ l. l.from) 0 below c.index-links-place.is ∙ ap (λ (l : Link). l.from) c.index-links-place.is in
+    let inside : v < length c.args.nodes.now = let ends = (ends_in c.args.nodes.now links c.requires.ends e below).0 in omega arith in
+    leaving_next (length c.args.nodes.now) links e c.loop-place.first.items c.loop-place.next.items v c.index.result.now below inside at
+    (c.index.ensures ∙ get_or_default c.loop-place.first.items v c.index.result.now None (let count = c.loop-place.invariant.firsts.count in omega arith))
+    (let P : ℕ → Type 0 = λ n. IsLeaving (length c.args.nodes.now) links n c.loop-place.first.items c.loop-place.next.items in
+        let same : c.loop-place.place ≡ e + 1 = omega arith in subst P same c.loop-place.invariant)
+
+pub invariant_of-result : goal.invariant_of-result
+invariant_of-result c =
+    let n : ℕ = length c.args.nodes.now in
+    let m : ℕ = length c.loop-place.first.items in
+    let count : n ≡ m = sym c.loop-place.invariant.firsts.count in
+    let start : c.loop-place.place ≡ 0 = omega arith in
+    let P : ℕ → Type 0 = λ k. IsLeaving n c.args.links.now k c.loop-place.first.items c.loop-place.next.items in
+    let Q : ℕ → Type 0 = λ k. IsLeaving k c.args.links.now 0 c.loop-place.first.items c.loop-place.next.items in record {
+      leaving = subst Q count (subst P start c.loop-place.invariant);
+      within = subst (λ k. IsWithin k c.args.links.now) count record { ends = ends_in c.args.nodes.now c.args.links.now c.requires.ends };
+      few_nodes = let few = c.requires.few_nodes in omega arith;
+      few_links = c.requires.few_links;
+    }

@@ -1,0 +1,11 @@
+use Rattle.std.proofs.Common.{ℕ, ◌-◌, length, slice_index}
+use Rattle.std.specs.Prelude.{Option, Some, None}
+use Rattle.river_net.specs.Sorting.{IsReleasing}
+use Rattle.river_net.specs.Firsts.{links_left}
+use Rattle.river_net.proofs.sorting.Sorting.release.Given as goal
+
+abbrev pub invariant-loop-next : goal.invariant-loop-next
+invariant-loop-next l = IsReleasing l.graph l.self.order.items l.self.waits.items l.done (slice_index l.initial.self.order.items l.done) l.next
+
+abbrev pub decreases-loop-next : goal.decreases-loop-next
+decreases-loop-next l = links_left (length l.graph.links) l.next

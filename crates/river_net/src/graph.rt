@@ -1,0 +1,107 @@
+//! The nodes and links as a graph.
+ghost use Rattle.std.specs.Prelude.{◌≡◌, ◌+◌, ◌<◌, ◌≤◌, All, IfOk, IfSome, length};
+ghost use Rattle.water_model.specs.Network.{HasNodes, head_in, tail_in};
+ghost use Rattle.river_net.specs.Firsts.{IsFirstFrom, IsWithin, leaves};
+ghost use Rattle.river_net.specs.Sorting.{AreEntering};
+
+use std::alloc::{AllocError, Global};
+use std::marker::Model;
+use water_model::types::{Link, Node};
+
+/// Links between nodes, with the links that leave each node as a list in the order of their places.
+#[derive(Drop)]
+pub struct Graph<'a> {
+    links: &'a [Link],
+    /// For each node the first link that leaves it.
+    first: Vec<Option<u32>>,
+    /// For each link the next that leaves the same node.
+    next: Vec<Option<u32>>,
+}
+
+impl<'a> Model for Graph<'a> {
+    ghost use Rattle.std.specs.Prelude.{length};
+    ghost use Rattle.river_net.specs.GraphSeen.{GraphSeen};
+    ghost use Rattle.river_net.specs.Firsts.{IsGraph};
+
+    ghost Value = { GraphSeen };
+
+    ghost view = { λ g. record { nodes = length g.first.items; links = g.links.now } };
+
+    ghost invariant = { λ g. IsGraph g.links.now g.first.items g.next.items };
+}
+
+/// For each node how many links lead to it.
+fn count_entering(alloc: Global, nodes: usize, links: &[Link]) -> Result<Vec<u32>, AllocError>
+    requires few_links { length links.now ≤ 4000 }
+    requires within { IsWithin nodes links.now }
+    ensures { IfOk result (λ counts. AreEntering (record { nodes = nodes; links = links.now }) (length links.now) counts.items) }
+{
+    let mut counts = vec![in alloc; 0; nodes]?;
+    for link in links {
+        counts[link.to as usize] += 1;
+    }
+    Ok(counts)
+}
+
+impl<'a> Graph<'a> {
+    /// Puts each link into the list of the node that it leaves.
+    pub fn build(alloc: Global, nodes: &[Node], links: &'a [Link]) -> Result<Graph<'a>, AllocError>
+        requires few_nodes { length nodes.now ≤ 2000 }
+        requires few_links { length links.now ≤ 4000 }
+        requires ends { All (λ l. HasNodes nodes.now l) links.now }
+        ensures { IfOk result (λ graph. graph ≡ record { nodes = length nodes.now; links = links.now }) }
+    {
+        let mut first = vec![in alloc; None; nodes.len()]?;
+        let mut next = vec![in alloc; None; links.len()]?;
+        for place in (0..links.len()).rev() {
+            let from = links[place].from as usize;
+            next[place] = first[from];
+            first[from] = Some(place as u32);
+        }
+        Ok(Graph { links, first, next })
+    }
+
+    pub fn nodes(&self) -> usize
+        ensures value { result ≡ self.now.nodes }
+        ensures few { result ≤ 2000 }
+        ensures within { IsWithin self.now.nodes self.now.links }
+    {
+        let _links = &self.links;
+        self.first.len()
+    }
+
+    /// For each node how many links lead to it.
+    pub fn links_into(&self, alloc: Global) -> Result<Vec<u32>, AllocError>
+        ensures entering { IfOk result (λ counts. AreEntering self.now (length self.now.links) counts.items) }
+        ensures within { IsWithin self.now.nodes self.now.links }
+        ensures few { self.now.nodes ≤ 2000 }
+    {
+        count_entering(alloc, self.first.len(), self.links)
+    }
+
+    /// The node that a link leads to.
+    pub fn head(&self, link: u32) -> u32
+        requires { link < length self.now.links }
+        ensures value { result ≡ head_in self.now.links link }
+        ensures within { result < self.now.nodes }
+    {
+        self.links[link as usize].to
+    }
+
+    /// The first link that leaves a node.
+    pub fn first(&self, node: u32) -> Option<u32>
+        requires { node < self.now.nodes }
+        ensures value { IsFirstFrom (leaves self.now.links node) 0 (length self.now.links) result }
+        ensures within { IsWithin self.now.nodes self.now.links }
+    {
+        self.first[node as usize]
+    }
+
+    /// The next link that leaves the same node as this one.
+    pub fn next(&self, link: u32) -> Option<u32>
+        requires { link < length self.now.links }
+        ensures { IsFirstFrom (leaves self.now.links (tail_in self.now.links link)) (link + 1) (length self.now.links) result }
+    {
+        self.next[link as usize]
+    }
+}

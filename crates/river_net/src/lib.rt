@@ -1,0 +1,13 @@
+//! The network of nodes and links: its faults, the order in which water runs, and the run of the river.
+#![tactic(auto)]
+
+mod cycle;
+mod faults;
+mod graph;
+mod net;
+mod refused;
+mod rivers;
+mod sorting;
+
+pub use net::Net;
+pub use refused::NetRefused;

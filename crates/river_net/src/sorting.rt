@@ -1,0 +1,73 @@
+//! The order in which water runs.
+ghost use Rattle.std.specs.Prelude.{◌≡◌, ◌+◌, ◌-◌, ◌<◌, ◌==◌, ◌++◌, ◌∷◌, [], if◌then◌else◌, IfOk, OnOk, length, slice_index, slice_set};
+ghost use Rattle.river_net.specs.Sorting.{HasSources, IsReleased};
+
+use crate::graph::Graph;
+use std::alloc::{AllocError, Global};
+
+/// Nodes in an order in which each link runs forward, and what the other nodes wait for.
+#[derive(Drop)]
+pub struct Sorting {
+    pub order: Vec<u32>,
+    /// For each node how many links lead to it from nodes that have no place in the order yet, or whose links are still
+    /// to be looked at.
+    pub waits: Vec<u32>,
+}
+
+impl Sorting {
+    /// Places the nodes that no link leads to.
+    fn start(alloc: Global, graph: &Graph) -> Result<Sorting, AllocError>
+        ensures { IfOk result (λ sorting. HasSources graph.now sorting.order.items sorting.waits.items graph.now.nodes) }
+    {
+        let waits = graph.links_into(alloc)?;
+        let mut order = Vec::new(alloc);
+        for node in 0..waits.len() {
+            if waits[node] == 0 {
+                order.push(node as u32)?;
+            }
+        }
+        Ok(Sorting { order, waits })
+    }
+
+    /// Takes off a link that leads to a node. Where it was the last, the node gets the next place.
+    fn settle(&mut self, node: u32) -> Result<(), AllocError>
+        requires within { node < length self.old.waits.items }
+        requires waits { 0 < slice_index self.old.waits.items node }
+        ensures waits { self.new.waits.items ≡ slice_set self.old.waits.items node (slice_index self.old.waits.items node - 1) }
+        ensures order { OnOk result (self.new.order.items ≡ (if slice_index self.old.waits.items node == 1 then self.old.order.items ++ node ∷ [] else self.old.order.items)) }
+    {
+        let count = self.waits[node as usize] - 1;
+        self.waits[node as usize] = count;
+        if count == 0 {
+            self.order.push(node)?;
+        }
+        Ok(())
+    }
+
+    /// Takes off the links that leave the node at a place of the order.
+    fn release(&mut self, done: usize, graph: &Graph) -> Result<(), AllocError>
+        requires within { done < length self.old.order.items }
+        requires sorting { IsReleased graph.now self.old.order.items self.old.waits.items done }
+        ensures { OnOk result (IsReleased graph.now self.new.order.items self.new.waits.items (done + 1)) }
+    {
+        let mut next = graph.first(self.order[done]);
+        while let Some(link) = next {
+            self.settle(graph.head(link))?;
+            next = graph.next(link);
+        }
+        Ok(())
+    }
+}
+
+/// Places nodes as long as one waits for no link (A. B. Kahn, Topological sorting of large networks, 1962).
+pub fn sort(alloc: Global, graph: &Graph) -> Result<Sorting, AllocError>
+    ensures { IfOk result (λ sorting. IsReleased graph.now sorting.order.items sorting.waits.items (length sorting.order.items)) }
+{
+    let mut sorting = Sorting::start(alloc, graph)?;
+    let mut done = 0;
+    while done < sorting.order.len() {
+        sorting.release(done, graph)?;
+        done += 1;
+    }
+    Ok(sorting)
+}

@@ -1,0 +1,5 @@
+pub mod Document
+pub mod Items
+pub mod Values
+pub mod Texts
+pub mod FirstPlaces

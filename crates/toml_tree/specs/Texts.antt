@@ -1,0 +1,24 @@
+-- The texts of a list of tables, and the first place of one.
+use Rattle.std.specs.Prelude.{ℕ, ◌+◌, List, [], ◌∷◌, take, count_by, slice_get, Bool, false, Option, Some, None, option_and_then, if◌then◌else◌}
+use Rattle.std.specs.Option.{option_map_or}
+use Rattle.std.specs.Str.{bytes_eq}
+use Rattle.toml.specs.Data.{Items, no_items, item, get, as_str}
+
+-- the texts at a key of the values of a list, one for each, or none where there is no text
+abbrev pub texts_behind : List ℕ → Items → List (Option (List ℕ))
+texts_behind key no_items = []
+texts_behind key (item d ds) = option_and_then as_str (get key d) ∷ texts_behind key ds
+
+abbrev pub is_the_text : List ℕ → Option (List ℕ) → Bool
+is_the_text q text = option_map_or (bytes_eq q) text false
+
+-- the place of the first that passes a test, in a list that begins at place n
+abbrev pub first_from : {X : Type 0} → (X → Bool) → ℕ → List X → Option ℕ
+first_from test n [] = None
+first_from test n (x ∷ xs) = if test x then Some n else first_from test (n + 1) xs
+
+-- how many of the texts before a place are the one at the place
+abbrev pub earlier_like : List (Option (List ℕ)) → ℕ → ℕ
+earlier_like texts place =
+    option_map_or (λ text. option_map_or (λ q. count_by (is_the_text q) (take place texts)) text 0)
+    (slice_get texts place) 0

@@ -1,0 +1,113 @@
+//! The first places of texts in lists.
+ghost use Rattle.std.specs.Prelude.{◌≡◌, ◌+◌, ◌<◌, ◌^◌, [], List, ℕ, length, codes, IfOk, OnOk, Some, None, option_map, option_and_then, if◌then◌else◌};
+ghost use Rattle.std.specs.Option.{option_or, option_map_or};
+ghost use Rattle.toml.specs.Data.{as_str, get};
+ghost use Rattle.toml.specs.View.{view, items_view};
+ghost use Rattle.toml_tree.specs.Texts.{texts_behind, is_the_text};
+ghost use Rattle.toml_tree.specs.FirstPlaces.{kept_at, KeepsPlaces, AddsPlaces, earlier_from, counted};
+
+use indexmap::IndexMap;
+use std::alloc::{AllocError, Global};
+use toml::Value;
+
+fn text_of<'a>(value: &'a Value, key: &str) -> Option<&'a str>
+    ensures { option_map (λ text. text.now) result ≡ option_and_then as_str (get key.now (view value.now)) }
+{
+    match value.get(key) {
+        Some(found) => found.as_str(),
+        None => None,
+    }
+}
+
+fn add_place<'a>(
+    places: &mut IndexMap<&'a str, u64>,
+    text: Option<&'a str>,
+    place: u64,
+) -> Result<(), AllocError>
+    ensures {
+        OnOk result ((q : List ℕ) →
+            kept_at places.new q ≡ option_or (kept_at places.old q)
+                (if is_the_text q (option_map (λ t. t.now) text.entry) then Some place else None))
+    }
+{
+    if let Some(text) = text {
+        if !places.contains_key(text) {
+            places.insert(text, place)?;
+        }
+    }
+    Ok(())
+}
+
+/// Adds the texts at a key of some values, where the first value's place is `from`. A text that has a place keeps it.
+pub fn add_places<'a>(
+    places: &mut IndexMap<&'a str, u64>,
+    values: &'a [Value],
+    key: &str,
+    from: u64,
+) -> Result<(), AllocError>
+    requires { from + length values.now < 2 ^ 64 }
+    ensures { OnOk result (AddsPlaces places.old places.new from (texts_behind key.now (items_view values.now))) }
+{
+    for (i, value) in values.iter().enumerate() {
+        add_place(places, text_of(value, key), from + i as u64)?;
+    }
+    Ok(())
+}
+
+/// The first place of each text at a key of some values, from 0.
+pub fn places_of<'a>(
+    alloc: Global,
+    values: &'a [Value],
+    key: &str,
+) -> Result<IndexMap<&'a str, u64>, AllocError>
+    ensures { IfOk result (λ places. KeepsPlaces places (texts_behind key.now (items_view values.now))) }
+{
+    let mut places = IndexMap::new(alloc);
+    add_places(&mut places, values, key, 0)?;
+    Ok(places)
+}
+
+fn count_at(counts: &IndexMap<&str, u64>, text: &str) -> u64
+    ensures { result ≡ counted counts.now text.now }
+{
+    match counts.get(text) {
+        Some(count) => *count,
+        None => 0,
+    }
+}
+
+/// Counts a text, and says how often it was counted before.
+fn count_text<'a>(
+    counts: &mut IndexMap<&'a str, u64>,
+    text: Option<&'a str>,
+) -> Result<u64, AllocError>
+    requires { (q : List ℕ) → counted counts.old q + 1 < 2 ^ 64 }
+    ensures before {
+        IfOk result (λ n. n ≡ option_map_or (λ q. counted counts.old q) (option_map (λ t. t.now) text.entry) 0)
+    }
+    ensures counts {
+        OnOk result ((q : List ℕ) →
+            counted counts.new q ≡ counted counts.old q + (if is_the_text q (option_map (λ t. t.now) text.entry) then 1 else 0))
+    }
+{
+    match text {
+        Some(text) => {
+            let before = count_at(counts, text);
+            counts.insert(text, before + 1)?;
+            Ok(before)
+        }
+        None => Ok(0),
+    }
+}
+
+/// For each value, how many of the values before it have its text at a key.
+pub fn earlier_of(alloc: Global, values: &[Value], key: &str) -> Result<Vec<u64>, AllocError>
+    ensures { IfOk result (λ earlier. earlier.items ≡ earlier_from [] (texts_behind key.now (items_view values.now))) }
+{
+    let mut counts = IndexMap::new(alloc);
+    let mut earlier = Vec::new(alloc);
+    for value in values {
+        earlier.push(count_text(&mut counts, text_of(value, key))?)?;
+    }
+    Ok(earlier)
+}
