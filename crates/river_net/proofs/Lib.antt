@@ -14,3 +14,4 @@ pub mod NoFault
 pub mod Builds
 pub mod Runs
 pub mod Ranks
+pub mod RiverPlan

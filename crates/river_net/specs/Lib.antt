@@ -6,3 +6,4 @@ pub mod Search
 pub mod NetSeen
 pub mod Net
 pub mod Running
+pub mod Laws

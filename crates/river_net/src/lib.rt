@@ -4,6 +4,7 @@
 mod cycle;
 mod faults;
 mod graph;
+pub mod laws;
 mod net;
 mod refused;
 mod rivers;
