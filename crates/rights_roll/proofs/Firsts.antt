@@ -29,9 +29,9 @@ find-some p m zero at from below before here = absurd (omega arith)
 find-some p m (suc n) at from below before here = elim (cases_eq m at) [
   | inl same ↦ (let passes : p m ≡ true = ap p same ∙ here in rw passes (ap (λ k. Some k) same))
   | inr other ↦ (
-    let later : m < at = omega (arith, other) in
-    let fails : p m ≡ false = before m (omega arith) later in
-    rw fails (find-some p (m + 1) n at (omega arith) (omega arith) (λ k f b. before k (omega arith) b) here))
+      let later : m < at = omega (arith, other) in
+      let fails : p m ≡ false = before m (omega arith) later in
+      rw fails (find-some p (m + 1) n at (omega arith) (omega arith) (λ k f b. before k (omega arith) b) here))
 ]
 
 -- the first place that passes

@@ -11,7 +11,6 @@ use Rattle.water_model.specs.declared.types.ReturnRow.{ReturnRow}
 use Rattle.water_model.specs.declared.types.Right.{Right}
 use Rattle.rights_roll.specs.RollFaults.{has_many_parts, parts_fault}
 use Rattle.rights_roll.specs.Tables.{AreParts}
-use Rattle.rights_roll.specs.declared.RollRefused.{RollRefused}
 use Rattle.rights_roll.specs.declared.RollRefused.TheVariants.{ReturnParts}
 use Rattle.rights_roll.proofs.Firsts.{find-places}
 
@@ -46,7 +45,7 @@ pub parts-start : (rights : ℕ) (sums : List ℕ) → sums ≡ replicate rights
 parts-start rights sums e = record {
   count = ap length e ∙ length-replicate rights 0;
   each = λ right below.
-    ap (λ xs. get_or xs right 0) e ∙ (get_or-replicate rights right 0 0 below ∙ omega (arith, parts_in-none right));
+      ap (λ xs. get_or xs right 0) e ∙ (get_or-replicate rights right 0 0 below ∙ omega (arith, parts_in-none right));
 }
 
 pub parts-more : (rows : List ReturnRow) (rights : ℕ) (sums : List ℕ) (i : ℕ) (d : ReturnRow) (sum : ℕ) → i < length rows →

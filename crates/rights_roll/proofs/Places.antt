@@ -1,5 +1,5 @@
 -- The first place at which a list of keys has a key.
-use Rattle.std.proofs.Common.{◌≡◌, ℕ, zero, suc, ◌+◌, ◌<◌, ◌≤◌, Bool, true, false, cond, List, [], ◌∷◌, ◌++◌, length, take, get_or, Option, Some, None, refl, sym, ap, ◌∙◌, subst, arith, add-zero, Decides}
+use Rattle.std.proofs.Common.{◌≡◌, ℕ, zero, suc, ◌+◌, ◌<◌, ◌≤◌, Bool, true, false, cond, List, [], ◌∷◌, ◌++◌, length, take, get_or, Some, None, refl, sym, ap, ◌∙◌, arith, add-zero}
 use Rattle.std.proofs.lemmas.Bool.Decides.{nat_tests}
 use Rattle.std.proofs.lemmas.Iterator.Adapters.{position_from-zero}
 use Rattle.std.proofs.lemmas.List.{get_or-take, length-take-le}
@@ -75,10 +75,12 @@ pub position_or_len-found : {X : Type 0} (p : X → Bool) (xs : List X) (i first
     (first < i) × (position_or_len p xs ≡ first)
 position_or_len-found {X} p xs i first d h found =
     let at = position-Some p (take i xs) first d found in
-    let before : first < i = omega (arith, at.0, length-take-le i xs h) in
-    (before, position_or_len_is p xs first d (omega arith)
-      (λ k l. let m : k < i = omega arith in ap p (sym (get_or-take i xs k d m)) ∙ at.2 k l)
-      (λ l. ap p (sym (get_or-take i xs first d before)) ∙ at.1))
+    let before : first < i = omega (arith, at.0, length-take-le i xs h) in (
+      before,
+      position_or_len_is p xs first d (omega arith)
+          (λ k l. let m : k < i = omega arith in ap p (sym (get_or-take i xs k d m)) ∙ at.2 k l)
+          (λ l. ap p (sym (get_or-take i xs first d before)) ∙ at.1),
+    )
 
 -- where nothing is found in a front, the first place is past it
 pub position_or_len-past : {X : Type 0} (p : X → Bool) (xs : List X) (i : ℕ) (d : X) → i ≤ length xs → position p (take i xs) ≡ None → i ≤ position_or_len p xs

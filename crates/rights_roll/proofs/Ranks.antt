@@ -1,12 +1,12 @@
 -- The rights by priority, in a map.
-use Rattle.std.proofs.Common.{◌≡◌, ◌≢◌, ℕ, zero, suc, ◌+◌, ◌<◌, ◌≤◌, Bool, true, false, cond, List, [], ◌∷◌, ◌++◌, length, map, take, get_or, Option, Some, None, Less, refl, sym, ap, ◌∙◌, subst, inl, inr, arith, below_more}
+use Rattle.std.proofs.Common.{◌≡◌, ℕ, zero, suc, ◌+◌, ◌<◌, ◌≤◌, Bool, true, false, cond, List, [], ◌∷◌, length, map, take, get_or, Option, Some, None, Less, refl, sym, ap, ◌∙◌, inl, inr, arith, below_more}
 use Rattle.std.proofs.lemmas.Bool.Decides.{nat_tests}
 use Rattle.std.proofs.lemmas.List.{map_more, length-map, length-take-le, take-map, take_all}
 use Rattle.std.proofs.lemmas.List.Quantifiers.{position-Some}
 use Rattle.std.proofs.lemmas.List.Sums.{position_or_len_is}
 use Rattle.std.proofs.lemmas.Map.Keys.{sorted_head, sorted_tail}
 use Rattle.std.proofs.lemmas.Map.Views.{All-found}
-use Rattle.std.specs.Prelude.{nat_lt, ◌⊎◌}
+use Rattle.std.specs.Prelude.{nat_lt}
 use Rattle.std.specs.BTreeMap.{BTreeMap, IsOrdered, IsEmpty, Updates, values}
 use Rattle.std.specs.BTreeMap as tree
 use Rattle.std.specs.List.{All, AllByRecursion, position, position_or_len}
@@ -22,7 +22,6 @@ use Rattle.water_model.proofs.Order.{Has, IsOrdered as IsSeniorsFirst}
 use Rattle.rights_roll.specs.Priorities.{numbers_of, priority_cmp}
 use Rattle.rights_roll.specs.RollFaults.{same_seniority}
 use Rattle.rights_roll.specs.Tables.{AreRanks}
-use Rattle.rights_roll.specs.declared.RollRefused.{RollRefused}
 use Rattle.rights_roll.specs.declared.RollRefused.TheVariants.{SameSeniority}
 use Rattle.rights_roll.specs.declared.priority.Priority.{Priority}
 use Rattle.rights_roll.proofs.Places.{same_bytes, bytes_same, position-append, position_or_len-found, position_or_len-past}
@@ -56,7 +55,7 @@ pub ranks-found : (rights : List Right) (ranks : BTreeMap Priority ℕ) (i first
 ranks-found rights ranks i first r p below is parts fresh found =
     let at = position_or_len-found (bytes_eq (numbers_of p)) (map priority rights) i first [] (omega (arith, length-map rights priority)) (sym (front_is rights ranks i p fresh) ∙ sym found) in
     let like : first_like (map priority rights) i ≡ first =
-      ap (λ q. position_or_len (bytes_eq q) (map priority rights)) (sym (key_is rights i r p below is parts)) ∙ at.1 in
+    ap (λ q. position_or_len (bytes_eq q) (map priority rights)) (sym (key_is rights i r p below is parts)) ∙ at.1 in
     same_seniority-found rights i below fresh.fresh (omega (arith, at.0, like)) ∙ ap (λ k. Some (SameSeniority k i)) like
 
 -- one more right
@@ -64,10 +63,10 @@ pub ranks-more : (rights : List Right) (old new : BTreeMap Priority ℕ) (i : �
     None ≡ tree.get priority_cmp old p → Updates priority_cmp old new p (Some i) → AreFresh rights old i → AreFresh rights new (i + 1)
 ranks-more rights old new i r p below is parts absent updates fresh = record {
   ranked = λ q.
-    updates.0 q
-    ∙ (ap (λ t. cond t (Some i) (tree.get priority_cmp old q)) (same_priority p q)
-    ∙ (by_test (bytes_eq (numbers_of p) (numbers_of q)) (tree.get priority_cmp old q) (λ same. none_at q (bytes_same (numbers_of p) (numbers_of q) same))
-    ∙ target q));
+      updates.0 q
+      ∙ (ap (λ t. cond t (Some i) (tree.get priority_cmp old q)) (same_priority p q)
+      ∙ (by_test (bytes_eq (numbers_of p) (numbers_of q)) (tree.get priority_cmp old q) (λ same. none_at q (bytes_same (numbers_of p) (numbers_of q) same))
+      ∙ target q));
   fresh = below_more (λ k. IsFresh (map priority rights) k) i fresh.fresh here;
 }
   where
@@ -101,7 +100,7 @@ ranks-more rights old new i r p below is parts absent updates fresh = record {
         let n : length (map priority (take i rights)) ≡ i = length-map (take i rights) priority ∙ length-take-le i rights (omega arith) in
         ap (λ o. option_or o (cond (bytes_eq (numbers_of p) (numbers_of q)) (Some i) None)) (fresh.ranked q)
         ∙ (ap (λ t. option_or (position (bytes_eq (numbers_of q)) (map priority (take i rights))) (cond t (Some i) None))
-            (flip (numbers_of p) (numbers_of q) ∙ ap (bytes_eq (numbers_of q)) (parts ∙ ap priority is))
+        (flip (numbers_of p) (numbers_of q) ∙ ap (bytes_eq (numbers_of q)) (parts ∙ ap priority is))
         ∙ (ap (λ k. option_or (position (bytes_eq (numbers_of q)) (map priority (take i rights))) (cond (bytes_eq (numbers_of q) (priority (get_or rights i r))) (Some k) None)) (sym n)
         ∙ (sym (position-append (bytes_eq (numbers_of q)) (map priority (take i rights)) (priority (get_or rights i r)))
         ∙ ap (position (bytes_eq (numbers_of q))) (sym (map_more priority rights i r below)))))
@@ -115,9 +114,10 @@ ranks-start rights ranks empty = record {
 
 -- all rights
 pub ranks-all : (rights : List Right) (ranks : BTreeMap Priority ℕ) (i : ℕ) → length rights ≤ i → AreFresh rights ranks i → AreRanks rights ranks × (same_seniority rights ≡ None)
-ranks-all rights ranks i past fresh =
-    (λ p. fresh.ranked p ∙ ap (λ rs. position (bytes_eq (numbers_of p)) (map priority rs)) (take_all i rights past),
-     same_seniority-none rights (λ k h. fresh.fresh k (omega arith)))
+ranks-all rights ranks i past fresh = (
+  λ p. fresh.ranked p ∙ ap (λ rs. position (bytes_eq (numbers_of p)) (map priority rs)) (take_all i rights past),
+  same_seniority-none rights (λ k h. fresh.fresh k (omega arith)),
+)
 
 -- The values of the map are the order by seniority.
 
@@ -158,9 +158,10 @@ values-behind rights p r (e ∷ es) s is entries less (inr h) = values-behind ri
 values-ordered : (rights : List Right) (es : List (Priority × ℕ)) → AreEntries rights es → IsStrictlySortedBy priority_cmp (keys_of es) → IsSeniorsFirst rights (values_of es)
 unfolding AreEntries
 values-ordered rights [] entries sorted = tt
-values-ordered rights (e ∷ es) entries sorted =
-    (λ s h. values-behind rights e.0 e.1 es s entries.1.0 entries.1.1 (sorted_head priority_cmp e.0 (keys_of es) sorted) h,
-     values-ordered rights es entries.1.1 (sorted_tail priority_cmp e.0 (keys_of es) sorted))
+values-ordered rights (e ∷ es) entries sorted = (
+  λ s h. values-behind rights e.0 e.1 es s entries.1.0 entries.1.1 (sorted_head priority_cmp e.0 (keys_of es) sorted) h,
+  values-ordered rights es entries.1.1 (sorted_tail priority_cmp e.0 (keys_of es) sorted),
+)
 
 has-lookup : (test : Priority → Bool) (es : List (Priority × ℕ)) (r : ℕ) → lookup test es ≡ Some r → Has (values_of es) r
 has-lookup test [] r h = let none : None ≡ Some r = h in cc
@@ -187,7 +188,7 @@ found_by_priority rights ranks r p strict all below key = all p ∙ found
         by_test : (t : Bool) → bytes_eq (numbers_of p) (get_or (map priority rights) k []) ≡ t → t ≡ false
         by_test false e = refl
         by_test true e = absurd (strict k r before below
-          (priority_in-is rights k ∙ (sym (bytes_same (numbers_of p) (get_or (map priority rights) k []) e) ∙ (key ∙ sym (priority_in-is rights r)))))
+            (priority_in-is rights k ∙ (sym (bytes_same (numbers_of p) (get_or (map priority rights) k []) e) ∙ (key ∙ sym (priority_in-is rights r)))))
 
     place : position_or_len (bytes_eq (numbers_of p)) (map priority rights) ≡ r
     place = position_or_len_is (bytes_eq (numbers_of p)) (map priority rights) r [] (omega (arith, length-map rights priority)) apart

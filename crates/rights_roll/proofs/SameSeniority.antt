@@ -1,16 +1,14 @@
 -- Rights of one priority.
-use Rattle.std.proofs.Common.{◌≡◌, ◌≢◌, ℕ, zero, suc, ◌+◌, ◌<◌, ◌≤◌, Bool, true, false, List, [], ◌∷◌, length, map, get_or, Option, Some, None, refl, sym, ap, ◌∙◌, inl, inr, arith}
+use Rattle.std.proofs.Common.{◌≡◌, ℕ, zero, suc, ◌+◌, ◌<◌, ◌≤◌, Bool, true, false, List, [], ◌∷◌, length, map, get_or, Some, None, refl, sym, ap, ◌∙◌, inl, inr, arith}
 use Rattle.std.proofs.lemmas.Bool.{cases_eq, cases_lt}
 use Rattle.std.proofs.lemmas.Bool.Decides.{nat_tests}
 use Rattle.std.proofs.lemmas.List.{length-map}
-use Rattle.std.specs.Prelude.{nat_lt, if◌then◌else◌}
+use Rattle.std.specs.Prelude.{nat_lt}
 use Rattle.std.specs.List.{position_or_len}
 use Rattle.std.specs.Str.{bytes_eq}
-use Rattle.water_model.specs.Lookups.{of_entry}
 use Rattle.water_model.specs.Rights.{priority, priority_in, AreStrict}
 use Rattle.water_model.specs.declared.types.Right.{Right}
 use Rattle.rights_roll.specs.RollFaults.{same_from, same_seniority}
-use Rattle.rights_roll.specs.declared.RollRefused.{RollRefused}
 use Rattle.rights_roll.specs.declared.RollRefused.TheVariants.{SameSeniority}
 use Rattle.rights_roll.proofs.Places.{same_bytes, bytes_same, position_or_len-at_most, position_or_len-at_least}
 
@@ -57,11 +55,11 @@ from-found : (keys : List (List ℕ)) (n : ℕ) (rest : List (List ℕ)) (i : �
 from-found keys n [] i behind from below fresh like = absurd (omega arith)
 from-found keys n (key ∷ rest) i behind from below fresh like = elim (cases_eq n i) [
   | inl same ↦ (
-    let here : first_like keys n < n = omega (arith, ap (first_like keys) same) in
-    from-like keys n key rest (behind_first keys n key rest behind) here ∙ ap (λ k. Some (SameSeniority (first_like keys k) k)) same)
+      let here : first_like keys n < n = omega (arith, ap (first_like keys) same) in
+      from-like keys n key rest (behind_first keys n key rest behind) here ∙ ap (λ k. Some (SameSeniority (first_like keys k) k)) same)
   | inr other ↦
-    from-fresh keys n key rest (behind_first keys n key rest behind) (fresh n (omega arith) (omega (arith, other)))
-    ∙ from-found keys (n + 1) rest i (behind_rest keys n key rest behind) (omega (arith, other)) (omega arith) (λ k f b. fresh k (omega arith) b) like
+      from-fresh keys n key rest (behind_first keys n key rest behind) (fresh n (omega arith) (omega (arith, other)))
+      ∙ from-found keys (n + 1) rest i (behind_rest keys n key rest behind) (omega (arith, other)) (omega arith) (λ k f b. fresh k (omega arith) b) like
 ]
 
 from-none : (keys : List (List ℕ)) (n : ℕ) (rest : List (List ℕ)) → AreBehind keys n rest → ((k : ℕ) → n ≤ k → k < n + length rest → IsFresh keys k) → same_from keys n rest ≡ None
@@ -77,7 +75,7 @@ fresh-from_none keys n (key ∷ rest) k behind none from below = elim (cases_lt 
   | inr fresh ↦ elim (cases_eq k n) [
     | inl same ↦ omega (arith, ap (first_like keys) same)
     | inr other ↦ fresh-from_none keys (n + 1) rest k (behind_rest keys n key rest behind)
-      (sym (from-fresh keys n key rest (behind_first keys n key rest behind) fresh) ∙ none) (omega (arith, other)) (omega arith)
+        (sym (from-fresh keys n key rest (behind_first keys n key rest behind) fresh) ∙ none) (omega (arith, other)) (omega arith)
   ]
 ]
 
@@ -89,7 +87,7 @@ pub same_seniority-found : (rights : List Right) (i : ℕ) → i < length rights
     first_like (map priority rights) i < i → same_seniority rights ≡ Some (SameSeniority (first_like (map priority rights) i) i)
 same_seniority-found rights i below fresh like =
     from-found (map priority rights) 0 (map priority rights) i (behind_all (map priority rights)) (omega arith) (omega (arith, length-map rights priority))
-      (λ k f b. fresh k b) like
+    (λ k f b. fresh k b) like
 
 pub same_seniority-none : (rights : List Right) → ((k : ℕ) → k < length rights → IsFresh (map priority rights) k) → same_seniority rights ≡ None
 same_seniority-none rights fresh =
@@ -106,8 +104,8 @@ strict-from_none rights none r s order below same =
     let in_keys : s < 0 + length (map priority rights) = omega (arith, length-map rights priority) in
     let fresh : s ≤ first_like (map priority rights) s = fresh-from_none (map priority rights) 0 (map priority rights) s (behind_all (map priority rights)) none (omega arith) in_keys in
     let at_most = position_or_len-at_most (bytes_eq (get_or (map priority rights) s [])) (map priority rights) r [] (omega arith)
-      (same_bytes (get_or (map priority rights) s []) (get_or (map priority rights) r [])
-        (sym (priority_in-is rights s) ∙ (sym same ∙ priority_in-is rights r))) in
+    (same_bytes (get_or (map priority rights) s []) (get_or (map priority rights) r [])
+    (sym (priority_in-is rights s) ∙ (sym same ∙ priority_in-is rights r))) in
     omega (arith, at_most)
 
 pub none-from_strict : (rights : List Right) → AreStrict rights → same_seniority rights ≡ None
@@ -119,7 +117,7 @@ none-from_strict rights strict = same_seniority-none rights fresh
         by_test : (t : Bool) → bytes_eq (get_or (map priority rights) k []) (get_or (map priority rights) j []) ≡ t → t ≡ false
         by_test false e = refl
         by_test true e = absurd (strict j k before below
-          (priority_in-is rights j ∙ (sym (bytes_same (get_or (map priority rights) k []) (get_or (map priority rights) j []) e) ∙ sym (priority_in-is rights k))))
+            (priority_in-is rights j ∙ (sym (bytes_same (get_or (map priority rights) k []) (get_or (map priority rights) j []) e) ∙ sym (priority_in-is rights k))))
 
     fresh : (k : ℕ) → k < length rights → IsFresh (map priority rights) k
     fresh k below =

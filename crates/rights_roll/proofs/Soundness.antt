@@ -1,5 +1,5 @@
 -- A roll without faults is sound, and a sound one has no fault.
-use Rattle.std.proofs.Common.{◌≡◌, ℕ, zero, suc, ◌<◌, ◌≤◌, Bool, true, false, List, [], ◌∷◌, length, Option, Some, None, refl, sym, ap, ◌∙◌, inl, inr, arith}
+use Rattle.std.proofs.Common.{◌≡◌, ℕ, zero, suc, ◌<◌, ◌≤◌, Bool, true, false, List, [], ◌∷◌, length, Option, Some, None, refl, sym, ap, ◌∙◌, arith}
 use Rattle.std.proofs.lemmas.Bool.Decides.{nat_tests}
 use Rattle.std.proofs.lemmas.Iterator.Adapters.{position_from-zero}
 use Rattle.std.specs.Prelude.{nat_lt, option_map, ◌+◌}
@@ -55,7 +55,7 @@ sound-from_none rights returns dates seniority zones parts = record {
   strict = strict-from_none rights seniority;
   zones = λ r h. place-fails (has_zone_fault rights) (length rights) r (none-mapped ZoneOrder (find (has_zone_fault rights) (range_with_len 0 (length rights))) zones) h;
   parts = λ r h. few_parts returns r
-    (place-fails (has_many_parts returns) (length rights) r (none-mapped ReturnParts (find (has_many_parts returns) (range_with_len 0 (length rights))) parts) h);
+      (place-fails (has_many_parts returns) (length rights) r (none-mapped ReturnParts (find (has_many_parts returns) (range_with_len 0 (length rights))) parts) h);
 }
 
 -- the fault of the whole is the first of the four
@@ -75,10 +75,10 @@ none-of_four rights returns dates seniority zones parts = roll_fault-is rights r
 pub roll_fault-sound : (rights : List Right) (returns : List ReturnRow) → IsSoundRoll rights returns → roll_fault rights returns ≡ None
 roll_fault-sound rights returns sound =
     none-of_four rights returns
-      (ap (λ (o : Option ℕ). option_map BadDate o) (position_from-zero has_bad_date rights ∙ none-from_dates rights 0 sound.dates))
-      (none-from_strict rights sound.strict)
-      (ap (λ (o : Option ℕ). option_map ZoneOrder o) (find-no_place (has_zone_fault rights) (length rights) sound.zones))
-      (ap (λ (o : Option ℕ). option_map ReturnParts o) (find-no_place (has_many_parts returns) (length rights) (λ r h. not_many_parts returns r (sound.parts r h))))
+    (ap (λ (o : Option ℕ). option_map BadDate o) (position_from-zero has_bad_date rights ∙ none-from_dates rights 0 sound.dates))
+    (none-from_strict rights sound.strict)
+    (ap (λ (o : Option ℕ). option_map ZoneOrder o) (find-no_place (has_zone_fault rights) (length rights) sound.zones))
+    (ap (λ (o : Option ℕ). option_map ReturnParts o) (find-no_place (has_many_parts returns) (length rights) (λ r h. not_many_parts returns r (sound.parts r h))))
 
 -- A refusal of one part is a refusal of the whole where the parts before it have no fault.
 
@@ -110,12 +110,12 @@ some_or OutOfMemory part rest h = h
 pub refused-seniority : (rights : List Right) (returns : List ReturnRow) (e : RollRefused) → date_fault rights ≡ None → IsRefusal e (same_seniority rights) → IsRefusal e (roll_fault rights returns)
 refused-seniority rights returns e dates h =
     refused e (roll_fault rights returns) (option_or (same_seniority rights) (option_or (zone_fault rights) (parts_fault rights returns)))
-      (roll_fault-is rights returns ∙ rw dates refl) (some_or e (same_seniority rights) (option_or (zone_fault rights) (parts_fault rights returns)) h)
+    (roll_fault-is rights returns ∙ rw dates refl) (some_or e (same_seniority rights) (option_or (zone_fault rights) (parts_fault rights returns)) h)
 
 pub refused-zone : (rights : List Right) (returns : List ReturnRow) (e : RollRefused) → date_fault rights ≡ None → same_seniority rights ≡ None → IsRefusal e (zone_fault rights) → IsRefusal e (roll_fault rights returns)
 refused-zone rights returns e dates seniority h =
     refused e (roll_fault rights returns) (option_or (zone_fault rights) (parts_fault rights returns))
-      (roll_fault-is rights returns ∙ rw dates (rw seniority refl)) (some_or e (zone_fault rights) (parts_fault rights returns) h)
+    (roll_fault-is rights returns ∙ rw dates (rw seniority refl)) (some_or e (zone_fault rights) (parts_fault rights returns) h)
 
 pub refused-parts : (rights : List Right) (returns : List ReturnRow) (e : RollRefused) → date_fault rights ≡ None → same_seniority rights ≡ None → zone_fault rights ≡ None →
     IsRefusal e (parts_fault rights returns) → IsRefusal e (roll_fault rights returns)

@@ -13,7 +13,6 @@ use Rattle.water_model.specs.declared.types.RightKind.{RightKind}
 use Rattle.water_model.specs.declared.types.RightKind.TheVariants.{Diversion, Instream, Zone}
 use Rattle.rights_roll.specs.RollFaults.{zone_fault}
 use Rattle.rights_roll.specs.Zones.{ZoneTable, same_zone, has_senior, AreSeniorZones}
-use Rattle.rights_roll.specs.declared.RollRefused.{RollRefused}
 use Rattle.rights_roll.specs.declared.RollRefused.TheVariants.{ZoneOrder}
 use Rattle.rights_roll.proofs.Firsts.{find-place, find-no_place}
 use Rattle.rights_roll.proofs.ZoneTables.{other_kind}
@@ -49,7 +48,7 @@ pub fault-repeats : (rights : List Right) (i : ℕ) (r : Right) (at its : ℕ) (
     is_new ≡ not (contains same_zone seen (at, its)) → is_new ≡ false → has_zone_fault rights i ≡ true
 fault-repeats rights i r at its zones seen is_new below is kind seniors so_far added old =
     by_test (has_zone_fault rights i) (contains same_zone seen (at, its)) (nat_lt 1 its && not (has_senior zones at (its - 1) (priority r)))
-      (has_zone_fault-is rights i r at its zones seen below is kind seniors so_far) (sym added ∙ old)
+    (has_zone_fault-is rights i r at its zones seen below is kind seniors so_far) (sym added ∙ old)
   where
     by_test : (f c l : Bool) → f ≡ c || l → not c ≡ false → f ≡ true
     by_test f true l e n = e
@@ -61,8 +60,8 @@ pub fault-lacks : (rights : List Right) (i : ℕ) (r : Right) (at its : ℕ) (zo
     lacks ≡ nat_lt 1 its && not (has_senior zones at (its - 1) key) → lacks ≡ true → has_zone_fault rights i ≡ true
 fault-lacks rights i r at its zones seen key lacks below is kind seniors so_far same_key told so =
     by_test (has_zone_fault rights i) (contains same_zone seen (at, its)) (nat_lt 1 its && not (has_senior zones at (its - 1) (priority r)))
-      (has_zone_fault-is rights i r at its zones seen below is kind seniors so_far)
-      (ap (λ q. nat_lt 1 its && not (has_senior zones at (its - 1) q)) (sym same_key) ∙ (sym told ∙ so))
+    (has_zone_fault-is rights i r at its zones seen below is kind seniors so_far)
+    (ap (λ q. nat_lt 1 its && not (has_senior zones at (its - 1) q)) (sym same_key) ∙ (sym told ∙ so))
   where
     by_test : (f c l : Bool) → f ≡ c || l → l ≡ true → f ≡ true
     by_test f true l e n = e
@@ -75,8 +74,8 @@ pub no_fault : (rights : List Right) (i : ℕ) (r : Right) (at its : ℕ) (zones
     lacks ≡ nat_lt 1 its && not (has_senior zones at (its - 1) key) → lacks ≡ false → has_zone_fault rights i ≡ false
 no_fault rights i r at its zones seen key is_new lacks below is kind seniors so_far same_key added fresh told neither =
     by_test (has_zone_fault rights i) (contains same_zone seen (at, its)) (nat_lt 1 its && not (has_senior zones at (its - 1) (priority r)))
-      (has_zone_fault-is rights i r at its zones seen below is kind seniors so_far) (sym added ∙ fresh)
-      (ap (λ q. nat_lt 1 its && not (has_senior zones at (its - 1) q)) (sym same_key) ∙ (sym told ∙ neither))
+    (has_zone_fault-is rights i r at its zones seen below is kind seniors so_far) (sym added ∙ fresh)
+    (ap (λ q. nat_lt 1 its && not (has_senior zones at (its - 1) q)) (sym same_key) ∙ (sym told ∙ neither))
   where
     by_test : (f c l : Bool) → f ≡ c || l → not c ≡ true → l ≡ false → f ≡ false
     by_test f true l e n o = cc
@@ -96,12 +95,12 @@ pub clear-zone : (rights : List Right) (i : ℕ) (r : Right) (at its : ℕ) (see
     Updates same_zone seen new (at, its) true → has_zone_fault rights i ≡ false → AreClear rights seen i → AreClear rights new (i + 1)
 clear-zone rights i r at its seen new below is kind updates fine so_far = record {
   levels = λ reservoir level.
-    updates.0 (reservoir, level)
-    ∙ (by_test (same_zone (at, its) (reservoir, level)) (contains same_zone seen (reservoir, level))
-    ∙ (ap (λ b. b || same_zone (at, its) (reservoir, level)) (so_far.levels reservoir level)
-    ∙ (ap (λ b. list_any (λ x. is_zone_kind reservoir level x.kind) (take i rights) || b)
-        (ap (is_zone_kind reservoir level) (sym kind) ∙ ap (λ x. is_zone_kind reservoir level x.kind) is)
-    ∙ sym (list_any_more (λ x. is_zone_kind reservoir level x.kind) rights i r below))));
+      updates.0 (reservoir, level)
+      ∙ (by_test (same_zone (at, its) (reservoir, level)) (contains same_zone seen (reservoir, level))
+      ∙ (ap (λ b. b || same_zone (at, its) (reservoir, level)) (so_far.levels reservoir level)
+      ∙ (ap (λ b. list_any (λ x. is_zone_kind reservoir level x.kind) (take i rights) || b)
+      (ap (is_zone_kind reservoir level) (sym kind) ∙ ap (λ x. is_zone_kind reservoir level x.kind) is)
+      ∙ sym (list_any_more (λ x. is_zone_kind reservoir level x.kind) rights i r below))));
   clear = below_more (λ k. has_zone_fault rights k ≡ false) i so_far.clear fine;
 }
   where
@@ -116,11 +115,11 @@ pub clear-other : (rights : List Right) (i : ℕ) (r : Right) (seen : ZoneSet) �
     ((at its : ℕ) → r.kind ≡ Zone at its → ⊥) → AreClear rights seen i → AreClear rights seen (i + 1)
 clear-other rights i r seen below is apart so_far = record {
   levels = λ reservoir level.
-    so_far.levels reservoir level
-    ∙ (or_false (list_any (λ x. is_zone_kind reservoir level x.kind) (take i rights))
-    ∙ (ap (λ b. list_any (λ x. is_zone_kind reservoir level x.kind) (take i rights) || b)
-        (sym (other_kind r.kind reservoir level apart) ∙ ap (λ x. is_zone_kind reservoir level x.kind) is)
-    ∙ sym (list_any_more (λ x. is_zone_kind reservoir level x.kind) rights i r below)));
+      so_far.levels reservoir level
+      ∙ (or_false (list_any (λ x. is_zone_kind reservoir level x.kind) (take i rights))
+      ∙ (ap (λ b. list_any (λ x. is_zone_kind reservoir level x.kind) (take i rights) || b)
+      (sym (other_kind r.kind reservoir level apart) ∙ ap (λ x. is_zone_kind reservoir level x.kind) is)
+      ∙ sym (list_any_more (λ x. is_zone_kind reservoir level x.kind) rights i r below)));
   clear = below_more (λ k. has_zone_fault rights k ≡ false) i so_far.clear fine;
 }
   where

@@ -43,7 +43,7 @@ pub noted-put : (old new : ZoneTable) (zone : ℕ × ℕ) (q : Priority) → has
 noted-put old new zone q h updates reservoir level key =
     ap (λ o. is_senior_one o key) (updates.0 (reservoir, level))
     ∙ by_test (same_zone zone (reservoir, level)) (get same_zone old (reservoir, level))
-      (λ same senior. senior_replaced (get same_zone old zone) q key h (sym (at_same_zone old zone reservoir level key same) ∙ senior))
+    (λ same senior. senior_replaced (get same_zone old zone) q key h (sym (at_same_zone old zone reservoir level key same) ∙ senior))
   where
     by_test : (t : Bool) (o : Option Priority) → (t ≡ true → is_senior_one o key ≡ true → is_lower (numbers_of q) key ≡ true) →
         is_senior_one (cond t (Some q) o) key ≡ is_senior_one o key || (t && is_lower (numbers_of q) key)
@@ -62,7 +62,7 @@ noted-put old new zone q h updates reservoir level key =
 pub senior_zones-more : (rights : List Right) (i : ℕ) (r : Right) (at its : ℕ) (p : Priority) (old new : ZoneTable) → i < length rights →
     r ≡ get_or rights i r → r.kind ≡ Zone at its → numbers_of p ≡ priority r →
     ((reservoir level : ℕ) (key : List ℕ) →
-        has_senior new reservoir level key ≡ has_senior old reservoir level key || (same_zone (at, its) (reservoir, level) && is_lower (numbers_of p) key)) →
+    has_senior new reservoir level key ≡ has_senior old reservoir level key || (same_zone (at, its) (reservoir, level) && is_lower (numbers_of p) key)) →
     AreSeniorZones (take i rights) old → AreSeniorZones (take (i + 1) rights) new
 senior_zones-more rights i r at its p old new below is kind parts noted so_far = λ reservoir level key.
     noted reservoir level key

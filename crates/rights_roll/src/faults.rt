@@ -26,7 +26,11 @@ pub fn check_dates(rights: &[Right]) -> Result<(), RollRefused>
 }
 
 /// The sum of the parts of each right's return rows, or the greatest `u32` where it is more.
-fn parts_by_right(alloc: Global, rights: usize, returns: &[ReturnRow]) -> Result<Vec<u32>, AllocError>
+fn parts_by_right(
+    alloc: Global,
+    rights: usize,
+    returns: &[ReturnRow],
+) -> Result<Vec<u32>, AllocError>
     requires { All (λ row. row.right < rights) returns.now }
     ensures { IfOk result (λ sums. AreParts returns.now rights sums.items) }
 {
@@ -45,7 +49,11 @@ fn first_above_whole(sums: &[u32]) -> Option<usize>
 }
 
 /// Refuses the first right whose return rows have more than 10,000 parts.
-pub fn check_parts(alloc: Global, rights: &[Right], returns: &[ReturnRow]) -> Result<(), RollRefused>
+pub fn check_parts(
+    alloc: Global,
+    rights: &[Right],
+    returns: &[ReturnRow],
+) -> Result<(), RollRefused>
     requires few { length rights.now ≤ 2000 }
     requires rows { All (λ row. row.right < length rights.now) returns.now }
     ensures none { OnOk result (parts_fault rights.now returns.now ≡ None) }

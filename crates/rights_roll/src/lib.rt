@@ -12,6 +12,8 @@ mod links;
 mod order;
 pub mod priority;
 pub mod roll;
+#[cfg(test)]
+mod tests;
 mod zones;
 
 /// Why rights and return rows are no roll. Rights are numbered from 0.

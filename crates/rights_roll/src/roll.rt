@@ -1,5 +1,5 @@
 //! The roll of rights.
-ghost use Rattle.std.specs.Prelude.{◌≡◌, ◌-◌, ◌<◌, ◌≤◌, length, slice_index, slice_index_or, [], All, None, OnOk, IfOk, IfErr};
+ghost use Rattle.std.specs.Prelude.{◌≡◌, ◌-◌, ◌<◌, ◌≤◌, length, map, slice_index, slice_index_or, [], All, None, OnOk, IfOk, IfErr};
 ghost use Rattle.water_model.specs.Rights.{IsSoundRoll};
 ghost use Rattle.rights_roll.specs.RollFaults.{roll_fault, IsRollRefusal};
 ghost use Rattle.rights_roll.specs.Rolls.{IsRollOf};
@@ -34,10 +34,24 @@ impl Model for Roll {
     ghost invariant = { λ r. length r.next_on.items ≡ length r.wants.items };
 }
 
+fn wants_of(alloc: Global, rights: &[Right]) -> Result<Vec<[u64; 12]>, AllocError>
+    ensures { IfOk result (λ wants. wants.items ≡ map (λ r. r.want) rights.now) }
+{
+    let mut wants = Vec::with_capacity(alloc, rights.len())?;
+    for right in rights {
+        wants.push(right.want)?;
+    }
+    Ok(wants)
+}
+
 impl Roll {
     /// The roll of the rights, or what is at fault first: of dates, then of seniority, then of zones, then of return
     /// rows. The rows name rights of the list, and parts are parts of 10,000.
-    pub fn build(alloc: Global, rights: &[Right], returns: &[ReturnRow]) -> Result<Roll, RollRefused>
+    pub fn build(
+        alloc: Global,
+        rights: &[Right],
+        returns: &[ReturnRow],
+    ) -> Result<Roll, RollRefused>
         requires few { length rights.now ≤ 2000 }
         requires rows { All (λ row. row.right < length rights.now) returns.now }
         ensures ok { IfOk result (IsRollOf rights.now) }
@@ -49,9 +63,14 @@ impl Roll {
         let order = order_of(alloc, rights)?;
         check_zones(alloc, rights)?;
         check_parts(alloc, rights, returns)?;
-        let wants = rights.iter().map(|right| right.want).collect(alloc)?;
+        let wants = wants_of(alloc, rights)?;
         let Chains { first_on, next_on } = chains_of(alloc, rights)?;
-        Ok(Roll { order, wants, first_on, next_on })
+        Ok(Roll {
+            order,
+            wants,
+            first_on,
+            next_on,
+        })
     }
 
     /// Every right once, seniors first.

@@ -1,10 +1,9 @@
 -- The network of nodes and links that have no fault.
-use Rattle.std.proofs.Common.{◌≡◌, ℕ, zero, suc, ◌+◌, ◌<◌, ◌≤◌, Bool, true, false, refl, sym, ◌∙◌, ap, subst, arith, List, [], ◌∷◌, length, get_or, map, inl, inr}
+use Rattle.std.proofs.Common.{◌≡◌, ℕ, zero, suc, ◌<◌, refl, sym, ◌∙◌, ap, subst, arith, List, [], ◌∷◌, length, get_or, map, inl, inr}
 use Rattle.std.proofs.lemmas.Bool.{cases_Bool, and_parts, and_from, false_from_ne_true, false≢true, eqb-true, eq-eqb, not_from_true, not_from_false}
-use Rattle.std.specs.Prelude.{◌==◌, ◌&&◌, not, ◌⊎◌, Option, Some, None, is_none, All, slice_index}
+use Rattle.std.specs.Prelude.{◌==◌, ◌&&◌, not, Option, Some, None, is_none, All, slice_index}
 use Rattle.std.specs.List.{find, range_with_len}
-use Rattle.water_model.specs.Network.{tail_in, head_in, is_river_in, is_outlet_in, HasNodes, HasRiverOut, IsSoundNetwork}
-use Rattle.water_model.specs.RunOfRiver.{IsFirstRiver}
+use Rattle.water_model.specs.Network.{tail_in, head_in, is_river_in, is_outlet_in, HasNodes, IsSoundNetwork}
 use Rattle.water_model.specs.declared.types.Link.{Link}
 use Rattle.water_model.specs.declared.types.Node.{Node}
 use Rattle.river_net.specs.Firsts.{AreFirsts, IsFirstFrom, leaves_as_river}
@@ -13,7 +12,6 @@ use Rattle.river_net.specs.Net.{IsNet, IsRiverOf, IsRunningOrder}
 use Rattle.river_net.specs.Search.{reaches_itself}
 use Rattle.river_net.specs.Sorting.{IsReleased}
 use Rattle.river_net.specs.NetFaults.{first_without_river, first_on_cycle, lacks_river, keeps_water}
-use Rattle.river_net.specs.NetSeen.{NetSeen}
 use Rattle.river_net.proofs.Entries.{ends_in}
 use Rattle.river_net.proofs.Sorted.{running_order}
 use Rattle.river_net.proofs.Finds.{find_same}
@@ -46,8 +44,7 @@ river_of nodes links v None sound l first = elim (cases_Bool (is_outlet_in nodes
 ]
 river_of nodes links v (Some e) sound l first =
     let parts = and_parts (tail_in links e == v) (is_river_in links e) first.2 in
-    let tail : tail_in links e ≡ v = eqb-true (tail_in links e) v parts.0 in
-    (
+    let tail : tail_in links e ≡ v = eqb-true (tail_in links e) v parts.0 in (
       ap (is_outlet_in nodes) (sym tail) ∙ sound.outlets_end e first.1,
       record {
         in_range = first.1;

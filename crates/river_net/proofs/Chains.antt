@@ -1,8 +1,7 @@
 -- Links behind one another, backwards: as many of them as there are nodes pass some node twice.
-use Rattle.std.proofs.Common.{◌≡◌, ℕ, zero, suc, ◌+◌, ◌<◌, ◌≤◌, Bool, true, false, refl, sym, ◌∙◌, ap, subst, arith, List, length, inl, inr}
+use Rattle.std.proofs.Common.{◌≡◌, ℕ, zero, suc, ◌<◌, ◌≤◌, true, refl, sym, ◌∙◌, ap, arith, List, length, inl, inr}
 use Rattle.std.proofs.lemmas.Bool.{cases_eq, cases_lt, eqb-true, ltb-false, ltb-true}
-use Rattle.std.proofs.lemmas.Bool.Decides.{nat_tests}
-use Rattle.std.specs.Prelude.{◌==◌, nat_lt, ◌⊎◌, if◌then◌else◌}
+use Rattle.std.specs.Prelude.{◌==◌, nat_lt, if◌then◌else◌}
 use Rattle.place_sums.specs.Sums.{total, count_where}
 use Rattle.place_sums.proofs.Totals.{total_same, total_exchange, total_at, total_le, place_counted}
 use Rattle.water_model.specs.Network.{walks, tail_in, head_in}
@@ -25,7 +24,6 @@ repeats n f below = elim (all_or_one n (λ v. nat_lt (count_where (suc n) (λ k.
   | inr many ↦ twice many.0 (ltb-false (count_where (suc n) (λ k. f k == many.0)) 2 many.1.1)
 ]
   where
-
     -- each of the n + 1 numbers is counted at one value
     all : total n (λ v. count_where (suc n) (λ k. f k == v)) ≡ suc n
     all = total_exchange n (suc n) (λ v k. if f k == v then 1 else 0)
@@ -138,10 +136,9 @@ chain_walk links nodes k node c i (suc j) l m = walk_by links j (c.at (suc j)) (
 pub chain_turns : (links : List Link) (nodes node : ℕ) → Chain links nodes nodes node → (v : ℕ) × (v < nodes) × (walks links nodes v v ≡ true)
 chain_turns links nodes node c =
     let r = repeats nodes c.at c.inside in
-    let o = r.order in let w = r.within in
-    (
+    let o = r.order in let w = r.within in (
       c.at r.first,
       c.inside r.first (omega arith),
       ap (λ v. walks links nodes v (c.at r.first)) r.same
-      ∙ walk_within links r.second nodes (c.at r.second) (c.at r.first) w (chain_walk links nodes nodes node c r.first r.second o w),
+          ∙ walk_within links r.second nodes (c.at r.second) (c.at r.first) w (chain_walk links nodes nodes node c r.first r.second o w),
     )

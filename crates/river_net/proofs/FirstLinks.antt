@@ -1,11 +1,11 @@
 -- A link more is put into the list of its tail.
-use Rattle.std.proofs.Common.{◌≡◌, ◌∙◌, ℕ, ◌+◌, ◌<◌, ◌≤◌, Bool, true, false, List, length, refl, sym, ap, subst, arith, get_or, inl, inr}
+use Rattle.std.proofs.Common.{◌≡◌, ◌∙◌, ℕ, ◌+◌, ◌<◌, Bool, false, List, length, sym, ap, subst, arith, get_or, inl, inr}
 use Rattle.std.proofs.lemmas.Bool.{cases_eq, eq-eqb, ne_eqb}
 use Rattle.std.proofs.lemmas.List.{get_or-set_same, get_or-set_other, length-set}
 use Rattle.std.specs.Prelude.{Option, Some, None, slice_set}
 use Rattle.water_model.specs.Network.{tail_in}
 use Rattle.water_model.specs.declared.types.Link.{Link}
-use Rattle.river_net.specs.Firsts.{IsFirstFrom, AreFirsts, IsLeaving, leaves}
+use Rattle.river_net.specs.Firsts.{IsFirstFrom, IsLeaving, leaves}
 
 -- a place before the others that does not pass
 first_skip : (test : ℕ → Bool) (e bound : ℕ) (o : Option ℕ) → test e ≡ false → IsFirstFrom test (e + 1) bound o → IsFirstFrom test e bound o

@@ -1,10 +1,10 @@
 -- A network is sound exactly where it has no fault.
-use Rattle.std.proofs.Common.{◌≡◌, ℕ, zero, suc, ◌+◌, ◌<◌, ◌≤◌, Bool, true, false, refl, sym, ◌∙◌, ap, subst, arith, List, [], ◌∷◌, length, get_or, inl, inr, cond}
+use Rattle.std.proofs.Common.{◌≡◌, ℕ, zero, suc, ◌<◌, Bool, true, false, refl, sym, ◌∙◌, ap, subst, arith, List, [], ◌∷◌, length, inl, inr, cond}
 use Rattle.std.proofs.lemmas.Bool.{cases_Bool, and_parts, and_from, and_left, and_right, false_from_ne_true, false≢true, eqb-true, eq-eqb, ltb-true, ltb-false, not_from_true, not_from_false}
 use Rattle.std.proofs.lemmas.List.Sums.{fails_before_first, passes_at_first}
 use Rattle.std.proofs.lemmas.Option.{get_or_from_slice_get, slice_get_within}
-use Rattle.std.specs.Prelude.{◌==◌, ◌&&◌, not, nat_lt, ◌⊎◌, Option, Some, None, All, option_map, unwrap_or, slice_get, position}
-use Rattle.std.specs.List.{list_any, find, range_with_len, position_or_len}
+use Rattle.std.specs.Prelude.{◌==◌, ◌&&◌, not, nat_lt, Option, Some, None, All, option_map, unwrap_or, slice_get, position}
+use Rattle.std.specs.List.{list_any, position_or_len}
 use Rattle.std.specs.Option.{option_or}
 use Rattle.water_model.specs.Network.{walks, tail_in, head_in, is_river_in, is_river_kind, is_outlet_in, is_on_cycle, HasNodes, HasRiverOut, IsSoundNetwork}
 use Rattle.water_model.specs.declared.types.Link.{Link}
@@ -97,7 +97,7 @@ no_chain None None None (Some x) h = cc
 no_fault : (nodes : List Node) (links : List Link) → net_fault nodes links ≡ None → HasNoFault nodes links
 no_fault nodes links h =
     let parts = no_chain (first_self_link links) (first_from_outlet nodes links) (first_without_river nodes links) (first_on_cycle nodes links)
-        (sym (fault_is nodes links (first_self_link links) (first_from_outlet nodes links) (first_without_river nodes links) (first_on_cycle nodes links) refl refl refl refl) ∙ h) in
+    (sym (fault_is nodes links (first_self_link links) (first_from_outlet nodes links) (first_without_river nodes links) (first_on_cycle nodes links) refl refl refl refl) ∙ h) in
     record { self_links = parts.0; from_outlets = parts.1; without_river = parts.2; on_cycle = parts.3 }
 
 -- a network without a fault is sound

@@ -1,12 +1,12 @@
 -- In a sound network the nodes have numbers in which each link leads to a greater one.
-use Rattle.std.proofs.Common.{◌≡◌, ℕ, zero, suc, ◌+◌, ◌<◌, ◌≤◌, Bool, true, false, refl, sym, ◌∙◌, ap, subst, arith, List, length, inl, inr}
+use Rattle.std.proofs.Common.{◌≡◌, ℕ, zero, suc, ◌<◌, Bool, true, refl, sym, ◌∙◌, ap, subst, arith, List, length, inl, inr}
 use Rattle.std.proofs.lemmas.Bool.{cases_lt, cases_Bool, and_parts, and_from, eqb-true, eq-eqb, false≢true}
 use Rattle.std.proofs.lemmas.Option.{slice_get_within}
-use Rattle.std.specs.Prelude.{◌==◌, ◌&&◌, max, if◌then◌else◌, ◌⊎◌, Option, Some, slice_get, unwrap_or, option_map}
+use Rattle.std.specs.Prelude.{◌==◌, ◌&&◌, max, if◌then◌else◌, unwrap_or, option_map}
 use Rattle.std.specs.List.{list_any}
 use Rattle.place_sums.specs.Sums.{greatest_where}
 use Rattle.place_sums.proofs.Totals.{greatest_where_le, term_le_greatest}
-use Rattle.water_model.specs.Network.{walks, tail_in, head_in, IsForward, IsSoundNetwork}
+use Rattle.water_model.specs.Network.{tail_in, head_in, IsForward, IsSoundNetwork}
 use Rattle.water_model.specs.declared.types.Link.{Link}
 use Rattle.water_model.specs.declared.types.Node.{Node}
 use Rattle.river_net.specs.Firsts.{IsWithin}
@@ -46,8 +46,13 @@ reached : (n : ℕ) (p : ℕ → Bool) → p 0 ≡ true → (k : ℕ) × (k < su
 unfolding greatest_where
 reached zero p first = (0, omega arith, first, ap (λ t. max 0 (if t then 0 else 0)) first ∙ refl)
 reached (suc n) p first = elim (cases_Bool (p (suc n))) [
-  | inl passes ↦ (suc n, omega arith, passes, (let least = greatest_where_le (suc n) p (λ i. i) n (λ k l t. omega arith) in
-      let last : (if p (suc n) then suc n else 0) ≡ suc n = ap (λ t. if t then suc n else 0) passes in omega arith))
+  | inl passes ↦ (
+    suc n,
+    omega arith,
+    passes,
+    (let least = greatest_where_le (suc n) p (λ i. i) n (λ k l t. omega arith) in
+        let last : (if p (suc n) then suc n else 0) ≡ suc n = ap (λ t. if t then suc n else 0) passes in omega arith),
+  )
   | inr fails ↦ (let before = reached n p first in
       let last : (if p (suc n) then suc n else 0) ≡ 0 = ap (λ t. if t then suc n else 0) fails in
       (before.0, (let l = before.1 in omega arith), before.2, (let g = before.3 in omega arith)))

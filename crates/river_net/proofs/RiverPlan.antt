@@ -1,16 +1,15 @@
 -- The run of the river is a plan.
-use Rattle.std.proofs.Common.{◌≡◌, ◌≢◌, ℕ, zero, suc, ◌+◌, ◌<◌, ◌≤◌, Bool, true, false, refl, sym, ◌∙◌, ap, subst, arith, List, length, inl, inr}
-use Rattle.std.proofs.lemmas.Bool.{cases_lt, cases_eq, cases_Bool, and_parts, and_from, eqb-true, eq-eqb, ltb-true, lt-ltb, false≢true, true_from_ne_false}
+use Rattle.std.proofs.Common.{◌≡◌, ℕ, zero, suc, ◌+◌, ◌<◌, ◌≤◌, Bool, true, false, refl, sym, ◌∙◌, ap, arith, List, length, inl, inr}
+use Rattle.std.proofs.lemmas.Bool.{cases_lt, cases_eq, cases_Bool, and_parts, and_from, eqb-true, eq-eqb, false≢true}
 use Rattle.std.proofs.lemmas.Bool.Decides.{nat_tests}
 use Rattle.std.specs.Prelude.{◌==◌, ◌&&◌, ◌^◌, nat_lt, nat_le, if◌then◌else◌, ◌⊎◌, slice_index, slice_get, Option, Some, None, unwrap_or, option_map}
 use Rattle.place_sums.specs.Sums.{total, total_where}
 use Rattle.place_sums.proofs.Totals.{total_same, total_zero, total_add, total_at, total_pick, total_le}
-use Rattle.water_model.specs.Network.{tail_in, head_in, is_outlet_in, is_river_in, IsForward, IsSoundNetwork, HasRiverOut}
+use Rattle.water_model.specs.Network.{tail_in, head_in, is_outlet_in, is_river_in, is_river_kind, IsForward, IsSoundNetwork, HasRiverOut}
 use Rattle.water_model.specs.RunOfRiver.{IsFirstRiver, RunsNaturally, water_at}
 use Rattle.water_model.specs.declared.types.Link.{Link}
 use Rattle.water_model.specs.declared.types.Node.{Node}
 use Rattle.water_model.specs.Basin.{takes_at}
-use Rattle.water_model.specs.Network.{is_river_kind}
 use Rattle.water_model.specs.Plans.{carry_of, carry_of_kind}
 use Rattle.water_text.specs.declared.month.Month.{Month}
 use Rattle.water_model.specs.declared.types.Basin.{Basin}
@@ -81,15 +80,15 @@ pub river_balance : (nodes : List Node) (links : List Link) (supply flow out : L
 river_balance nodes links supply flow out sound run v l = elim (cases_Bool (is_outlet_in nodes v)) [
   | inl outlet ↦ (let at_outlet = run.outlets v l outlet in
       let none = total_zero (length links) (λ e. if tail_in links e == v then slice_index flow e else 0) (λ e m.
-          no_value (tail_in links e == v) (slice_index flow e) (λ at. let no = sound.outlets_end e m in
-          absurd (false≢true (sym no ∙ (ap (is_outlet_in nodes) (eqb-true (tail_in links e) v at) ∙ outlet))))) in omega arith)
+      no_value (tail_in links e == v) (slice_index flow e) (λ at. let no = sound.outlets_end e m in
+      absurd (false≢true (sym no ∙ (ap (is_outlet_in nodes) (eqb-true (tail_in links e) v at) ∙ outlet))))) in omega arith)
   | inr inner ↦ (let river = first_river links v (sound.rivers v l inner) in
       let dry = run.inner v l inner in
       let flows = run.rivers river.0 river.1 in
       let here = ap (water_at links supply flow) river.2 in
       let one = total_pick (length links) river.0 (λ e. if tail_in links e == v then slice_index flow e else 0) river.1.in_range (λ e m ne.
-          no_value (tail_in links e == v) (slice_index flow e) (λ at. run.others e m (λ first.
-          ne (same_river links e river.0 first river.1 (eqb-true (tail_in links e) v at ∙ sym river.2))))) in
+      no_value (tail_in links e == v) (slice_index flow e) (λ at. run.others e m (λ first.
+      ne (same_river links e river.0 first river.1 (eqb-true (tail_in links e) v at ∙ sym river.2))))) in
       let own = own_value (tail_in links river.0) v (slice_index flow river.0) river.2 in omega arith)
 ]
   where

@@ -1,8 +1,8 @@
 -- One node more sends its water on.
-use Rattle.std.proofs.Common.{◌≡◌, ◌≢◌, ℕ, ◌+◌, ◌<◌, ◌≤◌, Bool, true, false, refl, sym, ◌∙◌, ap, subst, arith, List, length, get_or, inl, inr}
+use Rattle.std.proofs.Common.{◌≡◌, ◌≢◌, ℕ, ◌+◌, ◌<◌, Bool, true, false, refl, sym, ◌∙◌, ap, subst, arith, List, length, inl, inr}
 use Rattle.std.proofs.lemmas.Bool.{cases_lt, cases_eq, eqb-true}
 use Rattle.std.proofs.lemmas.Bool.Decides.{nat_tests}
-use Rattle.std.specs.Prelude.{◌==◌, ◌^◌, slice_index, slice_index_or, Option, Some, None, IfSome, IfNone, All, nat_lt, if◌then◌else◌, ◌⊎◌}
+use Rattle.std.specs.Prelude.{◌==◌, ◌^◌, slice_index, slice_index_or, Option, Some, None, IfSome, IfNone, All, nat_lt, if◌then◌else◌}
 use Rattle.place_sums.specs.Sums.{total, total_where}
 use Rattle.place_sums.proofs.Totals.{total_same, total_zero, total_add, total_at, total_change, total_pick, term_le_total}
 use Rattle.water_model.specs.Network.{tail_in, head_in, is_outlet_in, is_river_in, HasNodes, IsSoundNetwork}
@@ -186,7 +186,6 @@ run_sends nodes links supply order run flow out ends sound now e first =
             | inr more ↦ absurd (unique e f first some.0 (sym at) (omega arith))
           ])
     ])
-
 
 -- the run of the river is what is left where all nodes sent their water on
 pub runs_naturally : (nodes : List Node) (links : List Link) (supply order : List ℕ) (run : IsRunningOrder nodes links order) (flow out : List ℕ) →

@@ -1,18 +1,16 @@
 -- A search goes on, over one link more.
-use Rattle.std.proofs.Common.{◌≡◌, ◌≢◌, ℕ, ◌+◌, ◌<◌, ◌≤◌, Bool, true, false, refl, sym, ◌∙◌, ap, subst, arith, List, [], ◌∷◌, ◌++◌, length, replicate, inl, inr, add-one}
-use Rattle.std.proofs.lemmas.Bool.{cases_eq, cases_lt, cases_Bool, false≢true, false_from_ne_true}
+use Rattle.std.proofs.Common.{◌≡◌, ◌≢◌, ℕ, suc, ◌+◌, ◌<◌, ◌≤◌, Bool, true, false, refl, sym, ◌∙◌, ap, subst, arith, List, [], ◌∷◌, ◌++◌, length, replicate, inl, inr}
+use Rattle.std.proofs.lemmas.Bool.{cases_eq, cases_lt, cases_Bool, false_from_ne_true}
 use Rattle.std.proofs.lemmas.Bool.Decides.{nat_tests}
 use Rattle.std.proofs.lemmas.List.{get_or-set_same, get_or-set_other, get_or-replicate, length-set, length-replicate}
 use Rattle.std.proofs.lemmas.Grind.{common_steps}
-use Rattle.std.specs.Prelude.{◌==◌, ◌||◌, nat_lt, ◌⊎◌, slice_index, slice_set, if◌then◌else◌, Option, Some, None}
-use Rattle.place_sums.specs.Sums.{total, count_where}
+use Rattle.std.specs.Prelude.{◌==◌, ◌||◌, nat_lt, slice_index, slice_set, if◌then◌else◌, Option, Some, None}
 use Rattle.place_sums.proofs.Totals.{total_same, total_add, total_at, count_at_most}
 use Rattle.water_model.specs.Lookups.{has}
 use Rattle.water_model.specs.Network.{walks, tail_in, head_in}
 use Rattle.river_net.specs.Firsts.{IsWithin, IsFirstFrom, leaves}
 use Rattle.river_net.specs.GraphSeen.{GraphSeen}
 use Rattle.river_net.specs.Search.{IsSearch, IsExpanded, IsExpanding, reaches_itself}
-use Rattle.river_net.specs.Sorting.{is_before}
 use Rattle.river_net.proofs.Counts.{at_inside}
 use Rattle.river_net.proofs.Releases.{first_leaves, splits}
 use Rattle.river_net.proofs.Walks.{walk_on, walk_one, walk_within, walk_stays}
@@ -202,10 +200,13 @@ expand_next g start seen queue done node e seen' queue' next within now other se
             one : (v h : ℕ) (t : Bool) → (v ≡ h → t ≡ false) → (if v == h || t then 1 else 0) ≡ (if t then 1 else 0) + (if h == v then 1 else 0)
             one v h t e = grind (arith, nat_tests)
 
+        one_more : (k : ℕ) → k + 1 ≡ suc k
+        one_more k = omega arith
+
         -- a walk goes on behind the new node
         further : (f : ℕ) → f < length g.links → tail_in g.links f ≡ h → walks g.links (done + 1 + 1) start (head_in g.links f) ≡ true
-        further f m at = rw add-one (walk_on g.links (done + 1) start f m
-            (subst (λ v. walks g.links (done + 1) start v ≡ true) (sym at) (s.reached done e now.within now.leaves.0 (now.leaves.1 ∙ sym now.at))))
+        further f m at = ap (λ k. walks g.links k start (head_in g.links f)) (one_more (done + 1)) ∙ walk_on g.links (done + 1) start f m
+            (subst (λ v. walks g.links (done + 1) start v ≡ true) (sym at) (s.reached done e now.within now.leaves.0 (now.leaves.1 ∙ sym now.at)))
 
     all : (queue' : List ℕ) → IsSearch g start seen' queue' → length queue ≤ length queue' → ((j : ℕ) → j < length queue → slice_index queue' j ≡ slice_index queue j) →
         IsExpanding g start seen' queue' done node next

@@ -1,8 +1,7 @@
 -- What nodes in order say of cycles.
-use Rattle.std.proofs.Common.{◌≡◌, ℕ, zero, suc, ◌+◌, ◌<◌, ◌≤◌, Bool, true, false, refl, sym, ◌∙◌, ap, subst, arith, List, length, inl, inr}
-use Rattle.std.proofs.lemmas.Bool.{cases_eq, cases_lt, cases_Bool, and_parts, not-true, eqb-true, ltb-false, lt-ltb, false_from_ne_true, false≢true}
+use Rattle.std.proofs.Common.{◌≡◌, ℕ, zero, suc, ◌<◌, ◌≤◌, false, sym, ◌∙◌, subst, arith, List, length, inl, inr}
+use Rattle.std.proofs.lemmas.Bool.{cases_eq, cases_lt, and_parts, not-true, eqb-true, ltb-false, lt-ltb, false_from_ne_true, false≢true}
 use Rattle.std.specs.Prelude.{◌==◌, ◌&&◌, not, nat_lt, ◌⊎◌, slice_index}
-use Rattle.place_sums.specs.Sums.{count_where}
 use Rattle.place_sums.proofs.Totals.{place_counted, IsCounted}
 use Rattle.water_model.specs.Network.{walks, tail_in, head_in}
 use Rattle.water_model.specs.declared.types.Link.{Link}
@@ -10,7 +9,7 @@ use Rattle.water_model.specs.declared.types.Node.{Node}
 use Rattle.river_net.specs.Firsts.{IsWithin}
 use Rattle.river_net.specs.GraphSeen.{GraphSeen}
 use Rattle.river_net.specs.Net.{IsRunningOrder}
-use Rattle.river_net.specs.Sorting.{IsPlacing, IsReleased}
+use Rattle.river_net.specs.Sorting.{IsReleased}
 use Rattle.river_net.proofs.Counts.{all_counted}
 use Rattle.river_net.proofs.Walks.{walk_rises}
 use Rattle.river_net.proofs.Chains.{Chain, chain_start, chain_more, chain_turns}

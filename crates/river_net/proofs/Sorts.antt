@@ -1,16 +1,16 @@
 -- Nodes get their places while links are handled.
 use Rattle.std.proofs.Common.{◌≡◌, ◌≢◌, ℕ, ◌+◌, ◌-◌, ◌<◌, ◌≤◌, Bool, true, false, refl, sym, ◌∙◌, ap, subst, arith, List, [], ◌∷◌, ◌++◌, length, inl, inr}
-use Rattle.std.proofs.lemmas.Bool.{cases_lt, cases_eq, cases_Bool, eqb-true, eq-eqb, ne_eqb, false≢true, or_cases, le-ltb, lt-ltb, ltb-true}
+use Rattle.std.proofs.lemmas.Bool.{cases_eq, eqb-true, eq-eqb, ne_eqb, false≢true, or_cases, le-ltb}
 use Rattle.std.proofs.lemmas.Bool.Decides.{nat_tests}
 use Rattle.std.proofs.lemmas.List.{get_or-set_same, get_or-set_other, length-set}
 use Rattle.std.proofs.lemmas.Grind.{common_steps}
-use Rattle.std.specs.Prelude.{◌==◌, ◌&&◌, ◌||◌, not, slice_index, slice_set, nat_lt, if◌then◌else◌, ◌⊎◌, Option, Some, None, IfSome}
-use Rattle.place_sums.specs.Sums.{total, count_where}
-use Rattle.place_sums.proofs.Totals.{total_same, total_change, term_le_total_where}
+use Rattle.std.specs.Prelude.{◌==◌, ◌&&◌, ◌||◌, not, slice_index, slice_set, if◌then◌else◌, ◌⊎◌}
+use Rattle.place_sums.specs.Sums.{count_where}
+use Rattle.place_sums.proofs.Totals.{total_same, total_change}
 use Rattle.water_model.specs.Network.{tail_in, head_in}
-use Rattle.river_net.specs.Firsts.{IsWithin, IsFirstFrom, leaves}
+use Rattle.river_net.specs.Firsts.{IsWithin}
 use Rattle.river_net.specs.GraphSeen.{GraphSeen}
-use Rattle.river_net.specs.Sorting.{AreEntering, IsPlacing, IsSorting, HasSources, IsReleased, IsReleasing, is_before}
+use Rattle.river_net.specs.Sorting.{AreEntering, IsPlacing, IsSorting, HasSources, IsReleased}
 use Rattle.river_net.proofs.Counts.{none_passes}
 use Rattle.river_net.proofs.Places.{with_place, at_place, off_place, placing_start, placing_next, room}
 
@@ -141,7 +141,7 @@ less_waiting : (g : GraphSeen) (handled : ℕ → Bool) (e v : ℕ) → e < leng
     waiting_at g (and_link handled e) v + (if head_in g.links e == v then 1 else 0) ≡ waiting_at g handled v
 less_waiting g handled e v below unhandled_yet =
     let change = total_change (length g.links) e (λ f. if head_in g.links f == v && not (and_link handled e f) then 1 else 0)
-        (λ f. if head_in g.links f == v && not (handled f) then 1 else 0) below (λ f l other. same (head_in g.links f == v) (handled f) f e 1 other) in
+    (λ f. if head_in g.links f == v && not (handled f) then 1 else 0) below (λ f l other. same (head_in g.links f == v) (handled f) f e 1 other) in
     let gone = none (head_in g.links e == v) (handled e) e 1 in
     let was = one (head_in g.links e == v) (handled e) 1 unhandled_yet in
     omega arith

@@ -1,5 +1,5 @@
 -- Water sent down rivers, node by node in the order of a network.
-use Rattle.std.specs.Prelude.{◌≡◌, ◌≢◌, ◌⊎◌, ℕ, ◌+◌, ◌<◌, ◌≤◌, ◌^◌, ◌==◌, Option, IfSome, true, false, List, length, slice_index}
+use Rattle.std.specs.Prelude.{◌≡◌, ◌≢◌, ◌⊎◌, ℕ, ◌+◌, ◌<◌, ◌≤◌, ◌^◌, ◌==◌, Option, IfSome, false, List, length, slice_index}
 use Rattle.place_sums.specs.Sums.{total, total_where}
 use Rattle.water_model.specs.Network.{tail_in, head_in, is_outlet_in}
 use Rattle.water_model.specs.RunOfRiver.{IsFirstRiver}

@@ -12,3 +12,6 @@ mod sorting;
 
 pub use net::Net;
 pub use refused::NetRefused;
+
+#[cfg(test)]
+mod tests;

@@ -1,4 +1,4 @@
-use Rattle.std.proofs.Common.{ℕ, ◌≡◌, ◌≤◌, arith, length, sym}
+use Rattle.std.proofs.Common.{arith, sym}
 use Rattle.river_net.proofs.Searches.{search_ends, queue_fits}
 use Rattle.river_net.proofs.cycle.reaches_itself.Goals as goal
 

@@ -1,4 +1,4 @@
-use Rattle.std.proofs.Common.{ℕ, ◌-◌, ◌≤◌, length}
+use Rattle.std.proofs.Common.{◌-◌}
 use Rattle.river_net.specs.Search.{IsExpanded}
 use Rattle.river_net.proofs.cycle.reaches_itself.Given as goal
 

@@ -1,9 +1,6 @@
-use Rattle.std.proofs.Common.{ℕ, List, ◌≡◌, ◌<◌, ◌≤◌, ◌+◌, arith, length, get_or, subst, sym, ◌∙◌, ap, lit≤, Fits, w32}
-use Rattle.water_model.specs.Network.{head_in}
+use Rattle.std.proofs.Common.{ℕ, List, ◌≡◌, ◌<◌, arith, length, get_or}
 use Rattle.water_model.specs.declared.types.Link.{Link}
 use Rattle.river_net.specs.Firsts.{IsWithin}
-use Rattle.river_net.specs.GraphSeen.{GraphSeen}
-use Rattle.river_net.specs.Sorting.{AreEntering}
 use Rattle.river_net.proofs.Entries.{entry_is}
 use Rattle.river_net.proofs.Entering.{entering_start, entering_next, entering_small}
 use Rattle.river_net.proofs.graph.count_entering.Goals as goal

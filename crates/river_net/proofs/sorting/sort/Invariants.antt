@@ -1,4 +1,4 @@
-use Rattle.std.proofs.Common.{ℕ, ◌-◌}
+use Rattle.std.proofs.Common.{◌-◌}
 use Rattle.river_net.specs.Sorting.{IsReleased}
 use Rattle.river_net.proofs.sorting.sort.Given as goal
 

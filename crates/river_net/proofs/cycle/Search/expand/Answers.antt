@@ -1,11 +1,9 @@
-use Rattle.std.proofs.Common.{ℕ, ◌≡◌, ◌<◌, ◌+◌, ◌++◌, ◌∷◌, [], length, slice_index, subst, sym, ◌∙◌, ap, List, Bool, true}
-use Rattle.std.proofs.lemmas.List.{get_or_default}
+use Rattle.std.proofs.Common.{ℕ, ◌≡◌, ◌++◌, ◌∷◌, [], slice_index, subst, sym, ◌∙◌, List, Bool, true}
 use Rattle.std.specs.Prelude.{Option, Some, slice_set, if◌then◌else◌}
 use Rattle.water_model.specs.Lookups.{has}
-use Rattle.river_net.specs.Firsts.{IsFirstFrom, leaves}
 use Rattle.river_net.specs.GraphSeen.{GraphSeen}
 use Rattle.river_net.specs.Search.{IsExpanding}
-use Rattle.river_net.proofs.Searches.{expand_start, expand_found, expand_next}
+use Rattle.river_net.proofs.Searches.{expand_found, expand_next}
 use Rattle.river_net.proofs.cycle.Search.expand.Goals as goal
 
 -- the state at a link

@@ -1,4 +1,4 @@
-use Rattle.std.proofs.Common.{ℕ, ◌≡◌, ◌∙◌, ap, ap₂, Bool, false, true, List, replicate, [], ◌∷◌}
+use Rattle.std.proofs.Common.{ℕ, ◌∙◌, ap, Bool, false, true, List, replicate}
 use Rattle.std.specs.Prelude.{slice_set}
 use Rattle.river_net.proofs.Searches.{search_start}
 use Rattle.river_net.proofs.cycle.Search.start.Goals as goal

@@ -19,7 +19,7 @@ loop-place-preserved c =
     leaving_next (length c.args.nodes.now) links e c.loop-place.first.items c.loop-place.next.items v c.index.result.now below inside at
     (c.index.ensures ∙ get_or_default c.loop-place.first.items v c.index.result.now None (let count = c.loop-place.invariant.firsts.count in omega arith))
     (let P : ℕ → Type 0 = λ n. IsLeaving (length c.args.nodes.now) links n c.loop-place.first.items c.loop-place.next.items in
-        let same : c.loop-place.place ≡ e + 1 = omega arith in subst P same c.loop-place.invariant)
+    let same : c.loop-place.place ≡ e + 1 = omega arith in subst P same c.loop-place.invariant)
 
 pub invariant_of-result : goal.invariant_of-result
 invariant_of-result c =

@@ -1,14 +1,10 @@
-use Rattle.std.proofs.Common.{◌≡◌, ℕ, ◌∙◌, ap, sym, subst, refl, length, List, false, ◌<◌, None, Some, slice_index}
+use Rattle.std.proofs.Common.{◌≡◌, ℕ, ◌∙◌, ap, sym, refl, length, List, None, Some, slice_index}
 use Rattle.std.specs.Prelude.{Option}
 use Rattle.std.specs.List.{find, range_with_len}
 use Rattle.water_model.specs.declared.types.Link.{Link}
 use Rattle.water_model.specs.declared.types.Node.{Node}
 use Rattle.river_net.specs.Firsts.{AreFirsts, leaves_as_river}
-use Rattle.river_net.specs.GraphSeen.{GraphSeen}
-use Rattle.river_net.specs.Net.{IsRunningOrder}
 use Rattle.river_net.specs.NetFaults.{first_from_outlet, first_without_river, first_on_cycle, keeps_water}
-use Rattle.river_net.specs.Search.{reaches_itself}
-use Rattle.river_net.specs.Sorting.{IsReleased}
 use Rattle.river_net.proofs.Builds.{without_river, on_cycle, order_runs, net_is}
 use Rattle.river_net.proofs.NoFault.{fault_is, faultless_sound}
 use Rattle.river_net.proofs.Sorted.{off_cycle}

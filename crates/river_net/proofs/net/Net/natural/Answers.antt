@@ -1,4 +1,4 @@
-use Rattle.std.proofs.Common.{◌≡◌, ℕ, ◌+◌, ◌<◌, ◌≤◌, ◌^◌, get_or, length, slice_index, List, Option, None, Some, arith, ap, sym, subst, replicate, refl, ◌∙◌, IfSome, IfNone}
+use Rattle.std.proofs.Common.{◌≡◌, ℕ, ◌<◌, ◌≤◌, ◌^◌, get_or, length, slice_index, List, Option, None, arith, ap, sym, subst, ◌∙◌, IfSome, IfNone}
 use Rattle.std.proofs.lemmas.List.{get_or-replicate, get_or_default}
 use Rattle.std.specs.Prelude.{slice_index_or}
 use Rattle.place_sums.specs.Sums.{total}
@@ -44,7 +44,7 @@ send-requires-clause-river c =
     let below = place_in some.nodes some.links c.args.self.now c.deref-node-items.result.now i net order c.loop-node-test.true in
     let node = ap (λ (xs : List ℕ). slice_index xs i) order in
     let river = river_read c.self.inside.rivers.items c.args.self.now.rivers _ (slice_index c.args.self.now.order i) c.index-river.result.now (ap (λ (s : NetSeen). s.rivers) c.self.view_is)
-        node (node_in some.nodes some.links c.args.self.now i net below) c.index-river.ensures in
+    node (node_in some.nodes some.links c.args.self.now i net below) c.index-river.ensures in
     let few = supplies_of (length c.args.self.now.order) (length some.nodes) c.args.supply.now c.requires.supply net.run.count in
     subst (λ (o : Option ℕ). CanSend o (slice_index c.deref-node-items.result.now i) c.deref-heads.result.now c.loop-node.flow c.loop-node.out) (sym river)
     (subst (λ (v : ℕ). CanSend (slice_index_or c.args.self.now.rivers (slice_index c.args.self.now.order i) None) v c.deref-heads.result.now c.loop-node.flow c.loop-node.out) (sym node)
@@ -61,7 +61,7 @@ loop-node-preserved c = λ nodes links net sound.
     let below = place_in nodes links c.args.self.now c.deref-node-items.result.now i net order c.loop-node-test.true in
     let node = ap (λ (xs : List ℕ). slice_index xs i) order in
     let river = river_read c.self.inside.rivers.items c.args.self.now.rivers _ (slice_index c.args.self.now.order i) c.index-river.result.now (ap (λ (s : NetSeen). s.rivers) c.self.view_is)
-        node (node_in nodes links c.args.self.now i net below) c.index-river.ensures in
+    node (node_in nodes links c.args.self.now i net below) c.index-river.ensures in
     let N : Option ℕ → Type 0 = λ o. IfNone o ((c.send.new.flow ≡ c.loop-node.flow) × (c.send.new.out ≡ c.loop-node.out)) in
     let S : Option ℕ → ℕ → Type 0 = λ o v. IfSome o (λ e. IsSent e v (slice_index c.deref-heads.result.now e) (λ x. slice_index c.loop-node.flow x) (λ x. slice_index c.send.new.flow x) (λ x. slice_index c.loop-node.out x) (λ x. slice_index c.send.new.out x)) in
     send_done nodes links c.args.self.now net (λ v. slice_index c.args.supply.now v) i c.deref-heads.result.now c.loop-node.flow c.send.new.flow c.loop-node.out c.send.new.out below heads

@@ -1,16 +1,16 @@
-use Rattle.std.proofs.Common.{ℕ, ◌≡◌, ◌<◌, ◌+◌, ◌-◌, ◌++◌, ◌∷◌, [], arith, length, slice_index, subst, sym, ◌∙◌, ap, List}
+use Rattle.std.proofs.Common.{ℕ, ◌≡◌, ◌<◌, ◌-◌, ◌++◌, ◌∷◌, [], length, slice_index, subst, sym, ◌∙◌, List}
 use Rattle.std.proofs.lemmas.List.{get_or_default}
-use Rattle.std.specs.Prelude.{Option, Some, None, ◌==◌, slice_set, if◌then◌else◌}
-use Rattle.river_net.specs.Firsts.{IsFirstFrom, leaves, IsWithin}
+use Rattle.std.specs.Prelude.{Option, Some, ◌==◌, slice_set, if◌then◌else◌}
+use Rattle.river_net.specs.Firsts.{IsFirstFrom, leaves}
 use Rattle.river_net.specs.GraphSeen.{GraphSeen}
-use Rattle.river_net.specs.Sorting.{IsReleasing, IsReleased}
-use Rattle.river_net.proofs.Releases.{release_start, release_next, release_end, next_waits}
+use Rattle.river_net.specs.Sorting.{IsReleasing}
+use Rattle.river_net.proofs.Releases.{release_start, release_next, next_waits}
 use Rattle.river_net.proofs.sorting.Sorting.release.Goals as goal
 
 pub loop-next-init : goal.loop-next-init
 loop-next-init c =
     let node : c.index.result.now ≡ slice_index c.args.self.now.order.items c.args.done =
-        c.index.ensures ∙ get_or_default c.args.self.now.order.items c.args.done c.index.result.now 0 c.requires.within in
+    c.index.ensures ∙ get_or_default c.args.self.now.order.items c.args.done c.index.result.now 0 c.requires.within in
     release_start c.args.graph.now c.args.self.now.order.items c.args.self.now.waits.items c.args.done c.first-next.result c.first-next.ensures.within c.requires.within
     (subst (λ v. IsFirstFrom (leaves c.args.graph.now.links v) 0 (length c.args.graph.now.links) c.first-next.result) node c.first-next.ensures.value) c.requires.sorting
 

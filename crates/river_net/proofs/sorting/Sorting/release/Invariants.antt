@@ -1,5 +1,4 @@
-use Rattle.std.proofs.Common.{ℕ, ◌-◌, length, slice_index}
-use Rattle.std.specs.Prelude.{Option, Some, None}
+use Rattle.std.proofs.Common.{length, slice_index}
 use Rattle.river_net.specs.Sorting.{IsReleasing}
 use Rattle.river_net.specs.Firsts.{links_left}
 use Rattle.river_net.proofs.sorting.Sorting.release.Given as goal

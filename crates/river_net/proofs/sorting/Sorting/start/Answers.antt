@@ -1,4 +1,4 @@
-use Rattle.std.proofs.Common.{ℕ, ◌≡◌, ◌<◌, ◌+◌, arith, length, slice_index, subst, sym, ◌∙◌, ap, List, Vec, Global}
+use Rattle.std.proofs.Common.{ℕ, ◌≡◌, ◌<◌, ◌+◌, arith, length, slice_index, subst, sym, ◌∙◌, List, Vec, Global}
 use Rattle.std.proofs.lemmas.List.{get_or_default}
 use Rattle.river_net.specs.Sorting.{HasSources}
 use Rattle.river_net.proofs.Sorts.{sources_start, source_next, source_skip}
