@@ -10,7 +10,7 @@ ghost use Rattle.water_model.specs.Text.{calling_right};
 ghost use Rattle.water_model.specs.Valid.{IsValidBasin};
 ghost use Rattle.rights_roll.specs.Rolls.{IsRollOf};
 
-use rights_roll::Roll;
+use rights_roll::roll::Roll;
 use water_model::types::{Basin, MonthRecord, RightKind};
 
 /// The node at which a diversion or a zone takes water, or `None` for an instream right.
@@ -54,12 +54,14 @@ fn is_short_at(month: &MonthRecord, right: u32, node: u32) -> bool
     requires want { right < length month.now.want }
     requires right { right < length month.now.cuts.sets }
     requires node { node < month.now.cuts.nodes }
-    ensures { result ≡ nat_lt (slice_index month.now.delivered right) (slice_index month.now.want right) && option_map_or (λ cut. has cut node) (cut_of month.now right) false }
+    ensures { result ≡ nat_lt (slice_index month.now.delivered right) (slice_index month.now.want right)
+        && option_map_or (λ cut. has cut node) (cut_of month.now right) false }
 {
     is_short(month, right) && holds_node(month, right, node)
 }
 
-/// The most senior right that is short, is senior to a right that takes at this node, and has a set that holds the node.
+/// The most senior right that is short, is senior to a right that takes at this node, and has a set that holds the
+/// node.
 ///
 /// In the order of seniority all rights in front of a right are senior to it, and none behind it is.
 fn first_caller(

@@ -1,4 +1,8 @@
 //! The result text of a run, written line by line.
+//!
+//! A text has a head of two lines, for each month its sections of lines, and a tail of one line. A line is a word and
+//! its fields with single spaces between them, and ends with a line feed. Amounts are in units of 1,000 cubic metres.
+//! No call takes memory.
 #![tactic(auto)]
 
 mod section;

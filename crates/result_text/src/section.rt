@@ -10,11 +10,12 @@ ghost use Rattle.result_text.specs.Range.{IsOfBasin, FitsText};
 ghost use Rattle.result_text.specs.Sections.{HasRight, count_of, lines_at};
 
 use calls::calling_right;
-use rights_roll::Roll;
+use rights_roll::roll::Roll;
 use water_model::item::Item;
 use water_model::types::{Basin, MonthRecord};
 
-/// A section: the lines of one kind in a month, entry by entry.
+/// A section: the lines of one kind in a month, entry by entry. Its entries are reservoirs, nodes, links or rights, or
+/// the month alone.
 #[derive(Clone, Copy)]
 pub enum Section {
     Month,

@@ -13,7 +13,7 @@ ghost use Rattle.result_text.specs.Sections.{HasRight, count_of, entries_of, lin
 
 use crate::section::{SECTIONS, Section, entry_count, line_at};
 use crate::spelling::spell;
-use rights_roll::Roll;
+use rights_roll::roll::Roll;
 use water_edge::{Sink, SinkFailed};
 use water_model::item::Item;
 use water_model::types::{Basin, MonthRecord};
@@ -23,7 +23,8 @@ use water_text::line::Line;
 fn put_item<K: Sink>(sink: &mut K, basin: &Basin, item: Item) -> Result<(), SinkFailed>
     requires basin { IsValidBasin basin.now }
     requires item { IsOfBasin basin.now item }
-    ensures text { Puts (K.taken sink.old) (K.taken sink.new) result (flat_map (whole_line basin.now) (item ∷ [])) }
+    ensures text { Puts (K.taken sink.old) (K.taken sink.new) result
+        (flat_map (whole_line basin.now) (item ∷ [])) }
     ensures cause { HasCause (K.faults sink.old) (K.faults sink.new) (IsErr result) }
 {
     let mut line = Line::new();
@@ -46,7 +47,8 @@ fn put_line<K: Sink>(
     requires single { section ≢ Section.Calls }
     requires right { HasRight section basin.now }
     requires entry { entry < count_of section basin.now }
-    ensures text { Puts (K.taken sink.old) (K.taken sink.new) result (flat_map (whole_line basin.now) (lines_at section basin.now month.now entry)) }
+    ensures text { Puts (K.taken sink.old) (K.taken sink.new) result
+        (flat_map (whole_line basin.now) (lines_at section basin.now month.now entry)) }
     ensures cause { HasCause (K.faults sink.old) (K.faults sink.new) (IsErr result) }
 {
     match line_at(section, basin, roll, month, entry) {
@@ -69,7 +71,8 @@ fn put_places<K: Sink>(
     requires single { section ≢ Section.Calls }
     requires right { HasRight section basin.now }
     requires places { entries_of section basin.now ≡ numbers_from 0 (count_of section basin.now) }
-    ensures text { Puts (K.taken sink.old) (K.taken sink.new) result (flat_map (whole_line basin.now) (lines_in section basin.now month.now)) }
+    ensures text { Puts (K.taken sink.old) (K.taken sink.new) result
+        (flat_map (whole_line basin.now) (lines_in section basin.now month.now)) }
     ensures cause { HasCause (K.faults sink.old) (K.faults sink.new) (IsErr result) }
 {
     let count = entry_count(section, basin);
@@ -100,7 +103,8 @@ fn put_call<K: Sink>(
     requires roll { IsRollOf basin.now.rights roll.now }
     requires month { FitsText basin.now month.now }
     requires right { right < length basin.now.rights }
-    ensures text { Puts (K.taken sink.old) (K.taken sink.new) result (flat_map (whole_line basin.now) (call_items right (cut_of month.now right))) }
+    ensures text { Puts (K.taken sink.old) (K.taken sink.new) result
+        (flat_map (whole_line basin.now) (call_items right (cut_of month.now right))) }
     ensures cause { HasCause (K.faults sink.old) (K.faults sink.new) (IsErr result) }
 {
     if !has_set(month, right) {
@@ -125,7 +129,8 @@ fn put_right<K: Sink>(
     requires member { HasRight section basin.now }
     requires count { count_of section basin.now ≡ length basin.now.rights }
     requires right { right < length basin.now.rights }
-    ensures text { Puts (K.taken sink.old) (K.taken sink.new) result (flat_map (whole_line basin.now) (lines_at section basin.now month.now right)) }
+    ensures text { Puts (K.taken sink.old) (K.taken sink.new) result
+        (flat_map (whole_line basin.now) (lines_at section basin.now month.now right)) }
     ensures cause { HasCause (K.faults sink.old) (K.faults sink.new) (IsErr result) }
 {
     match section {
@@ -148,7 +153,8 @@ fn put_rights<K: Sink>(
     requires member { HasRight section basin.now }
     requires count { count_of section basin.now ≡ length basin.now.rights }
     requires rights { entries_of section basin.now ≡ seniors_first basin.now }
-    ensures text { Puts (K.taken sink.old) (K.taken sink.new) result (flat_map (whole_line basin.now) (lines_in section basin.now month.now)) }
+    ensures text { Puts (K.taken sink.old) (K.taken sink.new) result
+        (flat_map (whole_line basin.now) (lines_in section basin.now month.now)) }
     ensures cause { HasCause (K.faults sink.old) (K.faults sink.new) (IsErr result) }
 {
     let order = roll.by_seniority();
@@ -170,7 +176,8 @@ fn put_section<K: Sink>(
     requires roll { IsRollOf basin.now.rights roll.now }
     requires month { FitsText basin.now month.now }
     requires right { HasRight section basin.now }
-    ensures text { Puts (K.taken sink.old) (K.taken sink.new) result (flat_map (whole_line basin.now) (lines_in section basin.now month.now)) }
+    ensures text { Puts (K.taken sink.old) (K.taken sink.new) result
+        (flat_map (whole_line basin.now) (lines_in section basin.now month.now)) }
     ensures cause { HasCause (K.faults sink.old) (K.faults sink.new) (IsErr result) }
 {
     match section {
@@ -181,7 +188,11 @@ fn put_section<K: Sink>(
     }
 }
 
-/// Puts the lines of a month, from its `month` line to its `end` line.
+/// Puts the lines of a month, from its `month` line to its `end` line: what the record holds, section by section, and
+/// for each right that answers to a calling right a `called` line. Rights come seniors first, all other entries in the
+/// order of the basin.
+///
+/// Each line is one `put`. `SinkFailed` comes only where the sink counted a fault; a front of the lines was then put.
 pub fn put_month<K: Sink>(
     sink: &mut K,
     basin: &Basin,
@@ -191,7 +202,8 @@ pub fn put_month<K: Sink>(
     requires basin { IsValidBasin basin.now }
     requires roll { IsRollOf basin.now.rights roll.now }
     requires month { FitsText basin.now month.now }
-    ensures text { Puts (K.taken sink.old) (K.taken sink.new) result (flat_map (whole_line basin.now) (items_of_month basin.now month.now)) }
+    ensures text { Puts (K.taken sink.old) (K.taken sink.new) result
+        (flat_map (whole_line basin.now) (items_of_month basin.now month.now)) }
     ensures cause { HasCause (K.faults sink.old) (K.faults sink.new) (IsErr result) }
 {
     for section in SECTIONS.iter() {
@@ -200,10 +212,13 @@ pub fn put_month<K: Sink>(
     Ok(())
 }
 
-/// Puts the first two lines of a text.
+/// Puts the head of a text: its title, and the run's first month and number of months.
+///
+/// Each line is one `put`. `SinkFailed` comes only where the sink counted a fault; a front of the lines was then put.
 pub fn put_head<K: Sink>(sink: &mut K, basin: &Basin) -> Result<(), SinkFailed>
     requires { IsValidBasin basin.now }
-    ensures text { Puts (K.taken sink.old) (K.taken sink.new) result (flat_map (whole_line basin.now) (items_of_head basin.now)) }
+    ensures text { Puts (K.taken sink.old) (K.taken sink.new) result
+        (flat_map (whole_line basin.now) (items_of_head basin.now)) }
     ensures cause { HasCause (K.faults sink.old) (K.faults sink.new) (IsErr result) }
 {
     put_item(sink, basin, Item::Title)?;
@@ -214,10 +229,13 @@ pub fn put_head<K: Sink>(sink: &mut K, basin: &Basin) -> Result<(), SinkFailed>
     put_item(sink, basin, run)
 }
 
-/// Puts the last line of a text.
+/// Puts the tail of a text: one line with the run's number of months.
+///
+/// The line is one `put`. `SinkFailed` comes only where the sink counted a fault; a front of the line was then put.
 pub fn put_tail<K: Sink>(sink: &mut K, basin: &Basin) -> Result<(), SinkFailed>
     requires { IsValidBasin basin.now }
-    ensures text { Puts (K.taken sink.old) (K.taken sink.new) result (flat_map (whole_line basin.now) (items_of_tail basin.now)) }
+    ensures text { Puts (K.taken sink.old) (K.taken sink.new) result
+        (flat_map (whole_line basin.now) (items_of_tail basin.now)) }
     ensures cause { HasCause (K.faults sink.old) (K.faults sink.new) (IsErr result) }
 {
     put_item(
