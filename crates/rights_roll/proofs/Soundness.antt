@@ -71,6 +71,19 @@ none-of_four rights returns dates seniority zones parts = roll_fault-is rights r
     four : {a b c d : Option RollRefused} → a ≡ None → b ≡ None → c ≡ None → d ≡ None → option_or a (option_or b (option_or c d)) ≡ None
     four {a} {b} {c} {d} h i j k = rw h (rw i (rw j k))
 
+-- a roll without a fault is sound
+pub sound-from_faultless : (rights : List Right) (returns : List ReturnRow) → roll_fault rights returns ≡ None → IsSoundRoll rights returns
+sound-from_faultless rights returns none =
+    let all = sym (roll_fault-is rights returns) ∙ none in
+    let dates = both (date_fault rights) (option_or (same_seniority rights) (option_or (zone_fault rights) (parts_fault rights returns))) all in
+    let seniority = both (same_seniority rights) (option_or (zone_fault rights) (parts_fault rights returns)) dates.1 in
+    let zones = both (zone_fault rights) (parts_fault rights returns) seniority.1 in
+    sound-from_none rights returns dates.0 seniority.0 zones.0 zones.1
+  where
+    both : (a b : Option RollRefused) → option_or a b ≡ None → (a ≡ None) × (b ≡ None)
+    both None b h = (refl, h)
+    both (Some e) b h = let found : Some e ≡ None = h in cc
+
 -- a sound roll has no fault
 pub roll_fault-sound : (rights : List Right) (returns : List ReturnRow) → IsSoundRoll rights returns → roll_fault rights returns ≡ None
 roll_fault-sound rights returns sound =

@@ -9,6 +9,7 @@ use Rattle.water_model.specs.Rights.{is_lower, priority, is_zone_kind, is_senior
 use Rattle.water_model.specs.declared.types.Right.{Right}
 use Rattle.water_model.specs.declared.types.RightKind.{RightKind}
 use Rattle.water_model.specs.declared.types.RightKind.TheVariants.{Diversion, Instream, Zone}
+use Rattle.water_model.proofs.Seniority.{lower_trans}
 use Rattle.rights_roll.specs.Priorities.{numbers_of}
 use Rattle.rights_roll.specs.Zones.{ZoneTable, same_zone, is_senior_one, has_senior, AreSeniorZones}
 use Rattle.rights_roll.specs.declared.priority.Priority.{Priority}
@@ -25,6 +26,11 @@ lower_past (x ∷ xs) (y ∷ ys) (z ∷ zs) e h i =
         nat_lt x y || (x == y && p) ≡ false → nat_lt x z || (x == z && q) ≡ true → nat_lt y z || (y == z && t) ≡ true
     step x y z p q t f h i = grind (arith, nat_tests)
 
+-- a zone that is senior to a priority is senior to all that come after it
+senior_kept : (o : Option Priority) (p key : List ℕ) → is_senior_one o p ≡ true → is_lower p key ≡ true → is_senior_one o key ≡ true
+senior_kept None p key h i = h
+senior_kept (Some q) p key h i = lower_trans (numbers_of q) p key h i
+
 -- a zone that is not senior to a priority is senior only to what comes after it
 senior_replaced : (o : Option Priority) (q : Priority) (key : List ℕ) → is_senior_one o (numbers_of q) ≡ false → is_senior_one o key ≡ true → is_lower (numbers_of q) key ≡ true
 senior_replaced None q key h i = cc
@@ -37,6 +43,22 @@ at_same_zone zones zone reservoir level key e =
     let second : level ≡ zone.1 = grind (arith, nat_tests) in
     ap (λ r. has_senior zones r level key) first ∙ ap (λ l. has_senior zones zone.0 l key) second
 
+-- a zone of which the table has a senior one
+pub noted-kept : (zones : ZoneTable) (zone : ℕ × ℕ) (q : Priority) → has_senior zones zone.0 zone.1 (numbers_of q) ≡ true →
+    (reservoir level : ℕ) (key : List ℕ) →
+    has_senior zones reservoir level key ≡ has_senior zones reservoir level key || (same_zone zone (reservoir, level) && is_lower (numbers_of q) key)
+noted-kept zones zone q h reservoir level key =
+    by_test (same_zone zone (reservoir, level)) (has_senior zones reservoir level key) (is_lower (numbers_of q) key)
+    (λ same lower. at_same_zone zones zone reservoir level key same ∙ senior_kept (get same_zone zones zone) (numbers_of q) key h lower)
+  where
+    by_test : (t s p : Bool) → (t ≡ true → p ≡ true → s ≡ true) → s ≡ s || (t && p)
+    by_test true true p f = refl
+    by_test true false true f = f refl refl
+    by_test true false false f = refl
+    by_test false true p f = refl
+    by_test false false p f = refl
+
+-- a zone that goes into the table
 pub noted-put : (old new : ZoneTable) (zone : ℕ × ℕ) (q : Priority) → has_senior old zone.0 zone.1 (numbers_of q) ≡ false →
     Updates same_zone old new zone (Some q) → (reservoir level : ℕ) (key : List ℕ) →
     has_senior new reservoir level key ≡ has_senior old reservoir level key || (same_zone zone (reservoir, level) && is_lower (numbers_of q) key)

@@ -8,6 +8,7 @@ use crate::RollRefused;
 use std::alloc::{AllocError, Global};
 use water_model::types::{ReturnRow, Right};
 
+/// The first right whose date is no day of the calendar.
 fn first_bad_date(rights: &[Right]) -> Option<usize>
     ensures { result ≡ position has_bad_date rights.now }
 {
@@ -42,6 +43,7 @@ fn parts_by_right(
     Ok(sums)
 }
 
+/// The first place with more than 10,000 parts, that is, more than the whole.
 fn first_above_whole(sums: &[u32]) -> Option<usize>
     ensures { result ≡ position (nat_lt 10000) sums.now }
 {

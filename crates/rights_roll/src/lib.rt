@@ -22,7 +22,7 @@ pub enum RollRefused {
     /// The first right whose date is no day of the calendar.
     #[error("right {0} has a date that is no day of the calendar")]
     BadDate(u32),
-    /// The first right with the date and order of an earlier one, which stands before it here.
+    /// The first right that has the date and order of an earlier one. That earlier one is named before it.
     #[error("rights {0} and {1} have the same date and order")]
     SameSeniority(u32, u32),
     /// The first zone whose level an earlier zone of its reservoir has, or that stands above level 1 and has no senior
@@ -32,6 +32,7 @@ pub enum RollRefused {
     /// The first diversion that returns more than it takes.
     #[error("the return rows of right {0} have more than 10,000 parts of 10,000")]
     ReturnParts(u32),
+    /// Memory ran out.
     #[error("out of memory")]
     OutOfMemory,
 }

@@ -36,7 +36,8 @@ fn link_count(rights: &[Right]) -> usize
     count
 }
 
-/// The rights are gone through from the last, so each finds the one after it.
+/// The chains of the instream rights. They are gone through from the last, so each finds the one after it. The tables
+/// have a place for each link up to the greatest with an instream right, and for each right.
 pub fn chains_of(alloc: Global, rights: &[Right]) -> Result<Chains, AllocError>
     requires { length rights.now ≤ 2000 }
     ensures { IfOk result (λ chains. AreChains rights.now chains.first_on.items chains.next_on.items) }

@@ -15,6 +15,7 @@ pub struct Priority {
 }
 
 impl Priority {
+    /// The priority of a right.
     pub fn of(right: &Right) -> Priority
         ensures { numbers_of result ≡ priority right.now }
     {
@@ -26,6 +27,7 @@ impl Priority {
         }
     }
 
+    /// Whether a right of this priority is senior to one of the other.
     pub fn is_senior_to(&self, other: &Priority) -> bool
         ensures { result ≡ is_lower (numbers_of self.now) (numbers_of other.now) }
     {

@@ -34,6 +34,7 @@ impl Model for Roll {
     ghost invariant = { λ r. length r.next_on.items ≡ length r.wants.items };
 }
 
+/// The wants of each right in the twelve months.
 fn wants_of(alloc: Global, rights: &[Right]) -> Result<Vec<[u64; 12]>, AllocError>
     ensures { IfOk result (λ wants. wants.items ≡ map (λ r. r.want) rights.now) }
 {
@@ -46,7 +47,8 @@ fn wants_of(alloc: Global, rights: &[Right]) -> Result<Vec<[u64; 12]>, AllocErro
 
 impl Roll {
     /// The roll of the rights, or what is at fault first: of dates, then of seniority, then of zones, then of return
-    /// rows. The rows name rights of the list, and parts are parts of 10,000.
+    /// rows. The rows name rights of the list, and their parts are of 10,000. The cost is that of a sort, and
+    /// of a table up to the greatest link with an instream right. Want of memory may come at any point.
     pub fn build(
         alloc: Global,
         rights: &[Right],

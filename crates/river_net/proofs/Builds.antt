@@ -27,6 +27,7 @@ river_or_none links node (Some e) first =
     let parts = and_parts (tail_in links e == node) (is_river_in links e) first.2 in
     not_from_true (has_river links node) (found_river links node record { link = e; in_range = first.1; tail = eqb-true (tail_in links e) node parts.0; river = parts.1 })
 
+-- the first node without a river, over links and over first rivers
 pub without_river : (nodes : List Node) (links : List Link) (rivers : List (Option ℕ)) →
     AreFirsts (leaves_as_river links) (length nodes) 0 (length links) rivers →
     first_without_river nodes links ≡ find (keeps_water nodes rivers) (range_with_len 0 (length nodes))
@@ -55,15 +56,18 @@ river_of nodes links v (Some e) sound l first =
       tail,
     )
 
+-- the list of heads, place by place
 heads_are : (links : List Link) (e : ℕ) → e < length links → slice_index (map (λ (l : Link). l.to) links) e ≡ head_in links e
 heads_are [] e l = absurd (omega arith)
 heads_are (x ∷ links) zero l = refl
 heads_are (x ∷ links) (suc e) l = heads_are links e (omega arith)
 
+-- there are as many heads as links
 heads_count : (links : List Link) → length (map (λ (l : Link). l.to) links) ≡ length links
 heads_count [] = refl
 heads_count (x ∷ links) = ap suc (heads_count links)
 
+-- the network of sound nodes and links
 pub net_is : (nodes : List Node) (links : List Link) (order heads : List ℕ) (rivers : List (Option ℕ)) → All (λ l. HasNodes nodes l) links →
     IsSoundNetwork nodes links → IsRunningOrder nodes links order → AreFirsts (leaves_as_river links) (length nodes) 0 (length links) rivers →
     heads ≡ map (λ (l : Link). l.to) links → IsNet nodes links (record { order = order; rivers = rivers; heads = heads })
@@ -82,6 +86,7 @@ pub on_cycle : (nodes : List Node) (links : List Link) (g : GraphSeen) (o found 
 unfolding first_on_cycle
 on_cycle nodes links g o found is search same = sym (ap (λ (h : GraphSeen). find (reaches_itself h) (range_with_len 0 h.nodes)) is) ∙ (sym search ∙ same)
 
+-- the order that the graph was sorted into
 pub order_runs : (nodes : List Node) (links : List Link) (g : GraphSeen) (order waits : List ℕ) → All (λ l. HasNodes nodes l) links → IsSoundNetwork nodes links →
     g ≡ record { nodes = length nodes; links = links } → IsReleased g order waits (length order) → IsRunningOrder nodes links order
 order_runs nodes links g order waits ends sound is now =

@@ -85,6 +85,7 @@ chain_start links nodes node l = record {
   tail = λ i m. absurd (omega arith);
 }
 
+-- a function with one value more in front
 before : (ℕ → ℕ) → ℕ → ℕ → ℕ
 before f x zero = x
 before f x (suc i) = f i

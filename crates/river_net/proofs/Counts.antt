@@ -6,11 +6,13 @@ use Rattle.std.specs.Prelude.{◌==◌, nat_lt, if◌then◌else◌, ◌⊎◌}
 use Rattle.place_sums.specs.Sums.{total, count_where}
 use Rattle.place_sums.proofs.Totals.{total_same, total_add, total_at, total_le, total_where_none}
 
+-- a sum of ones
 pub total_ones : (n : ℕ) → total n (λ k. 1) ≡ n
 unfolding total
 total_ones zero = refl
 total_ones (suc n) = omega (arith, total_ones n)
 
+-- a place below a bound
 pub at_inside : (k n x : ℕ) → k < n → (if nat_lt k n then x else 0) ≡ x
 at_inside k n x l = grind (arith, nat_tests)
 
@@ -43,6 +45,7 @@ all_or_one (suc n) p = elim (all_or_one n p) [
   ]
 ]
 
+-- where all places pass, all are counted
 pub all_counted : (n : ℕ) (p : ℕ → Bool) → ((k : ℕ) → k < n → p k ≡ true) → count_where n p ≡ n
 all_counted n p h = total_same n (λ k. if p k then 1 else 0) (λ k. 1) (λ k l. ap (λ t. if t then 1 else 0) (h k l)) ∙ total_ones n
 

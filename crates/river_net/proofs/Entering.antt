@@ -11,6 +11,7 @@ use Rattle.river_net.specs.GraphSeen.{GraphSeen}
 use Rattle.river_net.specs.Sorting.{AreEntering}
 use Rattle.river_net.proofs.Entries.{entry_is}
 
+-- before the first link all counts are 0
 pub entering_start : (g : GraphSeen) (counts : List ℕ) → counts ≡ replicate g.nodes 0 → AreEntering g 0 counts
 entering_start g counts is = record {
   count = ap length is ∙ length-replicate g.nodes 0;
@@ -18,6 +19,7 @@ entering_start g counts is = record {
       ∙ sym (total_where_start (λ e. head_in g.links e == v) (λ e. 1));
 }
 
+-- a link more
 pub entering_next : (g : GraphSeen) (k : ℕ) (counts : List ℕ) (x : Link) (old : ℕ) → k < length g.links → x.to < g.nodes →
     x ≡ get_or g.links k x → old ≡ get_or counts x.to old → AreEntering g k counts → AreEntering g (k + 1) (slice_set counts x.to (old + 1))
 entering_next g k counts x old below inside read at now = record {

@@ -4,6 +4,7 @@ use Rattle.std.proofs.lemmas.Bool.{cases_eq, cases_Bool}
 use Rattle.std.specs.Prelude.{Some, None}
 use Rattle.std.specs.List.{find, range_with_len}
 
+-- the first place that passes is found
 pub find_first : (p : ℕ → Bool) (from n k : ℕ) → from ≤ k → k < from + n → p k ≡ true → ((j : ℕ) → from ≤ j → j < k → p j ≡ false) →
     find p (range_with_len from n) ≡ Some k
 find_first p from zero k a b passes before = absurd (omega arith)
@@ -13,6 +14,7 @@ find_first p from (suc n) k a b passes before = elim (cases_eq from k) [
       ∙ find_first p (from + 1) n k (omega arith) (omega arith) passes (λ j c d. before j (omega arith) d)
 ]
 
+-- where none passes, none is found
 pub find_none : (p : ℕ → Bool) (from n : ℕ) → ((j : ℕ) → from ≤ j → j < from + n → p j ≡ false) → find p (range_with_len from n) ≡ None
 find_none p from zero none = refl
 find_none p from (suc n) none = ap (λ t. cond t (Some from) (find p (range_with_len (from + 1) n))) (none from (omega arith) (omega arith))

@@ -1,5 +1,5 @@
 -- A link more is put into the list of its tail.
-use Rattle.std.proofs.Common.{◌≡◌, ◌∙◌, ℕ, ◌+◌, ◌<◌, Bool, false, List, length, sym, ap, subst, arith, get_or, inl, inr}
+use Rattle.std.proofs.Common.{◌≡◌, ◌∙◌, ℕ, ◌+◌, ◌-◌, ◌<◌, Bool, false, List, length, sym, ap, subst, arith, get_or, inl, inr}
 use Rattle.std.proofs.lemmas.Bool.{cases_eq, eq-eqb, ne_eqb}
 use Rattle.std.proofs.lemmas.List.{get_or-set_same, get_or-set_other, length-set}
 use Rattle.std.specs.Prelude.{Option, Some, None, slice_set}
@@ -23,6 +23,7 @@ first_skip test e bound (Some place) fails h = (
   ],
 )
 
+-- a link more, in front of those of its tail
 pub leaving_next : (nodes : ℕ) (links : List Link) (e : ℕ) (first next : List (Option ℕ)) (v : ℕ) (x : Option ℕ) →
     e < length links → v < nodes → tail_in links e ≡ v → x ≡ get_or first v None →
     IsLeaving nodes links (e + 1) first next → IsLeaving nodes links e (slice_set first v (Some e)) (slice_set next e x)
@@ -46,3 +47,8 @@ leaving_next nodes links e first next v x below inside at read now = record {
         (now.nexts f (omega arith) b)
   ];
 }
+
+-- how many links there are from the next one on
+abbrev pub links_left : ℕ → Option ℕ → ℕ
+links_left links None = 0
+links_left links (Some next) = links - next

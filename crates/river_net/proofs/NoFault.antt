@@ -27,11 +27,13 @@ none_at {X} p xs none k x at = elim (cases_Bool (nat_lt (position_or_len p xs) (
     found : {n : ℕ} → Some n ≡ None → ⊥
     found h = cc
 
+-- a list has an entry at each place
 entry_at : {X : Type 0} (xs : List X) (k : ℕ) → k < length xs → (x : X) × (slice_get xs k ≡ Some x)
 entry_at [] k l = absurd (omega arith)
 entry_at (x ∷ xs) zero l = (x, refl)
 entry_at (x ∷ xs) (suc k) l = entry_at xs k (omega arith)
 
+-- where no entry passes, no place is found
 all_fail : {X : Type 0} (p : X → Bool) (xs : List X) → ((k : ℕ) (x : X) → slice_get xs k ≡ Some x → p x ≡ false) → position p xs ≡ None
 all_fail {X} p xs fails = elim (cases_Bool (nat_lt (position_or_len p xs) (length xs))) [
   | inr past ↦ ap (λ t. cond t (Some (position_or_len p xs)) None) past
@@ -44,9 +46,11 @@ all_fail {X} p xs fails = elim (cases_Bool (nat_lt (position_or_len p xs) (lengt
 tail_is : (links : List Link) (k : ℕ) (x : Link) → slice_get links k ≡ Some x → tail_in links k ≡ x.from
 tail_is links k x at = ap (λ o. unwrap_or (option_map (λ (l : Link). l.from) o) 0) at
 
+-- the head of a link
 head_is : (links : List Link) (k : ℕ) (x : Link) → slice_get links k ≡ Some x → head_in links k ≡ x.to
 head_is links k x at = ap (λ o. unwrap_or (option_map (λ (l : Link). l.to) o) 0) at
 
+-- whether a link is a river
 river_is : (links : List Link) (k : ℕ) (x : Link) → slice_get links k ≡ Some x → is_river_in links k ≡ is_river_kind x.carry
 river_is links k x at = ap (λ o. unwrap_or (option_map (λ (l : Link). is_river_kind l.carry) o) false) at
 
@@ -54,6 +58,7 @@ river_is links k x at = ap (λ o. unwrap_or (option_map (λ (l : Link). is_river
 abbrev pub has_river : List Link → ℕ → Bool
 has_river links node = list_any (λ l. l.from == node && is_river_kind l.carry) links
 
+-- a river that leaves a node, from the test over entries
 pub river_found : (links : List Link) (node : ℕ) → has_river links node ≡ true → HasRiverOut links node
 river_found links node h =
     let at = any_place (λ l. l.from == node && is_river_kind l.carry) links h in
@@ -64,6 +69,7 @@ river_found links node h =
       river = river_is links at.0 at.1 at.2 ∙ parts.1;
     }
 
+-- and back
 pub found_river : (links : List Link) (node : ℕ) → HasRiverOut links node → has_river links node ≡ true
 found_river links node out =
     let at = entry_at links out.link out.in_range in
@@ -74,6 +80,7 @@ found_river links node out =
 abbrev chain : Option ℕ → Option ℕ → Option ℕ → Option ℕ → Option NetRefused
 chain one two three four = option_or (option_map SelfLink one) (option_or (option_map LinkFromOutlet two) (option_or (option_map NoRiver three) (option_map DirectedCycle four)))
 
+-- the first fault is that of the first part of the chain that has one
 pub fault_is : (nodes : List Node) (links : List Link) (one two three four : Option ℕ) → first_self_link links ≡ one → first_from_outlet nodes links ≡ two →
     first_without_river nodes links ≡ three → first_on_cycle nodes links ≡ four → net_fault nodes links ≡ chain one two three four
 unfolding net_fault
@@ -81,12 +88,14 @@ fault_is nodes links one two three four a b c d = ap (λ x. chain x (first_from_
     ∙ (ap (λ x. chain one x (first_without_river nodes links) (first_on_cycle nodes links)) b
     ∙ (ap (λ x. chain one two x (first_on_cycle nodes links)) c ∙ ap (chain one two three) d))
 
+-- no part of the chain has a fault
 pub record HasNoFault (nodes : List Node) (links : List Link) : Type 0 where
   pub self_links : first_self_link links ≡ None
   pub from_outlets : first_from_outlet nodes links ≡ None
   pub without_river : first_without_river nodes links ≡ None
   pub on_cycle : first_on_cycle nodes links ≡ None
 
+-- a chain is empty where its parts are
 no_chain : (one two three four : Option ℕ) → chain one two three four ≡ None → (one ≡ None) × (two ≡ None) × (three ≡ None) × (four ≡ None)
 no_chain None None None None h = (refl, refl, refl, refl)
 no_chain (Some x) two three four h = cc
@@ -94,6 +103,7 @@ no_chain None (Some x) three four h = cc
 no_chain None None (Some x) four h = cc
 no_chain None None None (Some x) h = cc
 
+-- a network without a fault has none in any part
 no_fault : (nodes : List Node) (links : List Link) → net_fault nodes links ≡ None → HasNoFault nodes links
 no_fault nodes links h =
     let parts = no_chain (first_self_link links) (first_from_outlet nodes links) (first_without_river nodes links) (first_on_cycle nodes links)

@@ -15,12 +15,15 @@ use Rattle.river_net.proofs.Counts.{fewer, at_inside}
 abbrev pub with_place : (ℕ → ℕ) → ℕ → ℕ → ℕ → ℕ
 with_place place v k u = if u == v then k else place u
 
+-- the new place
 pub at_place : (place : ℕ → ℕ) (v k : ℕ) → with_place place v k v ≡ k
 at_place place v k = grind (arith, nat_tests)
 
+-- the other places
 pub off_place : (place : ℕ → ℕ) (v k u : ℕ) → u ≢ v → with_place place v k u ≡ place u
 off_place place v k u ne = grind (arith, nat_tests)
 
+-- at the start no node has a place
 pub placing_start : (g : GraphSeen) → IsPlacing g [] (λ v. g.nodes)
 placing_start g = record {
   each = λ v l. inl refl;
@@ -39,6 +42,7 @@ room g order place v now l unplaced =
     let f = fewer g.nodes (λ u. nat_lt (place u) g.nodes) v l (le-ltb (place v) g.nodes (omega arith)) in
     omega (arith, now.number)
 
+-- a node gets the next place, behind all tails of links to it
 pub placing_next : (g : GraphSeen) (order : List ℕ) (place : ℕ → ℕ) (v : ℕ) → IsWithin g.nodes g.links → IsPlacing g order place →
     v < g.nodes → place v ≡ g.nodes →
     ((e : ℕ) → e < length g.links → head_in g.links e ≡ v → place (tail_in g.links e) < length order) →

@@ -18,6 +18,7 @@ has_chain : List Link → ℕ → ℕ → Bool
 has_chain links zero node = true
 has_chain links (suc k) node = list_any (λ l. l.to == node && has_chain links k l.from) links
 
+-- the chain that the test says is there
 chain_of : (links : List Link) (nodes : ℕ) → IsWithin nodes links → (k v : ℕ) → v < nodes → has_chain links k v ≡ true → Chain links nodes k v
 unfolding has_chain
 chain_of links nodes within zero v l h = chain_start links nodes v l
@@ -30,6 +31,7 @@ chain_of links nodes within (suc k) v l h =
     subst (Chain links nodes (suc k)) head (chain_more links nodes k at.0 below (within.ends at.0 below).1
     (chain_of links nodes within k (tail_in links at.0) (within.ends at.0 below).0 (ap (has_chain links k) tail ∙ parts.1)))
 
+-- a link more behind a chain
 longer : (links : List Link) (k e : ℕ) → e < length links → has_chain links k (tail_in links e) ≡ true → has_chain links (suc k) (head_in links e) ≡ true
 unfolding has_chain
 longer links k e l h =
@@ -37,6 +39,7 @@ longer links k e l h =
     place_any (λ l. l.to == head_in links e && has_chain links k l.from) links e at.0 at.1
     (and_from (at.0.to == head_in links e) (has_chain links k at.0.from) (eq-eqb at.0.to (head_in links e) (sym at.3)) (ap (has_chain links k) (sym at.2) ∙ h))
 
+-- a node by itself
 no_links : (links : List Link) (v : ℕ) → has_chain links 0 v ≡ true
 unfolding has_chain
 no_links links v = refl
@@ -62,10 +65,12 @@ reached (suc n) p first = elim (cases_Bool (p (suc n))) [
 rank_of : List Link → ℕ → ℕ → ℕ
 rank_of links nodes node = greatest_where nodes (λ k. has_chain links k node) (λ k. k)
 
+-- numbers of the nodes in which each link leads to a greater one
 pub record HasNumbers (links : List Link) : Type 0 where
   pub rank : ℕ → ℕ
   pub forward : IsForward links rank
 
+-- the nodes of a sound network have such numbers
 pub forward_numbers : (nodes : List Node) (links : List Link) → IsWithin (length nodes) links → IsSoundNetwork nodes links → HasNumbers links
 unfolding rank_of
 forward_numbers nodes links within sound = record {

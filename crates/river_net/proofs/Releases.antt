@@ -43,6 +43,7 @@ own_node g order place done v now inside below is = elim (now.each v inside) [
   | inr p ↦ sym p.1 ∙ ap (slice_index order) is
 ]
 
+-- before the first link of the node
 pub release_start : (g : GraphSeen) (order waits : List ℕ) (done : ℕ) (next : Option ℕ) → IsWithin g.nodes g.links → done < length order →
     IsFirstFrom (leaves g.links (slice_index order done)) 0 (length g.links) next → IsReleased g order waits done →
     IsReleasing g order waits done (slice_index order done) next
@@ -71,11 +72,13 @@ next_open g order waits done node e now = (now.which e now.leaves.0 ∙ not_belo
     not_below : (p d e : ℕ) → p ≡ d → (nat_lt p d || (p == d && nat_lt e e)) ≡ false
     not_below p d e h = grind (arith, nat_tests)
 
+-- so its head waits
 pub next_waits : (g : GraphSeen) (order waits : List ℕ) (done node e : ℕ) → IsWithin g.nodes g.links → IsReleasing g order waits done node (Some e) →
     0 < slice_index waits (head_in g.links e)
 next_waits g order waits done node e within now =
     waits_for g order waits now.place now.handled e within now.sorting now.leaves.0 (next_open g order waits done node e now).0
 
+-- the link at hand is handled
 pub release_next : (g : GraphSeen) (order waits order' waits' : List ℕ) (done node e : ℕ) (next : Option ℕ) → IsWithin g.nodes g.links →
     IsReleasing g order waits done node (Some e) → IsFirstFrom (leaves g.links (tail_in g.links e)) (e + 1) (length g.links) next →
     waits' ≡ slice_set waits (head_in g.links e) (slice_index waits (head_in g.links e) - 1) →
@@ -117,6 +120,7 @@ release_next g order waits order' waits' done node e next within now first waits
         ∙ sym (ap (λ t. t || (s.place' (tail_in g.links f) == done && is_before next f)) same.0
         ∙ ap (λ t. nat_lt (now.place (tail_in g.links f)) done || (t && is_before next f)) same.1)
 
+-- behind the last link of the node
 pub release_end : (g : GraphSeen) (order waits : List ℕ) (done node : ℕ) → IsReleasing g order waits done node None → IsReleased g order waits (done + 1)
 release_end g order waits done node now = record {
   place = now.place;

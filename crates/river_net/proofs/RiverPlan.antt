@@ -28,6 +28,7 @@ pub record IsLeast (p : ℕ → Bool) (n k : ℕ) : Type 0 where
   pub passes : p k ≡ true
   pub before : (j : ℕ) → j < k → p j ≡ false
 
+-- there is a least place that passes, or none passes
 least : (n : ℕ) (p : ℕ → Bool) → ((k : ℕ) × IsLeast p n k) ⊎ ((k : ℕ) → k < n → p k ≡ false)
 least zero p = inr (λ k l. absurd (omega arith))
 least (suc n) p = elim (least n p) [
@@ -168,6 +169,7 @@ river_small nodes links rank supply flow out within sound forward run e below =
         at_most true x = omega arith
         at_most false x = omega arith
 
+-- a river carries 10^15
 river_carry : (b : Basin) (month : Month) (e : ℕ) → IsFirstRiver b.links e → carry_of b month e ≡ 10 ^ 15
 river_carry b month e first = of_carry (slice_get b.links e) first.river
   where
@@ -180,6 +182,7 @@ river_carry b month e first = of_carry (slice_get b.links e) first.river
     of_carry None h = absurd (false≢true h)
     of_carry (Some l) h = of_kind l.carry h
 
+-- the run of the river keeps the balance, carries and wants of a plan
 pub river_is_plan : RunOfRiverIsPlan
 river_is_plan b month supply want p valid few natural = record {
   flow_len = natural.run.flow_len;

@@ -34,6 +34,7 @@ running_start nodes links supply place flow out dry here = record {
     none true x h = h
     none false x h = refl
 
+-- another node that is up to a place in the order is before it
 at_place : (nodes : List Node) (links : List Link) (order : List ℕ) (run : IsRunningOrder nodes links order) (i u : ℕ) → i < length nodes → u < length nodes → u ≢ slice_index order i →
     run.place u < i + 1 → run.place u < i
 at_place nodes links order run i u l k ne below = elim (cases_lt (run.place u) i) [
@@ -211,6 +212,7 @@ runs_naturally nodes links supply order run flow out ends sound flow_len out_len
         no_value (tail_in links e == n) (slice_index flow e) (λ at. let no = sound.outlets_end e l in
         let yes : is_outlet_in nodes (tail_in links e) ≡ true = ap (is_outlet_in nodes) (eqb-true (tail_in links e) n at) ∙ outlet in cc))
 
+-- what a node needs to send its water on, where others have sent theirs
 pub send_fits : (nodes : List Node) (links : List Link) (net : NetSeen) (is : IsNet nodes links net) (supply : ℕ → ℕ) (i : ℕ) (heads flow out : List ℕ) (f : ℕ → ℕ) →
     total (length nodes) supply < 10 ^ 15 → i < length nodes → heads ≡ net.heads → length flow ≡ length links → length out ≡ length nodes →
     IsRunning nodes links supply is.run.place i f (λ v. slice_index out v) →
@@ -245,6 +247,7 @@ send_fits nodes links net is supply i heads flow out f few l same lf lo now = of
           ),
         )
 
+-- what is left where a node has sent its water on
 pub send_done : (nodes : List Node) (links : List Link) (net : NetSeen) (is : IsNet nodes links net) (supply : ℕ → ℕ) (i : ℕ) (heads flow flow' out out' : List ℕ) →
     i < length nodes → heads ≡ net.heads →
     IfNone (slice_index_or net.rivers (slice_index net.order i) None) ((flow' ≡ flow) × (out' ≡ out)) →

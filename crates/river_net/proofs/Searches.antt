@@ -28,6 +28,7 @@ has_more seen v u l = elim (cases_eq u v) [
     there : (u v : ℕ) (t : Bool) → u ≢ v → t ≡ (u == v || t)
     there u v t e = grind (arith, nat_tests)
 
+-- at the start one node is seen
 pub search_start : (g : GraphSeen) (start : ℕ) (seen : List Bool) (queue : List ℕ) → start < g.nodes →
     seen ≡ slice_set (replicate g.nodes false) start true → queue ≡ start ∷ [] → IsExpanded g start seen queue 0
 search_start g start seen queue inside seen_is queue_is = record {
@@ -67,6 +68,7 @@ search_start g start seen queue inside seen_is queue_is = record {
     first : (j : ℕ) → j < length queue → slice_index queue j ≡ start
     first j l = let n = ap length queue_is in let none : j ≡ 0 = omega arith in ap (slice_index queue) none ∙ ap (λ (xs : List ℕ). slice_index xs 0) queue_is
 
+-- before the first link of the node at hand
 pub expand_start : (g : GraphSeen) (start : ℕ) (seen : List Bool) (queue : List ℕ) (done : ℕ) (next : Option ℕ) → done < length queue →
     IsFirstFrom (leaves g.links (slice_index queue done)) 0 (length g.links) next → IsExpanded g start seen queue done →
     IsExpanding g start seen queue done (slice_index queue done) next
@@ -81,6 +83,7 @@ expand_start g start seen queue done next within first now = record {
     none : (e : ℕ) → nat_lt e 0 ≡ true → ⊥
     none e h = grind (arith, nat_tests)
 
+-- behind the last link of the node at hand
 pub expand_end : (g : GraphSeen) (start : ℕ) (seen : List Bool) (queue : List ℕ) (done node : ℕ) →
     IsExpanding g start seen queue done node None → IsExpanded g start seen queue (done + 1)
 expand_end g start seen queue done node now = record {
@@ -102,6 +105,7 @@ expand_found g start seen queue done node e now found =
     (subst (λ v. walks g.links (done + 1) start v ≡ true) found
     (now.expanded.search.reached done e within now.leaves.0 (now.leaves.1 ∙ sym now.at)))
 
+-- a link is followed that does not lead to the start
 pub expand_next : (g : GraphSeen) (start : ℕ) (seen : List Bool) (queue : List ℕ) (done node e : ℕ) (seen' : List Bool) (queue' : List ℕ) (next : Option ℕ) →
     IsWithin g.nodes g.links → IsExpanding g start seen queue done node (Some e) → (head_in g.links e ≡ start → ⊥) →
     seen' ≡ slice_set seen (head_in g.links e) true →

@@ -28,6 +28,7 @@ pub record HasOpenLink (g : GraphSeen) (order : List ℕ) (place : ℕ → ℕ) 
   pub head : head_in g.links link ≡ node
   pub tail : length order ≤ place (tail_in g.links link)
 
+-- a node without a place waits for such a link
 open_link : (g : GraphSeen) (order waits : List ℕ) → (now : IsReleased g order waits (length order)) → (v : ℕ) → v < g.nodes → length order ≤ now.place v →
     HasOpenLink g order now.place v
 open_link g order waits now v l unplaced = elim (cases_eq (slice_index waits v) 0) [
@@ -66,6 +67,7 @@ all_placed g order waits within now none v l = elim (cases_lt (now.place v) (len
       absurd (false≢true (sym (none turn.0 turn.1) ∙ turn.2)))
 ]
 
+-- an order of all nodes
 pub running_order : (nodes : List Node) (links : List Link) (order waits : List ℕ) → IsWithin (length nodes) links →
     IsReleased (record { nodes = length nodes; links = links }) order waits (length order) →
     ((v : ℕ) → v < length nodes → walks links (length nodes) v v ≡ false) → IsRunningOrder nodes links order

@@ -123,6 +123,7 @@ source_skip g order waits v some now = record {
   };
 }
 
+-- where all nodes were looked at, no place of the order is done
 pub sources_end : (g : GraphSeen) (order waits : List ℕ) → HasSources g order waits g.nodes → IsReleased g order waits 0
 sources_end g order waits now = record {
   place = now.place;
@@ -167,6 +168,7 @@ waits_for g order waits place handled e within now below unhandled_yet =
     own : (u x : ℕ) → (if u == u then x else 0) ≡ x
     own u x = grind (arith, nat_tests)
 
+-- what handling a link leaves: old places stay, and at most its head gets a new one
 pub record IsSettled (g : GraphSeen) (order waits : List ℕ) (place : ℕ → ℕ) (handled : ℕ → Bool) (e : ℕ) (order' waits' : List ℕ) : Type 0 where
   pub place' : ℕ → ℕ
   pub sorting : IsSorting g order' waits' place' (and_link handled e) g.nodes
@@ -175,6 +177,7 @@ pub record IsSettled (g : GraphSeen) (order waits : List ℕ) (place : ℕ → �
   pub same : (k : ℕ) → k < length order → slice_index order' k ≡ slice_index order k
   pub more : length order ≤ length order'
 
+-- handling a link
 pub settled : (g : GraphSeen) (order waits : List ℕ) (place : ℕ → ℕ) (handled : ℕ → Bool) (e : ℕ) (order' waits' : List ℕ) →
     IsWithin g.nodes g.links → IsSorting g order waits place handled g.nodes → e < length g.links → handled e ≡ false →
     place (tail_in g.links e) < length order →

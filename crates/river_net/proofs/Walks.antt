@@ -15,6 +15,7 @@ any_place p (x ∷ xs) h = elim (or_cases (p x) (list_any p xs) h) [
   | inr later ↦ (let q = any_place p xs later in (suc q.0, q.1, q.2, q.3))
 ]
 
+-- and back
 pub place_any : {X : Type 0} (p : X → Bool) (xs : List X) (k : ℕ) (x : X) → slice_get xs k ≡ Some x → p x ≡ true → list_any p xs ≡ true
 place_any p [] k x at h = cc
 place_any p (y ∷ xs) zero x at h = or_left (p y) (list_any p xs) (let same : y ≡ x = cc in ap p same ∙ h)
@@ -33,6 +34,7 @@ pub record BeginsWalk (links : List Link) (k from to : ℕ) : Type 0 where
   pub tail : tail_in links link ≡ from
   pub rest : (head_in links link ≡ to) ⊎ (walks links k (head_in links link) to ≡ true)
 
+-- a walk has a first link
 pub walk_begins : (links : List Link) (k from to : ℕ) → walks links (suc k) from to ≡ true → BeginsWalk links k from to
 unfolding walks
 walk_begins links k from to h =
@@ -49,6 +51,7 @@ walk_begins links k from to h =
       ];
     }
 
+-- a link and what follows it are a walk
 pub walk_by : (links : List Link) (k from to : ℕ) → BeginsWalk links k from to → walks links (suc k) from to ≡ true
 unfolding walks
 walk_by links k from to begin =
@@ -59,6 +62,7 @@ walk_by links k from to begin =
       | inr further ↦ or_right (at.0.to == to) (walks links k at.0.to to) (ap (λ v. walks links k v to) (sym at.3) ∙ further)
     ]))
 
+-- no link is no walk
 no_walk : (links : List Link) (from to : ℕ) → walks links zero from to ≡ true → ⊥
 unfolding walks
 no_walk links from to h = false≢true h
@@ -79,6 +83,7 @@ walk_up links (suc k) from to h =
       rest = elim begin.rest [ inl there ↦ inl there | inr further ↦ inr (walk_up links k (head_in links begin.link) to further) ];
     }
 
+-- a greater bound allows the walk too
 pub walk_within : (links : List Link) (j k from to : ℕ) → j ≤ k → walks links j from to ≡ true → walks links k from to ≡ true
 walk_within links j zero from to le h = let none : j ≡ 0 = omega arith in subst (λ i. walks links i from to ≡ true) none h
 walk_within links j (suc k) from to le h = elim (cases_lt j (suc k)) [
@@ -102,7 +107,7 @@ walk_on links (suc k) from e l h =
       ]);
     }
 
--- where links lead to greater numbers, so do walks. `counts` says which numbers it is said of
+-- where links lead to greater numbers, at least of those below a bound, so do walks
 pub walk_rises : (links : List Link) (rank : ℕ → ℕ) (bound k from to : ℕ) →
     ((e : ℕ) → e < length links → rank (head_in links e) < bound → rank (tail_in links e) < rank (head_in links e)) →
     rank to < bound → walks links k from to ≡ true → rank from < rank to

@@ -1,5 +1,5 @@
 -- First links: of all that leave a node, and of the rivers among them.
-use Rattle.std.specs.Prelude.{◌≡◌, ℕ, ◌+◌, ◌-◌, ◌<◌, ◌≤◌, ◌==◌, ◌&&◌, Bool, true, false, List, length, slice_index_or, Option, Some, None}
+use Rattle.std.specs.Prelude.{◌≡◌, ℕ, ◌+◌, ◌<◌, ◌≤◌, ◌==◌, ◌&&◌, Bool, true, false, List, length, slice_index_or, Option, Some, None}
 use Rattle.water_model.specs.Network.{tail_in, head_in, is_river_in}
 use Rattle.water_model.specs.declared.types.Link.{Link}
 
@@ -9,6 +9,7 @@ IsFirstFrom test from bound None = (k : ℕ) → from ≤ k → k < bound → te
 IsFirstFrom test from bound (Some place) =
     (from ≤ place) × (place < bound) × (test place ≡ true) × ((k : ℕ) → from ≤ k → k < place → test k ≡ false)
 
+-- whether a link leaves a node, and whether it does so as a river
 abbrev pub leaves : List Link → ℕ → ℕ → Bool
 leaves links node link = tail_in links link == node
 
@@ -20,7 +21,7 @@ pub record AreFirsts (test : ℕ → ℕ → Bool) (nodes from links : ℕ) (fir
   pub count : length firsts ≡ nodes
   pub each : (v : ℕ) → v < nodes → IsFirstFrom (test v) from links (slice_index_or firsts v None)
 
--- the ends of a link are below a number of nodes
+-- the ends of each link are below a number of nodes
 pub record IsWithin (nodes : ℕ) (links : List Link) : Type 0 where
   pub ends : (e : ℕ) → e < length links → (tail_in links e < nodes) × (head_in links e < nodes)
 
@@ -38,8 +39,3 @@ pub record IsGraph (links : List Link) (first next : List (Option ℕ)) : Type 0
   pub within : IsWithin (length first) links
   pub few_nodes : length first ≤ 2000
   pub few_links : length links ≤ 4000
-
--- how many places there are from a next one on
-abbrev pub links_left : ℕ → Option ℕ → ℕ
-links_left links None = 0
-links_left links (Some next) = links - next

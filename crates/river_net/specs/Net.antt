@@ -1,5 +1,6 @@
 -- What a network says of its nodes and links.
 use Rattle.std.specs.Prelude.{◌≡◌, ℕ, ◌<◌, true, false, List, length, slice_index, slice_index_or, Option, Some, None, All}
+use Rattle.place_sums.specs.Sums.{total}
 use Rattle.water_model.specs.Network.{tail_in, head_in, is_outlet_in, HasNodes, IsForward, IsSoundNetwork}
 use Rattle.water_model.specs.RunOfRiver.{IsFirstRiver}
 use Rattle.water_model.specs.declared.types.Link.{Link}
@@ -37,3 +38,7 @@ pub record IsNetOfSome (net : NetSeen) : Type 0 where
   pub links : List Link
   pub is_net : IsNet nodes links net
   pub sound : IsSoundNetwork nodes links
+
+-- the sum of a list of amounts
+abbrev pub total_of : List ℕ → ℕ
+total_of amounts = total (length amounts) (λ k. slice_index amounts k)

@@ -8,9 +8,11 @@ use Rattle.water_model.specs.declared.types.Node.{Node}
 use Rattle.river_net.specs.declared.refused.NetRefused.{NetRefused}
 use Rattle.river_net.specs.declared.refused.NetRefused.TheVariants.{SelfLink, LinkFromOutlet, NoRiver, DirectedCycle, OutOfMemory}
 
+-- a link from a node to itself
 abbrev pub is_self_link : Link → Bool
 is_self_link l = l.from == l.to
 
+-- a link from an outlet
 abbrev pub leaves_outlet : List Node → Link → Bool
 leaves_outlet nodes l = is_outlet_in nodes l.from
 

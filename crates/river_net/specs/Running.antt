@@ -6,10 +6,6 @@ use Rattle.water_model.specs.RunOfRiver.{IsFirstRiver}
 use Rattle.water_model.specs.declared.types.Link.{Link}
 use Rattle.water_model.specs.declared.types.Node.{Node}
 
--- the sum of a list of amounts
-abbrev pub total_of : List ℕ → ℕ
-total_of amounts = total (length amounts) (λ k. slice_index amounts k)
-
 -- a river has places in the lists, leads to another node, and the water there stays below 2^64
 abbrev pub CanSend : Option ℕ → ℕ → List ℕ → List ℕ → List ℕ → Type 0
 CanSend river node heads flow out =

@@ -22,7 +22,8 @@ impl Search {
     /// Only the start is reached.
     fn start(alloc: Global, graph: &Graph, node: u32) -> Result<Search, AllocError>
         requires { node < graph.now.nodes }
-        ensures search { IfOk result (λ search. IsExpanded graph.now node search.seen.items search.queue.items 0) }
+        ensures search { IfOk result (λ search.
+            IsExpanded graph.now node search.seen.items search.queue.items 0) }
         ensures within { IsWithin graph.now.nodes graph.now.links }
     {
         let mut seen = vec![in alloc; false; graph.nodes()]?;
@@ -31,10 +32,13 @@ impl Search {
         Ok(Search { seen, queue })
     }
 
+    /// Puts a node into the queue that was not there yet.
     fn visit(&mut self, node: u32) -> Result<(), AllocError>
         requires { node < length self.old.seen.items }
         ensures seen { OnOk result (self.new.seen.items ≡ slice_set self.old.seen.items node true) }
-        ensures queue { OnOk result (self.new.queue.items ≡ (if has self.old.seen.items node then self.old.queue.items else self.old.queue.items ++ node ∷ [])) }
+        ensures queue { let queue = self.old.queue.items in
+            let known = has self.old.seen.items node in
+            OnOk result (self.new.queue.items ≡ (if known then queue else queue ++ node ∷ [])) }
     {
         if !self.seen[node as usize] {
             self.seen[node as usize] = true;
@@ -47,8 +51,10 @@ impl Search {
     fn expand(&mut self, done: usize, start: u32, graph: &Graph) -> Result<bool, AllocError>
         requires within { done < length self.old.queue.items }
         requires search { IsExpanded graph.now start self.old.seen.items self.old.queue.items done }
-        ensures found { IfOk result (λ found. OnTrue found (reaches_itself graph.now start ≡ true)) }
-        ensures search { IfOk result (λ found. OnFalse found (IsExpanded graph.now start self.new.seen.items self.new.queue.items (done + 1))) }
+        ensures found { IfOk result (λ found.
+            OnTrue found (reaches_itself graph.now start ≡ true)) }
+        ensures search { IfOk result (λ found. OnFalse found
+            (IsExpanded graph.now start self.new.seen.items self.new.queue.items (done + 1))) }
     {
         let mut next = graph.first(self.queue[done]);
         while let Some(link) = next {
@@ -79,11 +85,14 @@ fn reaches_itself(alloc: Global, graph: &Graph, node: u32) -> Result<bool, Alloc
     Ok(false)
 }
 
-/// The first node that reaches itself. Only nodes that wait for a link may: see [`crate::sorting::Sorting`].
+/// The first node that reaches itself. Given are the counts of [`crate::sorting::Sorting`]: where one is 0, the node does
+/// not, so it is not searched from.
 pub fn node_on_cycle(alloc: Global, graph: &Graph, waits: &[u32]) -> Result<Option<u32>, AllocError>
     requires count { length waits.now ≡ graph.now.nodes }
-    requires waiting { (v : ℕ) → v < graph.now.nodes → slice_index waits.now v ≡ 0 → reaches_itself graph.now v ≡ false }
-    ensures { IfOk result (λ node. node ≡ find (reaches_itself graph.now) (range_with_len 0 graph.now.nodes)) }
+    requires waiting { (v : ℕ) → v < graph.now.nodes → slice_index waits.now v ≡ 0 →
+        reaches_itself graph.now v ≡ false }
+    ensures { let nodes = range_with_len 0 graph.now.nodes in
+        IfOk result (λ node. node ≡ find (reaches_itself graph.now) nodes) }
 {
     let nodes = graph.nodes();
     for node in 0..nodes {

@@ -42,7 +42,8 @@ fn keeps_water(nodes: &[Node], rivers: &[Option<u32>], node: usize) -> bool
 /// The first node that is no outlet and has no first river.
 pub fn node_without_river(nodes: &[Node], rivers: &[Option<u32>]) -> Option<usize>
     requires { length rivers.now ≡ length nodes.now }
-    ensures first { result ≡ find (keeps_water nodes.now rivers.now) (range_with_len 0 (length nodes.now)) }
+    ensures first { result ≡ find (keeps_water nodes.now rivers.now)
+        (range_with_len 0 (length nodes.now)) }
     ensures in_range { IfSome result (λ node. node < length nodes.now) }
 {
     (0..nodes.len()).find(|node| keeps_water(nodes, rivers, *node))

@@ -34,7 +34,8 @@ impl<'a> Model for Graph<'a> {
 fn count_entering(alloc: Global, nodes: usize, links: &[Link]) -> Result<Vec<u32>, AllocError>
     requires few_links { length links.now ≤ 4000 }
     requires within { IsWithin nodes links.now }
-    ensures { IfOk result (λ counts. AreEntering (record { nodes = nodes; links = links.now }) (length links.now) counts.items) }
+    ensures { IfOk result (λ counts.
+        AreEntering (record { nodes = nodes; links = links.now }) (length links.now) counts.items) }
 {
     let mut counts = vec![in alloc; 0; nodes]?;
     for link in links {
@@ -49,7 +50,8 @@ impl<'a> Graph<'a> {
         requires few_nodes { length nodes.now ≤ 2000 }
         requires few_links { length links.now ≤ 4000 }
         requires ends { All (λ l. HasNodes nodes.now l) links.now }
-        ensures { IfOk result (λ graph. graph ≡ record { nodes = length nodes.now; links = links.now }) }
+        ensures { IfOk result (λ graph.
+            graph ≡ record { nodes = length nodes.now; links = links.now }) }
     {
         let mut first = vec![in alloc; None; nodes.len()]?;
         let mut next = vec![in alloc; None; links.len()]?;
@@ -61,18 +63,19 @@ impl<'a> Graph<'a> {
         Ok(Graph { links, first, next })
     }
 
+    /// How many nodes there are.
     pub fn nodes(&self) -> usize
         ensures value { result ≡ self.now.nodes }
         ensures few { result ≤ 2000 }
         ensures within { IsWithin self.now.nodes self.now.links }
     {
-        let _links = &self.links;
         self.first.len()
     }
 
     /// For each node how many links lead to it.
     pub fn links_into(&self, alloc: Global) -> Result<Vec<u32>, AllocError>
-        ensures entering { IfOk result (λ counts. AreEntering self.now (length self.now.links) counts.items) }
+        ensures entering { IfOk result (λ counts.
+            AreEntering self.now (length self.now.links) counts.items) }
         ensures within { IsWithin self.now.nodes self.now.links }
         ensures few { self.now.nodes ≤ 2000 }
     {
@@ -100,7 +103,8 @@ impl<'a> Graph<'a> {
     /// The next link that leaves the same node as this one.
     pub fn next(&self, link: u32) -> Option<u32>
         requires { link < length self.now.links }
-        ensures { IsFirstFrom (leaves self.now.links (tail_in self.now.links link)) (link + 1) (length self.now.links) result }
+        ensures { let links = self.now.links in
+            IsFirstFrom (leaves links (tail_in links link)) (link + 1) (length links) result }
     {
         self.next[link as usize]
     }

@@ -4,9 +4,9 @@ ghost use Rattle.water_model.specs.Network.{HasNodes, IsSoundNetwork};
 ghost use Rattle.water_model.specs.RunOfRiver.{RunsNaturally};
 ghost use Rattle.water_model.specs.declared.types.Link.{Link};
 ghost use Rattle.water_model.specs.declared.types.Node.{Node};
-ghost use Rattle.river_net.specs.Net.{IsNet, IsNetOfSome};
+ghost use Rattle.river_net.specs.Net.{IsNet, IsNetOfSome, total_of};
 ghost use Rattle.river_net.specs.NetFaults.{net_fault, IsNetRefusal};
-ghost use Rattle.river_net.specs.Running.{CanSend, IsSent, total_of};
+ghost use Rattle.river_net.specs.Running.{CanSend, IsSent};
 
 use crate::cycle::node_on_cycle;
 use crate::faults::{link_from_outlet, node_without_river, self_link};
@@ -22,7 +22,9 @@ use water_model::types::{Link, Node};
 #[derive(Drop)]
 pub struct Net {
     order: Vec<u32>,
+    /// For each node the first river that leaves it.
     rivers: Vec<Option<u32>>,
+    /// For each link the node that it leads to.
     heads: Vec<u32>,
 }
 
@@ -46,7 +48,9 @@ fn send(river: Option<u32>, heads: &[u32], node: usize, flow: &mut [u64], out: &
     requires node { node < length out.old }
     requires river { CanSend river node heads.now flow.old out.old }
     ensures none { IfNone river ((flow.new ≡ flow.old) × (out.new ≡ out.old)) }
-    ensures some { IfSome river (λ e. IsSent e node (slice_index heads.now e) (λ x. slice_index flow.old x) (λ x. slice_index flow.new x) (λ x. slice_index out.old x) (λ x. slice_index out.new x)) }
+    ensures some { IfSome river (λ e. IsSent e node (slice_index heads.now e)
+        (λ x. slice_index flow.old x) (λ x. slice_index flow.new x)
+        (λ x. slice_index out.old x) (λ x. slice_index out.new x)) }
 {
     if let Some(link) = river {
         let water = out[node];
@@ -58,8 +62,9 @@ fn send(river: Option<u32>, heads: &[u32], node: usize, flow: &mut [u64], out: &
 }
 
 impl Net {
-    /// The network of nodes and links, which names each node by its place, from 0. A network with a fault is refused with
-    /// its first one: a link from a node to itself, then a link from an outlet, then a node without a way on, then a cycle.
+    /// The network of nodes and links, which name each other by their places, from 0. Where something is at fault, the
+    /// answer is the first fault: a link from a node to itself, else a link from an outlet, else a node that is no outlet
+    /// and that no river leaves, else a cycle of links.
     pub fn build(alloc: Global, nodes: &[Node], links: &[Link]) -> Result<Net, NetRefused>
         requires some { 1 ≤ length nodes.now }
         requires few_nodes { length nodes.now ≤ 2000 }
@@ -92,6 +97,7 @@ impl Net {
             heads,
         })
     }
+
     /// Every node once, in an order in which each link runs forward.
     pub fn order(&self) -> &[u32]
         ensures { result.now ≡ self.now.order }
@@ -100,15 +106,17 @@ impl Net {
     }
 
     /// Writes the run of the river for the supplies of the nodes: the flow of each link and the outflow of each node, all
-    /// in 1,000 cubic metres. Each node that is no outlet sends all its water down its first river, and each outlet lets
-    /// its water out.
+    /// in 1,000 cubic metres. Each node that is no outlet sends all its water down its first river, no water runs down
+    /// any other link, and each outlet lets its water out of the basin.
     pub fn natural(&self, supply: &[u64], flow: &mut [u64], out: &mut [u64])
         requires net { IsNetOfSome self.now }
         requires supply { length supply.now ≡ length self.now.order }
         requires flow { length flow.old ≡ length self.now.heads }
         requires out { length out.old ≡ length self.now.order }
         requires small { total_of supply.now < 10 ^ 15 }
-        ensures run { (nodes : List Node) (links : List Link) → IsNet nodes links self.now → IsSoundNetwork nodes links → RunsNaturally nodes links supply.now flow.new out.new }
+        ensures run { (nodes : List Node) (links : List Link) →
+            IsNet nodes links self.now → IsSoundNetwork nodes links →
+            RunsNaturally nodes links supply.now flow.new out.new }
         ensures small { All (λ amount. amount ≤ total_of supply.now) flow.new }
         ensures all { total_of out.new ≡ total_of supply.now }
     {

@@ -20,7 +20,9 @@ pub fn first_rivers(
 ) -> Result<Vec<Option<u32>>, AllocError>
     requires few_links { length links.now ≤ 4000 }
     requires ends { All (λ l. HasNodes nodes.now l) links.now }
-    ensures { IfOk result (λ rivers. AreFirsts (leaves_as_river links.now) (length nodes.now) 0 (length links.now) rivers.items) }
+    ensures { let test = leaves_as_river links.now in
+        IfOk result (λ rivers.
+        AreFirsts test (length nodes.now) 0 (length links.now) rivers.items) }
 {
     let mut rivers = vec![in alloc; None; nodes.len()]?;
     for place in (0..links.len()).rev() {

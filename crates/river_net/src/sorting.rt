@@ -17,7 +17,8 @@ pub struct Sorting {
 impl Sorting {
     /// Places the nodes that no link leads to.
     fn start(alloc: Global, graph: &Graph) -> Result<Sorting, AllocError>
-        ensures { IfOk result (λ sorting. HasSources graph.now sorting.order.items sorting.waits.items graph.now.nodes) }
+        ensures { IfOk result (λ sorting.
+            HasSources graph.now sorting.order.items sorting.waits.items graph.now.nodes) }
     {
         let waits = graph.links_into(alloc)?;
         let mut order = Vec::new(alloc);
@@ -33,8 +34,11 @@ impl Sorting {
     fn settle(&mut self, node: u32) -> Result<(), AllocError>
         requires within { node < length self.old.waits.items }
         requires waits { 0 < slice_index self.old.waits.items node }
-        ensures waits { self.new.waits.items ≡ slice_set self.old.waits.items node (slice_index self.old.waits.items node - 1) }
-        ensures order { OnOk result (self.new.order.items ≡ (if slice_index self.old.waits.items node == 1 then self.old.order.items ++ node ∷ [] else self.old.order.items)) }
+        ensures waits { let waits = self.old.waits.items in
+            self.new.waits.items ≡ slice_set waits node (slice_index waits node - 1) }
+        ensures order { let order = self.old.order.items in
+            let last = slice_index self.old.waits.items node == 1 in
+            OnOk result (self.new.order.items ≡ (if last then order ++ node ∷ [] else order)) }
     {
         let count = self.waits[node as usize] - 1;
         self.waits[node as usize] = count;
@@ -48,7 +52,8 @@ impl Sorting {
     fn release(&mut self, done: usize, graph: &Graph) -> Result<(), AllocError>
         requires within { done < length self.old.order.items }
         requires sorting { IsReleased graph.now self.old.order.items self.old.waits.items done }
-        ensures { OnOk result (IsReleased graph.now self.new.order.items self.new.waits.items (done + 1)) }
+        ensures { OnOk result
+            (IsReleased graph.now self.new.order.items self.new.waits.items (done + 1)) }
     {
         let mut next = graph.first(self.order[done]);
         while let Some(link) = next {
@@ -61,7 +66,9 @@ impl Sorting {
 
 /// Places nodes as long as one waits for no link (A. B. Kahn, Topological sorting of large networks, 1962).
 pub fn sort(alloc: Global, graph: &Graph) -> Result<Sorting, AllocError>
-    ensures { IfOk result (λ sorting. IsReleased graph.now sorting.order.items sorting.waits.items (length sorting.order.items)) }
+    ensures { IfOk result (λ sorting.
+        let order = sorting.order.items in
+        IsReleased graph.now order sorting.waits.items (length order)) }
 {
     let mut sorting = Sorting::start(alloc, graph)?;
     let mut done = 0;

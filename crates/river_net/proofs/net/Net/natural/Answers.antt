@@ -5,8 +5,8 @@ use Rattle.place_sums.specs.Sums.{total}
 use Rattle.water_model.specs.declared.types.Link.{Link}
 use Rattle.water_model.specs.declared.types.Node.{Node}
 use Rattle.river_net.specs.NetSeen.{NetSeen}
-use Rattle.river_net.specs.Net.{IsNet}
-use Rattle.river_net.specs.Running.{IsRunning, IsSent, CanSend, total_of}
+use Rattle.river_net.specs.Net.{IsNet, total_of}
+use Rattle.river_net.specs.Running.{IsRunning, IsSent, CanSend}
 use Rattle.river_net.proofs.Runs.{running_start, send_fits, send_done, runs_naturally}
 use Rattle.river_net.proofs.net.Net.natural.Goals as goal
 

@@ -1,6 +1,6 @@
 use Rattle.std.proofs.Common.{length, slice_index}
 use Rattle.river_net.specs.Sorting.{IsReleasing}
-use Rattle.river_net.specs.Firsts.{links_left}
+use Rattle.river_net.proofs.FirstLinks.{links_left}
 use Rattle.river_net.proofs.sorting.Sorting.release.Given as goal
 
 abbrev pub invariant-loop-next : goal.invariant-loop-next
