@@ -5,7 +5,7 @@ use crate::{Net, NetRefused};
 use std::alloc::Global;
 use std::test::Fail;
 use water_model::types::{Carry, Inflow, Link, Node};
-use water_text::Name;
+use water_text::name::Name;
 
 /// Nodes that are outlets or not.
 fn nodes(alloc: Global, outlets: &[bool]) -> Result<Vec<Node>, Fail> {
