@@ -30,7 +30,7 @@ pub found_at : {A X Y : Type 0} (f : X → Y) (p : X → Bool) (g : A → List X
     find p (flat_map g (drop i xs)) ≡ find p (flat_map g xs) → Some r ≡ option_map f (find p (flat_map g xs))
 found_at f p g xs i d r h e same =
     let here : option_map f (find p (flat_map g (drop i xs))) ≡ Some r =
-        rw (drop_more xs i d h) (find-some f p (g (get_or xs i d)) (flat_map g (drop (i + 1) xs)) r e) in
+    rw (drop_more xs i d h) (find-some f p (g (get_or xs i d)) (flat_map g (drop (i + 1) xs)) r e) in
     sym here ∙ ap (option_map f) same
 
 -- where none is found at a place, the first from there on is the first behind it
@@ -40,5 +40,5 @@ pub none_at : {A X Y : Type 0} (f : X → Y) (p : X → Bool) (g : A → List X)
     find p (flat_map g (drop (i + 1) xs)) ≡ find p (flat_map g xs)
 none_at f p g xs i d h e same =
     let here : find p (flat_map g (drop i xs)) ≡ find p (flat_map g (drop (i + 1) xs)) =
-        rw (drop_more xs i d h) (find-none f p (g (get_or xs i d)) (flat_map g (drop (i + 1) xs)) e) in
+    rw (drop_more xs i d h) (find-none f p (g (get_or xs i d)) (flat_map g (drop (i + 1) xs)) e) in
     sym here ∙ same

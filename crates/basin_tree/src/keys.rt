@@ -36,10 +36,8 @@ fn is_known(known: &[Key], name: &str) -> bool
 }
 
 fn has_unknown_key(known: &[Key], row: &Table) -> bool
-    ensures {
-        result ≡ list_any
-            (λ name. not (list_any (λ key. bytes_eq (string_bytes name) key.name.now) known.now)) (map_keys row.now)
-    }
+    ensures { result ≡ list_any
+        (λ name. not (list_any (λ key. bytes_eq (string_bytes name) key.name.now) known.now)) (map_keys row.now) }
 {
     row.keys().any(|name| !is_known(known, name.as_str()))
 }
@@ -56,10 +54,8 @@ impl EntryTest for MissingKey {
 }
 
 fn lacks_some(wanted: &[Key], row: &Table) -> bool
-    ensures {
-        result ≡ list_any
-            (λ key. key.is_required && not (is_some (get_member key.name.now (table_view row.now)))) wanted.now
-    }
+    ensures { result ≡ list_any
+        (λ key. key.is_required && not (is_some (get_member key.name.now (table_view row.now)))) wanted.now }
 {
     wanted
         .iter()
@@ -103,12 +99,10 @@ pub trait ValueTest {
 }
 
 fn any_at<T: ValueTest>(document: &Document, keys: &[Key], row: &Table) -> bool
-    ensures {
-        result ≡ list_any
-            (λ key. option_map_or
-                (T.fails (tree_of document.now) key.kind) (get_member key.name.now (table_view row.now)) false)
-            keys.now
-    }
+    ensures { result ≡ list_any
+        (λ key. option_map_or
+        (T.fails (tree_of document.now) key.kind) (get_member key.name.now (table_view row.now)) false)
+        keys.now }
 {
     keys.iter().any(|key| match member(row, key.name) {
         Some(value) => T::fails_for(document, key.kind, value),

@@ -102,10 +102,8 @@ fn repeats_name(
     row: &Table,
     space: Space,
 ) -> bool
-    ensures {
-        result ≡ repeats_name
-            (tree_of document.now) (record { table = table; number = number; row = table_view row.now }) space
-    }
+    ensures { result ≡ repeats_name
+        (tree_of document.now) (record { table = table; number = number; row = table_view row.now }) space }
 {
     let before = rights_before(document, table);
     match text_at(row, own_key(table)) {
@@ -137,10 +135,8 @@ impl EntryTest for NoSuchName {
 }
 
 fn is_unknown_text(document: &Document, space: Space, value: &Value) -> bool
-    ensures {
-        result ≡ option_map_or
-            (λ text. not (is_some (named_at (tree_of document.now) space text))) (as_str (view value.now)) false
-    }
+    ensures { result ≡ option_map_or
+        (λ text. not (is_some (named_at (tree_of document.now) space text))) (as_str (view value.now)) false }
 {
     match value.as_str() {
         Some(text) => document.named_at(space, text).is_none(),
@@ -163,10 +159,8 @@ impl EntryTest for OutletReservoir {
 }
 
 fn is_outlet_node(node: &Value) -> bool
-    ensures {
-        result ≡ option_map_or
-            (λ outlet. outlet) (option_and_then as_bool (get (codes "outlet") (view node.now))) false
-    }
+    ensures { result ≡ option_map_or
+        (λ outlet. outlet) (option_and_then as_bool (get (codes "outlet") (view node.now))) false }
 {
     match node.get("outlet") {
         Some(outlet) => outlet.as_bool().unwrap_or(false),
@@ -184,10 +178,8 @@ fn is_outlet(document: &Document, at: u64) -> bool
 }
 
 fn names_outlet(document: &Document, text: &str) -> bool
-    ensures {
-        result ≡ option_map_or
-            (is_outlet_at (tree_of document.now)) (named_at (tree_of document.now) Space.Nodes text.now) false
-    }
+    ensures { result ≡ option_map_or
+        (is_outlet_at (tree_of document.now)) (named_at (tree_of document.now) Space.Nodes text.now) false }
 {
     match document.named_at(Space::Nodes, text) {
         Some(at) => is_outlet(document, at),

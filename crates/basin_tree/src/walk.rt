@@ -26,10 +26,8 @@ pub trait EntryTest {
 
     /// Whether the entry of this table and number, with these keys and values, is at fault.
     fn fails_at(document: &Document, table: BasinTable, number: u64, row: &Table) -> bool
-        ensures {
-            result ≡ fails
-                (tree_of document.now) (record { table = table; number = number; row = table_view row.now })
-        };
+        ensures { result ≡ fails
+            (tree_of document.now) (record { table = table; number = number; row = table_view row.now }) };
 }
 
 const LISTED: [BasinTable; 7] = [
@@ -59,10 +57,8 @@ fn first_in_rows<T: EntryTest>(
     table: BasinTable,
     rows: &[Value],
 ) -> Option<Finding>
-    ensures {
-        result ≡ option_map (found_at fault)
-            (find (T.fails (tree_of document.now)) (entries_behind table 0 (items_view rows.now)))
-    }
+    ensures { result ≡ option_map (found_at fault)
+        (find (T.fails (tree_of document.now)) (entries_behind table 0 (items_view rows.now))) }
 {
     for (i, value) in rows.iter().enumerate() {
         if let Some(row) = value.as_table() {
@@ -80,10 +76,8 @@ fn first_in<T: EntryTest>(
     fault: BasinFault,
     table: BasinTable,
 ) -> Option<Finding>
-    ensures {
-        result ≡ option_map (found_at fault)
-            (find (T.fails (tree_of document.now)) (entries_in (tree_of document.now) table))
-    }
+    ensures { result ≡ option_map (found_at fault)
+        (find (T.fails (tree_of document.now)) (entries_in (tree_of document.now) table)) }
 {
     first_in_rows::<T>(document, fault, table, document.items_at(table))
 }
@@ -93,10 +87,8 @@ fn first_listed<T: EntryTest>(
     fault: BasinFault,
     tables: &[BasinTable],
 ) -> Option<Finding>
-    ensures {
-        result ≡ option_map (found_at fault)
-            (find (T.fails (tree_of document.now)) (flat_map (entries_in (tree_of document.now)) tables.now))
-    }
+    ensures { result ≡ option_map (found_at fault)
+        (find (T.fails (tree_of document.now)) (flat_map (entries_in (tree_of document.now)) tables.now)) }
 {
     for table in tables {
         if let Some(finding) = first_in::<T>(document, fault, *table) {

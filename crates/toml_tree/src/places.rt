@@ -24,11 +24,9 @@ fn add_place<'a>(
     text: Option<&'a str>,
     place: u64,
 ) -> Result<(), AllocError>
-    ensures {
-        OnOk result ((q : List ℕ) →
-            kept_at places.new q ≡ option_or (kept_at places.old q)
-                (if is_the_text q (option_map (λ t. t.now) text.entry) then Some place else None))
-    }
+    ensures { OnOk result ((q : List ℕ) →
+        kept_at places.new q ≡ option_or (kept_at places.old q)
+        (if is_the_text q (option_map (λ t. t.now) text.entry) then Some place else None)) }
 {
     if let Some(text) = text {
         if !places.contains_key(text) {
@@ -82,13 +80,9 @@ fn count_text<'a>(
     text: Option<&'a str>,
 ) -> Result<u64, AllocError>
     requires { (q : List ℕ) → counted counts.old q + 1 < 2 ^ 64 }
-    ensures before {
-        IfOk result (λ n. n ≡ option_map_or (λ q. counted counts.old q) (option_map (λ t. t.now) text.entry) 0)
-    }
-    ensures counts {
-        OnOk result ((q : List ℕ) →
-            counted counts.new q ≡ counted counts.old q + (if is_the_text q (option_map (λ t. t.now) text.entry) then 1 else 0))
-    }
+    ensures before { IfOk result (λ n. n ≡ option_map_or (λ q. counted counts.old q) (option_map (λ t. t.now) text.entry) 0) }
+    ensures counts { OnOk result ((q : List ℕ) →
+        counted counts.new q ≡ counted counts.old q + (if is_the_text q (option_map (λ t. t.now) text.entry) then 1 else 0)) }
 {
     match text {
         Some(text) => {
