@@ -1,0 +1,48 @@
+-- The words of a refusal are short.
+use Rattle.std.proofs.Common.{◌≡◌, ℕ, ◌+◌, ◌≤◌, List, ◌++◌, length, ap, ◌∙◌, arith, length-append}
+use Rattle.basin_tree.specs.Faults.{fault_name}
+use Rattle.basin_tree.specs.Tables.{table_name}
+use Rattle.basin_tree.specs.declared.fault.BasinFault.{BasinFault}
+use Rattle.basin_tree.specs.declared.fault.BasinFault.TheVariants as fault
+use Rattle.basin_tree.specs.declared.tables.BasinTable.{BasinTable}
+use Rattle.basin_tree.specs.declared.tables.BasinTable.TheVariants as table
+
+pub fault_name_short : (f : BasinFault) → length (fault_name f) ≤ 20
+unfolding fault_name
+fault_name_short fault.Toml = omega arith
+fault_name_short fault.UnknownKey = omega arith
+fault_name_short fault.MissingKey = omega arith
+fault_name_short fault.WrongKind = omega arith
+fault_name_short fault.OutOfRange = omega arith
+fault_name_short fault.BadName = omega arith
+fault_name_short fault.TooMany = omega arith
+fault_name_short fault.SameName = omega arith
+fault_name_short fault.NoSuchName = omega arith
+fault_name_short fault.OutletReservoir = omega arith
+fault_name_short fault.SelfLink = omega arith
+fault_name_short fault.LinkFromOutlet = omega arith
+fault_name_short fault.NoRiver = omega arith
+fault_name_short fault.DirectedCycle = omega arith
+fault_name_short fault.BadDate = omega arith
+fault_name_short fault.SameSeniority = omega arith
+fault_name_short fault.ZoneOrder = omega arith
+fault_name_short fault.ReturnParts = omega arith
+fault_name_short fault.TableEmpty = omega arith
+fault_name_short fault.TableFirst = omega arith
+fault_name_short fault.TableRising = omega arith
+fault_name_short fault.TableArea = omega arith
+fault_name_short fault.NotBuilt = omega arith
+
+pub table_name_short : (t : BasinTable) → length (table_name t) ≤ 20
+table_name_short table.Top = omega arith
+table_name_short table.Node = omega arith
+table_name_short table.Link = omega arith
+table_name_short table.Reservoir = omega arith
+table_name_short table.Diversion = omega arith
+table_name_short table.Instream = omega arith
+table_name_short table.Zone = omega arith
+table_name_short table.Return = omega arith
+
+-- a line that a word was put behind
+pub grown : (old new word : List ℕ) → new ≡ old ++ word → length new ≡ length old + length word
+grown old new word e = ap length e ∙ length-append old word

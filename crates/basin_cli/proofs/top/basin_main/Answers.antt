@@ -1,0 +1,19 @@
+use Rattle.std.proofs.Common.{map, string_bytes, sym, subst, ◌∙◌}
+use Rattle.water_edge.specs.Edge.{Rose}
+use Rattle.basin_cli.specs.Command.{command_of}
+use Rattle.basin_cli.specs.Ending.{line_of, status_of}
+use Rattle.basin_cli.specs.Outcome.{Tells}
+use Rattle.basin_cli.proofs.Outcomes.{completes, quiet, told_not}
+use Rattle.basin_cli.proofs.top.basin_main.Goals as goal
+use Rattle.basin_cli.proofs.top.basin_main.Goals.{then-is_told, else-is_told}
+
+pub returns-clause-ends : goal.returns-clause-ends
+returns-clause-ends g c = record {
+  how = c.decide-ending.result;
+  status_is = c.status.ensures;
+  cause = c.decide-ending.ensures.cause;
+  tells = elim c.if-is_told.branch [
+    | then-is_told w ↦ rw w.err-is w.tell.ensures
+    | else-is_told w ↦ rw w.err-is (quiet c.decide-ending.result (g.E.Sink.taken c.args.err.now) (g.E.Sink.faults c.args.err.now) (λ told. told_not w.if-is_told.false (c.is_told.ensures.1 told)))
+  ];
+}

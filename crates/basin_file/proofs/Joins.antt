@@ -1,0 +1,122 @@
+-- How the parts of the order join.
+use Rattle.std.proofs.Common.{◌≡◌, ◌≢◌, ℕ, ◌+◌, List, [], ◌∷◌, Option, Some, None, option_and_then, IfOk, IfNone, All, Result, Ok, Err, refl, sym, ap, ◌∙◌, inl, inr, nat_le, nat_lt, eqb}
+use Rattle.std.proofs.lemmas.Bool.{cases_Bool}
+use Rattle.std.specs.Option.{option_or}
+use Rattle.toml.specs.Data.{Members}
+use Rattle.water_model.specs.Network.{IsSoundNetwork}
+use Rattle.water_model.specs.Rights.{IsSoundRoll}
+use Rattle.water_model.specs.Valid.{IsAreaTable, IsValidBasin}
+use Rattle.water_model.specs.declared.types.AreaPoint.{AreaPoint}
+use Rattle.water_model.specs.declared.types.Basin.{Basin}
+use Rattle.water_model.specs.declared.types.Reservoir.{Reservoir}
+use Rattle.water_model.specs.declared.types.ReturnRow.{ReturnRow}
+use Rattle.water_model.specs.declared.types.Right.{Right}
+use Rattle.rights_roll.specs.RollFaults.{roll_fault, IsRollRefusal}
+use Rattle.rights_roll.specs.declared.RollRefused.{RollRefused}
+use Rattle.rights_roll.specs.declared.RollRefused.TheVariants as roll
+use Rattle.reservoirs.specs.AreaFaults.{fault_behind, table_fault}
+use Rattle.reservoirs.specs.declared.TableRefused.{TableRefused}
+use Rattle.reservoirs.specs.declared.TableRefused.TheVariants as area
+use Rattle.reservoirs.proofs.Tables.{is_table}
+use Rattle.basin_tree.specs.Order.{tree_fault}
+use Rattle.basin_tree.specs.declared.walk.Finding.{Finding}
+use Rattle.basin_file.specs.BasinFaults.{roll_finding, area_finding, areas_fault, basin_fault, document_fault}
+use Rattle.basin_file.specs.Sound.{IsSoundBasin}
+use Rattle.basin_file.specs.Spelled.{basin_of}
+use Rattle.basin_file.proofs.Lists.{Each, each_all}
+use Rattle.basin_file.proofs.Passed.{no_fault}
+use Rattle.basin_file.proofs.Whole.{sound_basin}
+
+-- a refused roll is told as its first fault
+pub roll_found : (rights : List Right) (returns : List ReturnRow) (e : RollRefused) (finding : Finding) →
+    IsRollRefusal e rights returns → Some finding ≡ roll_finding rights e →
+    Some finding ≡ option_and_then (roll_finding rights) (roll_fault rights returns)
+roll_found rights returns (roll.BadDate right) finding refusal f = f ∙ ap (option_and_then (roll_finding rights)) (sym refusal)
+roll_found rights returns (roll.SameSeniority first later) finding refusal f = f ∙ ap (option_and_then (roll_finding rights)) (sym refusal)
+roll_found rights returns (roll.ZoneOrder right) finding refusal f = f ∙ ap (option_and_then (roll_finding rights)) (sym refusal)
+roll_found rights returns (roll.ReturnParts right) finding refusal f = f ∙ ap (option_and_then (roll_finding rights)) (sym refusal)
+roll_found rights returns roll.OutOfMemory finding refusal f = cc
+
+-- an area table that is told as no fault has none
+no_memory_behind : (before : AreaPoint) (n : ℕ) (points : List AreaPoint) → fault_behind before n points ≢ Some area.OutOfMemory
+no_memory_behind before n [] e = cc
+no_memory_behind before n (p ∷ points) e =
+    elim (cases_Bool (nat_le p.storage before.storage)) [
+      | inl low ↦ (let h = rw low at e in cc)
+      | inr high ↦ elim (cases_Bool (nat_lt p.area before.area)) [
+        | inl falls ↦ (let h = rw (high, falls) at e in cc)
+        | inr stays ↦ no_memory_behind p (n + 1) points (rw (high, stays) at e)
+      ]
+    ]
+
+no_memory : (points : List AreaPoint) → table_fault points ≢ Some area.OutOfMemory
+no_memory [] e = cc
+no_memory (p ∷ points) e =
+    elim (cases_Bool (eqb p.storage 0)) [
+      | inl begins ↦ no_memory_behind p 1 points (rw begins at e)
+      | inr other ↦ (let h = rw other at e in cc)
+    ]
+
+area_none : (number : ℕ) (points : List AreaPoint) → option_and_then (area_finding number) (table_fault points) ≡ None → table_fault points ≡ None
+area_none number points e = by (table_fault points) refl e
+  where
+    by : (o : Option TableRefused) → table_fault points ≡ o → option_and_then (area_finding number) o ≡ None → table_fault points ≡ None
+    by None same e = same
+    by (Some area.Empty) same e = cc
+    by (Some area.FirstNotZero) same e = cc
+    by (Some (area.NotRising point)) same e = cc
+    by (Some (area.AreaFalls point)) same e = cc
+    by (Some area.OutOfMemory) same e = absurd (no_memory points same)
+
+each_table : (n : ℕ) (reservoirs : List Reservoir) → areas_fault n reservoirs ≡ None → Each (λ v. IsAreaTable v.area) reservoirs
+each_table n [] e = tt
+each_table n (v ∷ reservoirs) e =
+    let both = or_none (option_and_then (area_finding (n + 1)) (table_fault v.area)) (areas_fault (n + 1) reservoirs) e in
+    (is_table v.area (area_none (n + 1) v.area both.0), each_table (n + 1) reservoirs both.1)
+  where
+    or_none : {X : Type 0} (a b : Option X) → option_or a b ≡ None → (a ≡ None) × (b ≡ None)
+    or_none None b e = (refl, e)
+    or_none (Some x) b e = cc
+
+-- where no reservoir is at fault, each has an area table
+pub areas_sound : (reservoirs : List Reservoir) (fault : Option Finding) → fault ≡ areas_fault 0 reservoirs →
+    IfNone fault (All (λ v. IsAreaTable v.area) reservoirs)
+areas_sound reservoirs None e = each_all (λ v. IsAreaTable v.area) reservoirs (each_table 0 reservoirs (sym e))
+areas_sound reservoirs (Some finding) e = tt
+
+-- a sound basin with a sound network, roll and area tables is valid
+pub valid_by : (b : Basin) → IsSoundBasin b → IsSoundNetwork b.nodes b.links → IsSoundRoll b.rights b.returns →
+    All (λ v. IsAreaTable v.area) b.reservoirs → IsValidBasin b
+valid_by b sound network roll tables = record {
+  format = sound.format;
+  year_start = sound.year_start;
+  run = sound.run;
+  few = sound.few;
+  nodes = sound.nodes;
+  links = sound.links;
+  reservoirs = λ k d h. (let v = sound.reservoirs k d h in record {
+    node = v.node;
+    inner = v.inner;
+    opening = v.opening;
+    points = v.points;
+    few_points = v.few_points;
+    table = tables k d h;
+    rate = v.rate;
+  });
+  rights = sound.rights;
+  ranked = sound.ranked;
+  returns = sound.returns;
+  names = sound.names;
+  network = network;
+  roll = roll;
+}
+
+-- a document that has no fault by itself has that of its basin
+pub behind_tree : (tree : Members) (basin : Basin) (fault : Option Finding) → None ≡ tree_fault tree → basin ≡ basin_of tree →
+    fault ≡ basin_fault basin → document_fault (Some tree) ≡ fault
+behind_tree tree basin fault e b f = ap (λ o. option_or o (basin_fault (basin_of tree))) (sym e) ∙ (ap basin_fault (sym b) ∙ sym f)
+
+-- the basin that is spelled is sound
+pub sound_of : {E : Type 0} (tree : Members) (r : Result Basin E) → tree_fault tree ≡ None → IfOk r (λ basin. basin ≡ basin_of tree) → IfOk r IsSoundBasin
+sound_of tree (Ok basin) e b = rw b (sound_basin tree (no_fault tree e))
+sound_of tree (Err e2) e b = tt

@@ -1,0 +1,149 @@
+-- Each number that is spelled lies in its range.
+use Rattle.std.proofs.Common.{◌≡◌, ℕ, suc, ◌+◌, ◌*◌, ◌-◌, ◌/◌, ◌^◌, ◌≤◌, List, length, map, Bool, true, false, ◌&&◌, Option, Some, None, option_and_then, unwrap_or, is_none, refl, ap, inl, inr, arith, All, nat_le, nat_lt, ℤ, pos, negsuc, codes, slice_range, if◌then◌else◌}
+use Rattle.std.proofs.lemmas.Bool.{cases_Bool}
+use Rattle.std.proofs.lemmas.Bool.Decides.{nat_tests}
+use Rattle.std.proofs.lemmas.List.FromFn.{length-map-range_with_len}
+use Rattle.std.specs.List.{range_with_len}
+use Rattle.std.specs.Option.{option_map_or}
+use Rattle.std.specs.Str.Parse.{digits_value}
+use Rattle.toml.specs.Data.{Data, Items, no_items, item, get_item, as_array, as_integer, as_str}
+use Rattle.toml_tree.specs.Items.{items_len}
+use Rattle.toml_tree.specs.Values.{is_between, ranged, whole_of, month_number, monthly_of}
+use Rattle.water_text.specs.Shapes.{has_shape}
+use Rattle.water_text.specs.Months.{IsMonth, is_month, read_month, month_after, month_within}
+use Rattle.water_text.specs.declared.month.Month.{Month}
+use Rattle.water_model.specs.Valid.{IsMonthly, IsValidInflow, IsValidCarry, IsValidPoint}
+use Rattle.water_model.specs.declared.types.Inflow.TheVariants.{Monthly, Gauged}
+use Rattle.basin_file.specs.Spelled.{inflow_of, carry_of, point_in, points_in, no_area, area_of, first_of}
+use Rattle.basin_file.proofs.Lists.{Each, each_all, each_any, each_map}
+
+between : (least most n : ℕ) → (nat_le least n && nat_le n most) ≡ true → (least ≤ n) × (n ≤ most)
+between least most n e = grind (arith, nat_tests)
+
+ranged_in : (least most default : ℕ) (z : ℤ) → least ≤ default → default ≤ most →
+    (least ≤ ranged least most default z) × (ranged least most default z ≤ most)
+ranged_in least most default (pos n) low high =
+    elim (cases_Bool (is_between least most (pos n))) [
+      | inl there ↦ rw there (between least most n there)
+      | inr other ↦ rw other (low, high)
+    ]
+ranged_in least most default (negsuc n) low high = (low, high)
+
+-- a number that is spelled lies in its range where the default does
+pub whole_in : (least most default : ℕ) (value : Option Data) → least ≤ default → default ≤ most →
+    (least ≤ whole_of least most default value) × (whole_of least most default value ≤ most)
+whole_in least most default value low high = by (option_and_then as_integer value)
+  where
+    by : (o : Option ℤ) → (least ≤ option_map_or (ranged least most default) o default) × (option_map_or (ranged least most default) o default ≤ most)
+    by None = (low, high)
+    by (Some z) = ranged_in least most default z low high
+
+month_number_most : (most : ℕ) (value : Option Data) (month : ℕ) → month_number most value month ≤ most
+month_number_most most value month = by (option_and_then as_array value)
+  where
+    by : (o : Option Items) → option_map_or (λ items. whole_of 0 most 0 (get_item month items)) o (whole_of 0 most 0 value) ≤ most
+    by None = (whole_in 0 most 0 value (omega arith) (omega arith)).1
+    by (Some items) = (whole_in 0 most 0 (get_item month items) (omega arith) (omega arith)).1
+
+pub monthly_in : (most : ℕ) (value : Option Data) → IsMonthly most (monthly_of most value)
+unfolding monthly_of
+monthly_in most value = record {
+  twelve = length-map-range_with_len (month_number most value) 0 12;
+  each = each_all (λ n. n ≤ most) (map (month_number most value) (range_with_len 0 12))
+      (each_map (λ n. n ≤ most) (month_number most value) (range_with_len 0 12)
+      (each_any (λ m. month_number most value m ≤ most) (range_with_len 0 12) (month_number_most most value)));
+}
+
+point_valid : (pair : Items) → IsValidPoint (point_in pair)
+point_valid pair = record {
+  storage = (whole_in 0 (16 * 10 ^ 9) 0 (get_item 0 pair) (omega arith) (omega arith)).1;
+  area = (whole_in 0 (10 ^ 9) 0 (get_item 1 pair) (omega arith) (omega arith)).1;
+}
+
+pub points_valid : (value : Option Data) → All IsValidPoint (area_of value)
+points_valid value = each_all IsValidPoint (area_of value) (by (option_and_then as_array value))
+  where
+    points : (items : Items) → Each IsValidPoint (points_in items)
+    points no_items = tt
+    points (item d ds) = (point_valid (unwrap_or (as_array d) no_items), points ds)
+
+    by : (o : Option Items) → Each IsValidPoint (option_map_or points_in o no_area)
+    by None = (record { storage = omega arith; area = omega arith }, tt)
+    by (Some items) = points items
+
+-- an area table has at most 64 points where its list has
+pub few_points : (value : Option Data) → option_map_or (λ points. nat_lt 64 (items_len points)) (option_and_then as_array value) false ≡ false →
+    length (area_of value) ≤ 64
+few_points value e = by (option_and_then as_array value) e
+  where
+    few : (n : ℕ) → nat_lt 64 n ≡ false → n ≤ 64
+    few n e = grind (arith, nat_tests)
+
+    len : (items : Items) → length (points_in items) ≡ items_len items
+    len no_items = refl
+    len (item d ds) = ap suc (len ds)
+
+    by : (a : Option Items) → option_map_or (λ points. nat_lt 64 (items_len points)) a false ≡ false → length (option_map_or points_in a no_area) ≤ 64
+    by None e = omega arith
+    by (Some items) e = rw (len items) (few (items_len items) e)
+
+pub inflow_valid : (value : Option Data) → IsValidInflow (inflow_of value)
+inflow_valid value = by (option_and_then as_str value)
+  where
+    by : (o : Option (List ℕ)) → IsValidInflow (option_map_or (λ text. Gauged) o (Monthly (monthly_of (10 ^ 9) value)))
+    by None = monthly_in (10 ^ 9) value
+    by (Some text) = tt
+
+pub carry_valid : (value : Option Data) → IsValidCarry (carry_of value)
+carry_valid None = tt
+carry_valid (Some d) = ((whole_in 0 (10 ^ 9) 0 (Some d) (omega arith) (omega arith)).1, refl)
+
+is_month_means : (m : Month) → is_month m ≡ true → IsMonth m
+is_month_means m e = let h = both m.year m.month e in record { year = h.0; month = h.1 }
+  where
+    both : (y m : ℕ) → ((nat_le 1800 y && nat_le y 2999) && (nat_le 1 m && nat_le m 12)) ≡ true → ((1800 ≤ y) × (y ≤ 2999)) × ((1 ≤ m) × (m ≤ 12))
+    both y m e = grind (arith, nat_tests)
+
+read_is_month : (text : List ℕ) (m : Month) → read_month text ≡ Some m → IsMonth m
+unfolding read_month
+read_is_month text m e = by (has_shape (codes "dddd-dd") text) e
+  where
+    spelled : Month
+    spelled = record { year = digits_value 10 (slice_range text 0 4); month = digits_value 10 (slice_range text 5 7) }
+
+    good : (b : Bool) → is_month spelled ≡ b → (if b then Some spelled else None) ≡ Some m → IsMonth m
+    good true is e = let same : spelled ≡ m = cc in rw (← same) (is_month_means spelled is)
+    good false is e = cc
+
+    by : (shape : Bool) → (if shape && is_month spelled then Some spelled else None) ≡ Some m → IsMonth m
+    by true e = good (is_month spelled) refl e
+    by false e = cc
+
+-- the first month of the run is one, and the run ends by 2999-12
+pub first_valid : (text : List ℕ) → IsMonth (first_of text)
+first_valid text = by (read_month text) refl
+  where
+    by : (o : Option Month) → read_month text ≡ o → IsMonth (unwrap_or o (record { year = 1800; month = 1 }))
+    by None e = record { year = (omega arith, omega arith); month = (omega arith, omega arith) }
+    by (Some m) e = read_is_month text m e
+
+pub run_ends : (text : List ℕ) (months : ℕ) → 1 ≤ months → months ≤ 1200 →
+    option_map_or (λ first. is_none (month_within first (months - 1))) (read_month text) false ≡ false →
+    12 * (first_of text).year + (first_of text).month + months ≤ 36001
+run_ends text months low high e = by (read_month text) refl e
+  where
+    ends : (y m : ℕ) → 1 ≤ m → y + (m - 1 + (months - 1)) / 12 ≤ 2999 → 12 * y + m + months ≤ 36001
+    ends y m first h = omega arith
+
+    within : (m : Month) (b : Bool) → nat_le (month_after m (months - 1)).year 2999 ≡ b → is_none (if b then Some (month_after m (months - 1)) else None) ≡ false →
+        (month_after m (months - 1)).year ≤ 2999
+    within m true t e = at_most (month_after m (months - 1)).year t
+      where
+        at_most : (n : ℕ) → nat_le n 2999 ≡ true → n ≤ 2999
+        at_most n t = grind (arith, nat_tests)
+    within m false t e = cc
+
+    by : (o : Option Month) → read_month text ≡ o → option_map_or (λ first. is_none (month_within first (months - 1))) o false ≡ false →
+        12 * (unwrap_or o (record { year = 1800; month = 1 })).year + (unwrap_or o (record { year = 1800; month = 1 })).month + months ≤ 36001
+    by None same e = omega arith
+    by (Some m) same e = ends m.year m.month (read_is_month text m same).month.0 (within m _ refl e)

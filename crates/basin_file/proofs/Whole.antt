@@ -1,0 +1,447 @@
+-- What a document without faults spells is sound.
+use Rattle.std.proofs.Common.{◌≡◌, ◌≢◌, ℕ, zero, suc, ◌+◌, ◌*◌, ◌-◌, ◌^◌, ◌<◌, ◌≤◌, ◌==◌, List, [], ◌∷◌, ◌++◌, length, map, take, Bool, true, false, ◌&&◌, Option, Some, None, option_map, option_and_then, unwrap_or, is_some, slice_get, count_by, refl, sym, ◌∙◌, arith, nat_lt, nat_le, codes, length-append, zero-add, append_assoc, subst, not, IsTrue}
+use Rattle.std.proofs.lemmas.Bool.Decides.{nat_tests}
+use Rattle.std.proofs.lemmas.List.{length-map, append-nil, map-append}
+use Rattle.std.proofs.lemmas.Option.{slice_get-map, slice_get_within}
+use Rattle.std.proofs.lemmas.Slice.Eq.{bytes_eq-Decides}
+use Rattle.std.specs.Option.{option_map_or}
+use Rattle.toml.specs.Data.{Data, Items, no_items, Members, get, get_item, get_member, as_array, as_bool, as_table}
+use Rattle.toml.specs.Data as toml
+use Rattle.toml_tree.specs.Items.{items_all, items_len}
+use Rattle.toml_tree.specs.Texts.{texts_behind, is_the_text, earlier_like}
+use Rattle.toml_tree.specs.Values.{text_at, text_or_empty, whole_at}
+use Rattle.water_text.specs.Names.{is_name}
+use Rattle.water_model.specs.Basin.{is_outlet, node_name, link_name, right_name, node_of_reservoir}
+use Rattle.water_model.specs.Lookups.{of_entry}
+use Rattle.water_model.specs.Valid.{IsValidNode, IsValidLink, IsValidRight, IsValidReturn, IsValidRun, HasFewEntries, HasOwnNames, AreRanked, is_diversion_kind, rank_of_kind, rows_of}
+use Rattle.water_model.specs.declared.types.ReturnRow.{ReturnRow}
+use Rattle.water_model.specs.declared.types.Right.{Right}
+use Rattle.water_model.specs.declared.types.RightKind.TheVariants as kind
+use Rattle.water_model.proofs.Balance.{entry_at}
+use Rattle.basin_tree.specs.declared.tables.BasinTable.{BasinTable}
+use Rattle.basin_tree.specs.declared.tables.BasinTable.TheVariants.{Top, Node, Link, Reservoir, Diversion, Instream, Zone, Return}
+use Rattle.basin_tree.specs.declared.tables.Kind.TheVariants.{Name, Refers, Tables}
+use Rattle.basin_tree.specs.declared.tables.Space.{Space}
+use Rattle.basin_tree.specs.declared.tables.Space.TheVariants.{Nodes, Links, Reservoirs, Diversions, Rights}
+use Rattle.basin_tree.specs.Entries.{items_at}
+use Rattle.basin_tree.specs.KeyFaults.{missing_key, wrong_kind, out_of_range, lacks_key, has_no_nodes, any_value}
+use Rattle.basin_tree.specs.Kinds.{has_kind}
+use Rattle.basin_tree.specs.NameFaults.{is_outlet_at, rights_before}
+use Rattle.basin_tree.specs.Places.{own_key, texts_in, texts_of, named_at}
+use Rattle.basin_tree.specs.Ranges.{in_range, ends_late}
+use Rattle.basin_tree.specs.Tables.{KeyRow, keys_of}
+use Rattle.basin_file.specs.Sound.{IsSoundReservoir, IsSoundBasin}
+use Rattle.basin_file.specs.Spelled.{name_at, rows_in, number_at, node_of, link_of, reservoir_of, right_of, diversion_of, instream_of, zone_of, return_of, rights_of, basin_of}
+use Rattle.basin_file.proofs.Lists.{Each, EachFrom, each_all, each_append, each_from, each_map, from_at, from_then}
+use Rattle.basin_file.proofs.Passed.{IsListed, HasNoFault, IsFine, all_tables, any_none, bool_not, bool_or, fine_rows, top_passes}
+use Rattle.basin_file.proofs.Refers.{name_there, refers_there, texts_behind-rows, texts_in-rows, length-rows_in, get_item-rows, number_within, number_is}
+use Rattle.basin_file.proofs.OwnNames.{own_texts, own_name, own_names, names_of_rows, same_text, table_own, rights_own}
+use Rattle.basin_file.proofs.Ranges.{whole_in, monthly_in, points_valid, few_points, inflow_valid, carry_valid, first_valid, run_ends}
+use Rattle.basin_file.proofs.Counts.{count_where-entries, few_pass, counts_within, few_by}
+
+-- at least one node is listed
+some_items : (o : Option Data) → not (is_some o) ≡ false → option_map_or (λ d. not (has_kind Tables d)) o false ≡ false →
+    option_map_or (λ items. items_len items == 0) (option_and_then as_array o) false ≡ false → 1 ≤ items_len (unwrap_or (option_and_then as_array o) no_items)
+some_items None p k n = cc
+some_items (Some d) p k n = by (as_array d) (bool_not _ k) n
+  where
+    positive : (n : ℕ) → (n == 0) ≡ false → 1 ≤ n
+    positive n e = grind (arith, nat_tests)
+
+    by : (a : Option Items) → option_map_or (items_all (λ x. is_some (as_table x))) a false ≡ true → option_map_or (λ items. items_len items == 0) a false ≡ false →
+        1 ≤ items_len (unwrap_or a no_items)
+    by None e n = cc
+    by (Some items) e n = positive (items_len items) n
+
+-- the right at a place among the diversions is one
+front_diversion : (f : Members → ℕ) (rows : List Members) (more others : List Right) (k : ℕ) → k < length rows →
+    of_entry (map (λ row. right_of (kind.Diversion (f row)) row) rows ++ more ++ others) k (λ r. is_diversion_kind r.kind) false ≡ true
+front_diversion f [] more others k h = absurd (omega arith)
+front_diversion f (row ∷ rows) more others zero h = refl
+front_diversion f (row ∷ rows) more others (suc k) h = front_diversion f rows more others k (omega arith)
+
+ranked_more : (g : Members → Right) (n : ℕ) → ((row : Members) → rank_of_kind (g row).kind ≡ n) → (rows : List Members) (least : ℕ) (others : List Right) → least ≤ n →
+    ((m : ℕ) → m ≤ n → AreRanked m others) → AreRanked least (map g rows ++ others)
+ranked_more g n same [] least others low rest = rest least low
+ranked_more g n same (row ∷ rows) least others low rest =
+    (rw (same row) low, ranked_more g n same rows (rank_of_kind (g row).kind) others (rw (same row) (omega arith)) rest)
+
+eq_means : (m n : ℕ) → (m == n) ≡ true → m ≡ n
+eq_means m n e = grind (arith, nat_tests)
+
+module _ (tree : Members) (none : HasNoFault tree) where
+  fine : (table : BasinTable) → IsListed table → EachFrom (IsFine tree table) 0 (rows_in tree table)
+  fine table is_listed = fine_rows tree none table is_listed
+
+  fine_at : (table : BasinTable) → IsListed table → (k : ℕ) (row : Members) → slice_get (rows_in tree table) k ≡ Some row → IsFine tree table k row
+  fine_at table is_listed k row there =
+      subst (λ (n : ℕ). IsFine tree table n row) (zero-add k) (from_at (IsFine tree table) 0 (rows_in tree table) k row there (fine table is_listed))
+
+  length_texts : (table : BasinTable) → IsListed table → length (texts_in tree table) ≡ length (rows_in tree table)
+  length_texts table is_listed = rw (texts_in-rows tree none table is_listed) (length-map (rows_in tree table) (text_at (own_key table)))
+
+  few_nodes : length (rows_in tree Node) ≤ 2000
+  few_nodes =
+      let h : 0 + 0 + length (rows_in tree Node) ≤ 2000 = few_by 2000 0 0 (rows_in tree Node)
+      (from_then (IsFine tree Node) (λ k row. nat_lt 2000 (0 + (k + 1)) ≡ false) 0 (rows_in tree Node) (λ k row fine. rw zero-add fine.few) (fine Node tt)) (omega arith) in
+      omega arith
+
+  few_links : length (rows_in tree Link) ≤ 4000
+  few_links =
+      let h : 0 + 0 + length (rows_in tree Link) ≤ 4000 = few_by 4000 0 0 (rows_in tree Link)
+      (from_then (IsFine tree Link) (λ k row. nat_lt 4000 (0 + (k + 1)) ≡ false) 0 (rows_in tree Link) (λ k row fine. rw zero-add fine.few) (fine Link tt)) (omega arith) in
+      omega arith
+
+  few_diversions : 0 + 0 + length (rows_in tree Diversion) ≤ 2000
+  few_diversions = few_by 2000 0 0 (rows_in tree Diversion)
+      (from_then (IsFine tree Diversion) (λ k row. nat_lt 2000 (0 + (k + 1)) ≡ false) 0 (rows_in tree Diversion) (λ k row fine. fine.few) (fine Diversion tt)) (omega arith)
+
+  few_instreams : rights_before tree Instream + 0 + length (rows_in tree Instream) ≤ 2000
+  few_instreams =
+      let count = length-rows_in tree none Diversion tt in
+      let low = few_diversions in
+      few_by 2000 (rights_before tree Instream) 0 (rows_in tree Instream)
+      (from_then (IsFine tree Instream) (λ k row. nat_lt 2000 (rights_before tree Instream + (k + 1)) ≡ false) 0 (rows_in tree Instream) (λ k row fine. fine.few) (fine Instream tt)) (omega arith)
+
+  few_zones : rights_before tree Zone + 0 + length (rows_in tree Zone) ≤ 2000
+  few_zones =
+      let count = length-rows_in tree none Instream tt in
+      let low = few_instreams in
+      few_by 2000 (rights_before tree Zone) 0 (rows_in tree Zone)
+      (from_then (IsFine tree Zone) (λ k row. nat_lt 2000 (rights_before tree Zone + (k + 1)) ≡ false) 0 (rows_in tree Zone) (λ k row fine. fine.few) (fine Zone tt)) (omega arith)
+
+  few_rights : length (rights_of tree) ≤ 2000
+  few_rights =
+      let diversions = length-rows_in tree none Diversion tt in
+      let instreams = length-rows_in tree none Instream tt in
+      let low = few_zones in
+      rw (
+        length-append,
+        length-append,
+        length-map (rows_in tree Diversion) (diversion_of tree),
+        length-map (rows_in tree Instream) (instream_of tree),
+        length-map (rows_in tree Zone) (zone_of tree),
+      ) (omega arith)
+
+  some_node : 1 ≤ length (rows_in tree Node)
+  some_node =
+      let missing = bool_or (lacks_key Top tree) (has_no_nodes Top tree) (top_passes (missing_key tree) tree none.missing) in
+      let node : KeyRow = record { name = codes "node"; is_required = true; kind = Tables } in
+      rw (length-rows_in tree none Node tt)
+      (some_items (get_member (codes "node") tree)
+      (any_none (λ key. key.is_required && not (is_some (get_member key.name tree))) (keys_of Top) 3 node refl missing.0)
+      (any_none (λ key. option_map_or (λ d. not (has_kind key.kind d)) (get_member key.name tree) false) (keys_of Top) 3 node refl (top_passes (wrong_kind tree) tree none.kinds))
+      missing.1)
+
+  -- a text that should name an entry has a number below so many
+  number : (table : BasinTable) (k : ℕ) (row : Members) (i : ℕ) (key : List ℕ) (space : Space) (n : ℕ) →
+      slice_get (keys_of table) i ≡ Some (record { name = key; is_required = true; kind = Refers space }) → IsFine tree table k row →
+      length (texts_of tree space) ≡ n → number_at tree space key row < n
+  number table k row i key space n at fine len =
+      let there = refers_there tree table k row i key space at fine in
+      let h = number_within tree space key row there.0 there.1 there.2 there.3 in
+      rw len at h
+
+  node_texts : length (texts_of tree Nodes) ≡ length (basin_of tree).nodes
+  node_texts = length_texts Node tt ∙ sym (length-map (rows_in tree Node) node_of)
+
+  link_texts : length (texts_of tree Links) ≡ length (basin_of tree).links
+  link_texts = length_texts Link tt ∙ sym (length-map (rows_in tree Link) (link_of tree))
+
+  reservoir_texts : length (texts_of tree Reservoirs) ≡ length (basin_of tree).reservoirs
+  reservoir_texts = length_texts Reservoir tt ∙ sym (length-map (rows_in tree Reservoir) (reservoir_of tree))
+
+  name_of_row : (table : BasinTable) (k : ℕ) (row : Members) → slice_get (keys_of table) 0 ≡ Some (record { name = codes "name"; is_required = true; kind = Name }) →
+      IsFine tree table k row → (text_at (codes "name") row ≡ Some (name_at (codes "name") row)) × IsTrue (is_name (name_at (codes "name") row))
+  name_of_row table k row at fine =
+      let there = name_there tree table k row 0 (codes "name") at fine in
+      (own_name row there.0 there.1 there.2, rw (there.1) (rw (there.2) there.2))
+
+  node_valid : (k : ℕ) (row : Members) → IsFine tree Node k row → IsValidNode (node_of row)
+  node_valid k row fine = record { name = (name_of_row Node k row refl fine).1; inflow = inflow_valid (get_member (codes "inflow") row) }
+
+  link_valid : (k : ℕ) (row : Members) → IsFine tree Link k row → IsValidLink (basin_of tree) (link_of tree row)
+  link_valid k row fine = record {
+    name = (name_of_row Link k row refl fine).1;
+    ends = record {
+      from = number Link k row 1 (codes "from") Nodes _ refl fine node_texts;
+      to = number Link k row 2 (codes "to") Nodes _ refl fine node_texts;
+    };
+    carry = carry_valid (get_member (codes "per_day") row);
+  }
+
+  -- the node that a place spells is an outlet where the document says so
+  outlet_at : (at : ℕ) → is_outlet (basin_of tree) at ≡ is_outlet_at tree at
+  outlet_at at = rw (slice_get-map node_of (rows_in tree Node) at, ← get_item-rows at (items_at tree Node) (all_tables tree none Node tt)) (by (get_item at (items_at tree Node)))
+    where
+      truth : (o : Option Bool) → unwrap_or o false ≡ option_map_or (λ outlet. outlet) o false
+      truth None = refl
+      truth (Some b) = refl
+
+      row_truth : (d : Data) → unwrap_or (option_map (λ n. n.outlet) (option_map node_of (as_table d))) false
+          ≡ option_map_or (λ outlet. outlet) (option_and_then as_bool (get (codes "outlet") d)) false
+      row_truth (toml.table row) = truth (option_and_then as_bool (get_member (codes "outlet") row))
+      row_truth _ = refl
+
+      by : (o : Option Data) → unwrap_or (option_map (λ n. n.outlet) (option_map node_of (option_and_then as_table o))) false
+          ≡ option_map_or (λ outlet. outlet) (option_and_then as_bool (option_and_then (get (codes "outlet")) o)) false
+      by None = refl
+      by (Some d) = row_truth d
+
+  few_node_texts : length (texts_of tree Nodes) ≤ 4000
+  few_node_texts = let same = length_texts Node tt in let few = few_nodes in omega arith
+
+  reservoir_sound : (k : ℕ) (row : Members) → IsFine tree Reservoir k row → IsSoundReservoir (basin_of tree) (reservoir_of tree row)
+  reservoir_sound k row fine = record {
+    node = number Reservoir k row 0 (codes "node") Nodes _ refl fine node_texts;
+    inner =
+        (let there = refers_there tree Reservoir k row 0 (codes "node") Nodes refl fine in
+        rw (number_is tree Nodes (codes "node") row there.0 there.1 there.2 there.3 few_node_texts)
+        (outlet_at there.1 ∙ (rw (there.2, there.3) at fine.inner)));
+    opening = (whole_in 0 (16 * 10 ^ 9) 0 (get_member (codes "opening") row) (omega arith) (omega arith)).1;
+    points = points_valid (get_member (codes "area") row);
+    few_points = few_points (get_member (codes "area") row) fine.few;
+    rate = monthly_in 10000 (get_member (codes "rate") row);
+  }
+
+  order_most : (row : Members) → whole_at (codes "order") 0 1000000 0 row ≤ 1000000
+  order_most row = (whole_in 0 1000000 0 (get_member (codes "order") row) (omega arith) (omega arith)).1
+
+  diversion_valid : (k : ℕ) (row : Members) → IsFine tree Diversion k row → IsValidRight (basin_of tree) (diversion_of tree row)
+  diversion_valid k row fine = record {
+    name = (name_of_row Diversion k row refl fine).1;
+    order = order_most row;
+    place = number Diversion k row 1 (codes "node") Nodes _ refl fine node_texts;
+    want = monthly_in (10 ^ 9) (get_member (codes "want") row);
+    no_volume = refl;
+    no_series = refl;
+  }
+
+  instream_valid : (k : ℕ) (row : Members) → IsFine tree Instream k row → IsValidRight (basin_of tree) (instream_of tree row)
+  instream_valid k row fine = record {
+    name = (name_of_row Instream k row refl fine).1;
+    order = order_most row;
+    place = number Instream k row 1 (codes "link") Links _ refl fine link_texts;
+    want = monthly_in (10 ^ 9) (get_member (codes "want") row);
+    no_volume = refl;
+    no_series = refl;
+  }
+
+  zone_valid : (k : ℕ) (row : Members) → IsFine tree Zone k row → IsValidRight (basin_of tree) (zone_of tree row)
+  zone_valid k row fine = record {
+    name = (name_of_row Zone k row refl fine).1;
+    order = order_most row;
+    place =
+        (let level = whole_in 1 16 1 (get_member (codes "level") row) (omega arith) (omega arith) in
+        (number Zone k row 1 (codes "reservoir") Reservoirs _ refl fine reservoir_texts, level.0, level.1));
+    want = monthly_in (10 ^ 9) (get_member (codes "want") row);
+    no_volume = refl;
+    no_series = refl;
+  }
+
+  own_diversion : (k : ℕ) (row : Members) → IsFine tree Return k row → number_at tree Diversions (codes "diversion") row < length (rows_in tree Diversion)
+  own_diversion k row fine = number Return k row 0 (codes "diversion") Diversions _ refl fine (length_texts Diversion tt)
+
+  return_valid : (k : ℕ) (row : Members) → IsFine tree Return k row → IsValidReturn (basin_of tree) (return_of tree row)
+  return_valid k row fine = record {
+    right =
+        (let own = own_diversion k row fine in
+        let same = length-map (rows_in tree Diversion) (diversion_of tree) in
+        rw (length-append, length-append) (omega arith));
+    diversion = front_diversion (λ d. number_at tree Nodes (codes "node") d) (rows_in tree Diversion) _ _ _ (own_diversion k row fine);
+    node = number Return k row 1 (codes "node") Nodes _ refl fine node_texts;
+    part = whole_in 1 10000 1 (get_member (codes "part") row) (omega arith) (omega arith);
+    lag = whole_in 1 120 1 (get_member (codes "lag") row) (omega arith) (omega arith);
+  }
+
+  few_diversion_texts : length (texts_of tree Diversions) ≤ 4000
+  few_diversion_texts = let same = length_texts Diversion tt in let few = few_diversions in omega arith
+
+  -- a row's diversion is the one that its text names
+  right_is : (k : ℕ) (row : Members) → IsFine tree Return k row →
+      (q : List ℕ) × (text_at (codes "diversion") row ≡ Some q) × (named_at tree Diversions q ≡ Some (return_of tree row).right)
+  right_is k row fine =
+      let there = refers_there tree Return k row 0 (codes "diversion") Diversions refl fine in
+      let same = number_is tree Diversions (codes "diversion") row there.0 there.1 there.2 there.3 few_diversion_texts in
+      (there.0, there.2, rw same there.3)
+
+  abbrev is_row_of : ℕ → ReturnRow → Bool
+  is_row_of right row = row.right == right
+
+  texts_of_rows : texts_behind (codes "diversion") (items_at tree Return) ≡ map (text_at (codes "diversion")) (rows_in tree Return)
+  texts_of_rows = texts_behind-rows (codes "diversion") (items_at tree Return) (all_tables tree none Return tt)
+
+  -- fewer than 8 rows stand before a row with its text
+  few_like : (k : ℕ) (row : Members) (q : List ℕ) → IsFine tree Return k row → slice_get (rows_in tree Return) k ≡ Some row →
+      text_at (codes "diversion") row ≡ Some q → count_by (is_the_text q) (take k (map (text_at (codes "diversion")) (rows_in tree Return))) < 8
+  few_like k row q fine there text = by (k + 1 - 1) (omega arith) fine.few
+    where
+      few : (n : ℕ) → nat_le 8 n ≡ false → n < 8
+      few n e = grind (arith, nat_tests)
+
+      texts : List (Option (List ℕ))
+      texts = map (text_at (codes "diversion")) (rows_in tree Return)
+
+      text_there : slice_get texts k ≡ Some (Some q)
+      text_there = rw (slice_get-map (text_at (codes "diversion")) (rows_in tree Return) k) (rw there (rw text refl))
+
+      by : (n : ℕ) → n ≡ k → nat_le 8 (earlier_like (texts_behind (codes "diversion") (items_at tree Return)) n) ≡ false → count_by (is_the_text q) (take k texts) < 8
+      by n same e = few (count_by (is_the_text q) (take k texts)) (rw (same, texts_of_rows, text_there) at e)
+
+  -- fewer than 8 rows of its diversion stand before a row
+  few_before : (right k : ℕ) (entry : ReturnRow) → slice_get (map (return_of tree) (rows_in tree Return)) k ≡ Some entry → is_row_of right entry ≡ true →
+      0 + count_by (is_row_of right) (take k (map (return_of tree) (rows_in tree Return))) < 8
+  few_before right k entry there is_row =
+      let len = length-map (rows_in tree Return) (return_of tree) in
+      let row = entry_at (rows_in tree Return) k (let h = slice_get_within (map (return_of tree) (rows_in tree Return)) k entry there in omega arith) in
+      let fine = fine_at Return tt k row.0 row.1 in
+      let text = right_is k row.0 fine in
+      let spelled : Some (return_of tree row.0) ≡ Some entry = (rw (slice_get-map (return_of tree) (rows_in tree Return) k, row.1) at there) in
+      let its : (return_of tree row.0).right ≡ right = eq_means (return_of tree row.0).right right (let same : return_of tree row.0 ≡ entry = cc in subst (λ (r : ReturnRow). is_row_of right r ≡ true) (sym same) is_row) in
+      let within : count_by (is_row_of right) (take k (map (return_of tree) (rows_in tree Return)))
+      ≤ count_by (is_the_text text.0) (take k (map (text_at (codes "diversion")) (rows_in tree Return))) =
+      counts_within (return_of tree) (text_at (codes "diversion")) (is_row_of right) (is_the_text text.0) k (rows_in tree Return)
+      (each_from (IsFine tree Return) _ 0 (rows_in tree Return) (λ j other fine_other. alike j other fine_other text.0 (rw its at text.2)) (module_fine)) in
+      let few = few_like k row.0 text.0 fine row.1 text.1 in
+      omega arith
+    where
+      module_fine : EachFrom (IsFine tree Return) 0 (rows_in tree Return)
+      module_fine = fine Return tt
+
+      alike : (j : ℕ) (other : Members) → IsFine tree Return j other → (q : List ℕ) → named_at tree Diversions q ≡ Some right →
+          is_row_of right (return_of tree other) ≡ true → is_the_text q (text_at (codes "diversion") other) ≡ true
+      alike j other fine_other q named is_row =
+          let text = right_is j other fine_other in
+          let its : (return_of tree other).right ≡ right = eq_means (return_of tree other).right right is_row in
+          let same : q ≡ text.0 = same_text tree Diversions q text.0 right named (rw its at text.2) in
+          rw text.1 ((bytes_eq-Decides q text.0).1 same)
+
+  few_rows : (right : ℕ) → rows_of (basin_of tree) right ≤ 8
+  few_rows right =
+      let h : 0 + count_by (is_row_of right) (map (return_of tree) (rows_in tree Return)) ≤ 8 =
+      few_pass (is_row_of right) 8 0 (map (return_of tree) (rows_in tree Return)) (few_before right) (omega arith) in
+      rw (count_where-entries (is_row_of right) (map (return_of tree) (rows_in tree Return))) (omega arith)
+
+  nodes_own : (i j : ℕ) → i < j → j < length (basin_of tree).nodes → node_name (basin_of tree) i ≢ node_name (basin_of tree) j
+  nodes_own =
+      own_names (λ n. n.name) (map node_of (rows_in tree Node)) (texts_of tree Nodes)
+      (names_of_rows node_of (λ n. n.name) (codes "name") (rows_in tree Node)
+      (each_from (IsFine tree Node) _ 0 (rows_in tree Node) (λ k row fine. (name_of_row Node k row refl fine).0) (fine Node tt))
+      ∙ sym (texts_in-rows tree none Node tt))
+      (table_own tree none Node tt Nodes refl)
+
+  links_own : (i j : ℕ) → i < j → j < length (basin_of tree).links → link_name (basin_of tree) i ≢ link_name (basin_of tree) j
+  links_own =
+      own_names (λ l. l.name) (map (link_of tree) (rows_in tree Link)) (texts_of tree Links)
+      (names_of_rows (link_of tree) (λ l. l.name) (codes "name") (rows_in tree Link)
+      (each_from (IsFine tree Link) _ 0 (rows_in tree Link) (λ k row fine. (name_of_row Link k row refl fine).0) (fine Link tt))
+      ∙ sym (texts_in-rows tree none Link tt))
+      (table_own tree none Link tt Links refl)
+
+  rights_named : map (λ r. Some r.name) (rights_of tree) ≡ texts_of tree Rights
+  rights_named =
+      rw (map-append (λ (r : Right). Some r.name), map-append (λ (r : Right). Some r.name)) (joined diversions instreams zones)
+    where
+      joined : {a b c d e f : List (Option (List ℕ))} → a ≡ d → b ≡ e → c ≡ f → a ++ b ++ c ≡ d ++ e ++ f
+      joined p q r = cc
+
+      diversions : map (λ r. Some r.name) (map (diversion_of tree) (rows_in tree Diversion)) ≡ texts_in tree Diversion
+      diversions = names_of_rows (diversion_of tree) (λ r. r.name) (codes "name") (rows_in tree Diversion)
+          (each_from (IsFine tree Diversion) _ 0 (rows_in tree Diversion) (λ k row fine. (name_of_row Diversion k row refl fine).0) (fine Diversion tt))
+          ∙ sym (texts_in-rows tree none Diversion tt)
+
+      instreams : map (λ r. Some r.name) (map (instream_of tree) (rows_in tree Instream)) ≡ texts_in tree Instream
+      instreams = names_of_rows (instream_of tree) (λ r. r.name) (codes "name") (rows_in tree Instream)
+          (each_from (IsFine tree Instream) _ 0 (rows_in tree Instream) (λ k row fine. (name_of_row Instream k row refl fine).0) (fine Instream tt))
+          ∙ sym (texts_in-rows tree none Instream tt)
+
+      zones : map (λ r. Some r.name) (map (zone_of tree) (rows_in tree Zone)) ≡ texts_in tree Zone
+      zones = names_of_rows (zone_of tree) (λ r. r.name) (codes "name") (rows_in tree Zone)
+          (each_from (IsFine tree Zone) _ 0 (rows_in tree Zone) (λ k row fine. (name_of_row Zone k row refl fine).0) (fine Zone tt))
+          ∙ sym (texts_in-rows tree none Zone tt)
+
+  own_rights : (i j : ℕ) → i < j → j < length (basin_of tree).rights → right_name (basin_of tree) i ≢ right_name (basin_of tree) j
+  own_rights = own_names (λ r. r.name) (rights_of tree) (texts_of tree Rights) rights_named (rights_own tree none)
+
+  -- a reservoir's node is the one that its text names
+  node_is : (k : ℕ) (row : Members) → IsFine tree Reservoir k row →
+      (q : List ℕ) × (text_at (codes "node") row ≡ Some q) × (named_at tree Nodes q ≡ Some (reservoir_of tree row).node)
+  node_is k row fine =
+      let there = refers_there tree Reservoir k row 0 (codes "node") Nodes refl fine in
+      let same = number_is tree Nodes (codes "node") row there.0 there.1 there.2 there.3 few_node_texts in
+      (there.0, there.2, rw same there.3)
+
+  reservoirs_own : (i j : ℕ) → i < j → j < length (basin_of tree).reservoirs → node_of_reservoir (basin_of tree) i ≢ node_of_reservoir (basin_of tree) j
+  reservoirs_own i j before within equal =
+      let len = length-map (rows_in tree Reservoir) (reservoir_of tree) in
+      let one = entry_at (rows_in tree Reservoir) i (omega arith) in
+      let other = entry_at (rows_in tree Reservoir) j (omega arith) in
+      let text = node_is i one.0 (fine_at Reservoir tt i one.0 one.1) in
+      let text2 = node_is j other.0 (fine_at Reservoir tt j other.0 other.1) in
+      let nodes : Some (reservoir_of tree one.0).node ≡ Some (reservoir_of tree other.0).node =
+      (rw (slice_get-map (reservoir_of tree) (rows_in tree Reservoir) i, slice_get-map (reservoir_of tree) (rows_in tree Reservoir) j, one.1, other.1) at equal) in
+      let same : text.0 ≡ text2.0 = same_text tree Nodes text.0 text2.0 (reservoir_of tree one.0).node text.2 (text2.2 ∙ sym nodes) in
+      own_texts (texts_of tree Reservoirs) (table_own tree none Reservoir tt Reservoirs refl) i j text.0 before
+      (place i one.0 text.0 one.1 text.1) (rw same (place j other.0 text2.0 other.1 text2.1))
+    where
+      place : (k : ℕ) (row : Members) (q : List ℕ) → slice_get (rows_in tree Reservoir) k ≡ Some row → text_at (codes "node") row ≡ Some q →
+          slice_get (texts_of tree Reservoirs) k ≡ Some (Some q)
+      place k row q there text =
+          rw (texts_in-rows tree none Reservoir tt) (rw (slice_get-map (text_at (codes "node")) (rows_in tree Reservoir) k) (rw there (rw text refl)))
+
+  each_valid : {X : Type 0} (P : X → Type 0) (table : BasinTable) → IsListed table → (spells : Members → X) →
+      ((k : ℕ) (row : Members) → IsFine tree table k row → P (spells row)) → Each P (map spells (rows_in tree table))
+  each_valid P table is_listed spells valid =
+      each_map P spells (rows_in tree table) (each_from (IsFine tree table) (λ row. P (spells row)) 0 (rows_in tree table) valid (fine table is_listed))
+
+  run_valid : IsValidRun (basin_of tree)
+  run_valid =
+      let months = whole_in 1 1200 1 (get_member (codes "months") tree) (omega arith) (omega arith) in
+      let late = bool_or (any_value (λ kind d. not (in_range kind d)) Top tree) (ends_late tree) (top_passes (out_of_range tree) tree none.ranges) in
+      record {
+        first = first_valid (text_or_empty (codes "first_month") tree);
+        months = months;
+        ends = run_ends (text_or_empty (codes "first_month") tree) (whole_at (codes "months") 1 1200 1 tree) months.0 months.1 late.1;
+      }
+
+  few_entries : HasFewEntries (basin_of tree)
+  few_entries = record {
+    some_node = rw (length-map (rows_in tree Node) node_of) some_node;
+    nodes = rw (length-map (rows_in tree Node) node_of) few_nodes;
+    links = rw (length-map (rows_in tree Link) (link_of tree)) few_links;
+    rights = few_rights;
+    rows = λ right h. few_rows right;
+  }
+
+  names_own : HasOwnNames (basin_of tree)
+  names_own = record { nodes = nodes_own; links = links_own; rights = own_rights; reservoirs = reservoirs_own }
+
+  rights_valid : Each (λ r. IsValidRight (basin_of tree) r) (rights_of tree)
+  rights_valid =
+      each_append (λ r. IsValidRight (basin_of tree) r) _ _
+      (each_append (λ r. IsValidRight (basin_of tree) r) _ _
+      (each_valid (λ r. IsValidRight (basin_of tree) r) Diversion tt (diversion_of tree) diversion_valid)
+      (each_valid (λ r. IsValidRight (basin_of tree) r) Instream tt (instream_of tree) instream_valid))
+      (each_valid (λ r. IsValidRight (basin_of tree) r) Zone tt (zone_of tree) zone_valid)
+
+  ranked : AreRanked 0 (rights_of tree)
+  ranked = rw append_assoc
+      (ranked_more (diversion_of tree) 0 (λ row. refl) (rows_in tree Diversion) 0 _ (omega arith)
+      (λ m low. ranked_more (instream_of tree) 1 (λ row. refl) (rows_in tree Instream) m _ (omega arith)
+      (λ m2 low2. rw (← append-nil (map (zone_of tree) (rows_in tree Zone)))
+      (ranked_more (zone_of tree) 2 (λ row. refl) (rows_in tree Zone) m2 [] (omega arith) (λ m3 low3. tt)))))
+
+  pub sound_basin : IsSoundBasin (basin_of tree)
+  sound_basin = record {
+    format = refl;
+    year_start = refl;
+    run = run_valid;
+    few = few_entries;
+    nodes = each_all _ _ (each_valid IsValidNode Node tt node_of node_valid);
+    links = each_all _ _ (each_valid (λ l. IsValidLink (basin_of tree) l) Link tt (link_of tree) link_valid);
+    reservoirs = each_all _ _ (each_valid (λ v. IsSoundReservoir (basin_of tree) v) Reservoir tt (reservoir_of tree) reservoir_sound);
+    rights = each_all _ _ rights_valid;
+    ranked = ranked;
+    returns = each_all _ _ (each_valid (λ row. IsValidReturn (basin_of tree) row) Return tt (return_of tree) return_valid);
+    names = names_own;
+  }

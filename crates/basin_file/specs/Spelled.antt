@@ -1,0 +1,160 @@
+-- The basin that a document spells. What can't be there in a document without a fault has a default.
+use Rattle.std.specs.Prelude.{ℕ, ◌^◌, ◌*◌, nat_lt, List, [], ◌∷◌, ◌++◌, map, replicate, Bool, false, Option, Some, None, if◌then◌else◌, option_and_then, option_to_list, unwrap_or, codes}
+use Rattle.std.specs.Option.{option_map_or}
+use Rattle.toml.specs.Data.{Data, Items, no_items, item, get_item, Members, get_member, as_bool, as_str, as_array, as_table}
+use Rattle.toml_tree.specs.Values.{whole_of, whole_at, monthly_of, text_or_empty}
+use Rattle.water_text.specs.Days.{read_day}
+use Rattle.water_text.specs.Months.{read_month}
+use Rattle.water_text.specs.Names.{is_name}
+use Rattle.water_text.specs.declared.day.Day.{Day}
+use Rattle.water_text.specs.declared.month.Month.{Month}
+use Rattle.water_model.specs.declared.types.AreaPoint.{AreaPoint}
+use Rattle.water_model.specs.declared.types.Basin.{Basin}
+use Rattle.water_model.specs.declared.types.Carry.{Carry}
+use Rattle.water_model.specs.declared.types.Carry.TheVariants.{River, Canal}
+use Rattle.water_model.specs.declared.types.Inflow.{Inflow}
+use Rattle.water_model.specs.declared.types.Inflow.TheVariants.{Monthly, Gauged}
+use Rattle.water_model.specs.declared.types.Link as link
+use Rattle.water_model.specs.declared.types.Node as node
+use Rattle.water_model.specs.declared.types.Reservoir as reservoir
+use Rattle.water_model.specs.declared.types.ReturnRow.{ReturnRow}
+use Rattle.water_model.specs.declared.types.Right.{Right}
+use Rattle.water_model.specs.declared.types.RightKind.{RightKind}
+use Rattle.water_model.specs.declared.types.RightKind.TheVariants as kind
+use Rattle.basin_tree.specs.Entries.{items_at}
+use Rattle.basin_tree.specs.Places.{named_at}
+use Rattle.basin_tree.specs.declared.tables.BasinTable.{BasinTable}
+use Rattle.basin_tree.specs.declared.tables.BasinTable.TheVariants.{Node, Link, Reservoir, Diversion, Instream, Zone, Return}
+use Rattle.basin_tree.specs.declared.tables.Space.{Space}
+use Rattle.basin_tree.specs.declared.tables.Space.TheVariants.{Nodes, Links, Reservoirs, Diversions}
+
+-- the tables in a list
+abbrev pub rows_behind : Items → List Members
+rows_behind no_items = []
+rows_behind (item d ds) = option_to_list (as_table d) ++ rows_behind ds
+
+-- the entries of a table, each by its keys and values
+abbrev pub rows_in : Members → BasinTable → List Members
+rows_in tree table = rows_behind (items_at tree table)
+
+abbrev pub name_of : List ℕ → List ℕ
+name_of text = if is_name text then text else codes "-"
+
+abbrev pub name_at : List ℕ → Members → List ℕ
+name_at key row = name_of (text_or_empty key row)
+
+abbrev pub truth_at : List ℕ → Members → Bool
+truth_at key row = unwrap_or (option_and_then as_bool (get_member key row)) false
+
+-- the place, from 0, of the entry that the text at a key names
+abbrev pub small : ℕ → ℕ
+small at = if nat_lt at (2 ^ 32) then at else 0
+
+abbrev pub number_at : Members → Space → List ℕ → Members → ℕ
+number_at tree space key row = option_map_or small (named_at tree space (text_or_empty key row)) 0
+
+-- the month of a text YYYY-MM
+abbrev pub first_of : List ℕ → Month
+first_of text = unwrap_or (read_month text) (record { year = 1800; month = 1 })
+
+-- the day of a text YYYY-MM-DD
+abbrev pub date_of : List ℕ → Day
+date_of text = unwrap_or (read_day text) (record { year = 0; month = 0; day = 0 })
+
+-- a text stands for a gauge
+abbrev pub inflow_of : Option Data → Inflow
+inflow_of value = option_map_or (λ text. Gauged) (option_and_then as_str value) (Monthly (monthly_of (10 ^ 9) value))
+
+-- a link that gives no amount a day is a river
+abbrev pub carry_of : Option Data → Carry
+carry_of value = option_map_or (λ d. Canal (whole_of 0 (10 ^ 9) 0 (Some d)) (replicate 12 false)) value River
+
+abbrev pub point_in : Items → AreaPoint
+point_in pair = record {
+  storage = whole_of 0 (16 * 10 ^ 9) 0 (get_item 0 pair);
+  area = whole_of 0 (10 ^ 9) 0 (get_item 1 pair);
+}
+
+abbrev pub points_in : Items → List AreaPoint
+points_in no_items = []
+points_in (item d ds) = point_in (unwrap_or (as_array d) no_items) ∷ points_in ds
+
+-- the area table of a reservoir that gives none
+abbrev pub no_area : List AreaPoint
+no_area = record { storage = 0; area = 0 } ∷ []
+
+abbrev pub area_of : Option Data → List AreaPoint
+area_of value = option_map_or points_in (option_and_then as_array value) no_area
+
+abbrev pub node_of : Members → node.Node
+node_of row = record {
+  name = name_at (codes "name") row;
+  outlet = truth_at (codes "outlet") row;
+  inflow = inflow_of (get_member (codes "inflow") row);
+}
+
+abbrev pub link_of : Members → Members → link.Link
+link_of tree row = record {
+  name = name_at (codes "name") row;
+  from = number_at tree Nodes (codes "from") row;
+  to = number_at tree Nodes (codes "to") row;
+  carry = carry_of (get_member (codes "per_day") row);
+}
+
+abbrev pub reservoir_of : Members → Members → reservoir.Reservoir
+reservoir_of tree row = record {
+  node = number_at tree Nodes (codes "node") row;
+  opening = whole_at (codes "opening") 0 (16 * 10 ^ 9) 0 row;
+  area = area_of (get_member (codes "area") row);
+  rate = monthly_of 10000 (get_member (codes "rate") row);
+}
+
+-- a right of format 1 has no volume, and its wants aren't in the series
+abbrev pub right_of : RightKind → Members → Right
+right_of kind row = record {
+  name = name_at (codes "name") row;
+  date = date_of (text_or_empty (codes "date") row);
+  order = whole_at (codes "order") 0 1000000 0 row;
+  kind = kind;
+  want = monthly_of (10 ^ 9) (get_member (codes "want") row);
+  volume = None;
+  series = false;
+}
+
+abbrev pub diversion_of : Members → Members → Right
+diversion_of tree row = right_of (kind.Diversion (number_at tree Nodes (codes "node") row)) row
+
+abbrev pub instream_of : Members → Members → Right
+instream_of tree row = right_of (kind.Instream (number_at tree Links (codes "link") row)) row
+
+abbrev pub zone_of : Members → Members → Right
+zone_of tree row =
+    right_of (kind.Zone (number_at tree Reservoirs (codes "reservoir") row) (whole_at (codes "level") 1 16 1 row)) row
+
+-- diversions are the first rights, so the place of a diversion is that of its right
+abbrev pub return_of : Members → Members → ReturnRow
+return_of tree row = record {
+  right = number_at tree Diversions (codes "diversion") row;
+  node = number_at tree Nodes (codes "node") row;
+  part = whole_at (codes "part") 1 10000 1 row;
+  lag = whole_at (codes "lag") 1 120 1 row;
+}
+
+abbrev pub rights_of : Members → List Right
+rights_of tree =
+    map (diversion_of tree) (rows_in tree Diversion) ++ map (instream_of tree) (rows_in tree Instream)
+    ++ map (zone_of tree) (rows_in tree Zone)
+
+-- the basin. In format 1 a water year begins with October
+abbrev pub basin_of : Members → Basin
+basin_of tree = record {
+  format = 1;
+  first = first_of (text_or_empty (codes "first_month") tree);
+  months = whole_at (codes "months") 1 1200 1 tree;
+  year_start = 10;
+  nodes = map node_of (rows_in tree Node);
+  links = map (link_of tree) (rows_in tree Link);
+  reservoirs = map (reservoir_of tree) (rows_in tree Reservoir);
+  rights = rights_of tree;
+  returns = map (return_of tree) (rows_in tree Return);
+}

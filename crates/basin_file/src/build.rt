@@ -1,0 +1,230 @@
+//! The basin of a document, entry by entry.
+ghost use Rattle.std.specs.Prelude.{◌≡◌, ◌++◌, [], map, unwrap_or, IfOk, OnOk, codes};
+ghost use Rattle.toml.specs.Data.{Members, get_member, as_array, no_items};
+ghost use Rattle.toml.specs.View.{view, table_view, items_view};
+ghost use Rattle.basin_tree.specs.Documents.{tree_of};
+ghost use Rattle.basin_file.specs.Spelled.{rows_behind, rows_in, point_in, points_in, no_area, area_of, node_of, link_of, reservoir_of, diversion_of, instream_of, zone_of, return_of, rights_of, basin_of};
+
+use crate::parts::{
+    diversion_of, first_of, instream_of, link_of, node_of, number_at, point_in, return_of, zone_of,
+};
+use basin_tree::document::Document;
+use basin_tree::tables::{BasinTable, Space};
+use std::alloc::{AllocError, Global};
+use toml::{Table, Value};
+use toml_tree::values::{items_of, member, monthly_at, text_or_empty, whole_at};
+use water_model::rows::Rows;
+use water_model::types::{AreaPoint, Basin, Link, Node, Reservoir, ReturnRow, Right};
+
+fn point_of(value: &Value) -> AreaPoint
+    ensures { result ≡ point_in (unwrap_or (as_array (view value.now)) no_items) }
+{
+    match items_of(value) {
+        Some(pair) => point_in(pair),
+        None => point_in(&[]),
+    }
+}
+
+fn points_in(alloc: Global, items: &[Value]) -> Result<Vec<AreaPoint>, AllocError>
+    ensures { IfOk result (λ points. points.items ≡ points_in (items_view items.now)) }
+{
+    let mut points = Vec::new(alloc);
+    for value in items {
+        points.push(point_of(value))?;
+    }
+    Ok(points)
+}
+
+fn no_area(alloc: Global) -> Result<Vec<AreaPoint>, AllocError>
+    ensures { IfOk result (λ points. points.items ≡ no_area) }
+{
+    let mut points = Vec::new(alloc);
+    points.push(AreaPoint {
+        storage: 0,
+        area: 0,
+    })?;
+    Ok(points)
+}
+
+fn area_at(alloc: Global, row: &Table) -> Result<Vec<AreaPoint>, AllocError>
+    ensures { IfOk result (λ points. points.items ≡ area_of (get_member (codes "area") (table_view row.now))) }
+{
+    match member(row, "area") {
+        Some(value) => match items_of(value) {
+            Some(items) => points_in(alloc, items),
+            None => no_area(alloc),
+        },
+        None => no_area(alloc),
+    }
+}
+
+/// The reservoir of an entry.
+fn reservoir_of(alloc: Global, document: &Document, row: &Table) -> Result<Reservoir, AllocError>
+    ensures { IfOk result (λ reservoir. reservoir ≡ reservoir_of (tree_of document.now) (table_view row.now)) }
+{
+    let area = area_at(alloc, row)?;
+    Ok(Reservoir {
+        node: number_at(document, Space::Nodes, row, "node"),
+        opening: whole_at(row, "opening", 0, 16_000_000_000, 0),
+        area: Rows::from_vec(area),
+        rate: monthly_at(row, "rate", 10_000),
+    })
+}
+
+/// Reads one entry of a table.
+trait EntryReader<E> {
+    ghost spells: { Members → Members → E };
+
+    fn read(alloc: Global, document: &Document, row: &Table) -> Result<E, AllocError>
+        ensures { IfOk result (λ entry. entry ≡ spells (tree_of document.now) (table_view row.now)) };
+}
+
+/// Adds the entries among some values.
+fn add_entries<E: Drop, R: EntryReader<E>>(
+    into: &mut Vec<E>,
+    alloc: Global,
+    document: &Document,
+    values: &[Value],
+) -> Result<(), AllocError>
+    ensures { OnOk result
+        (into.new.items ≡ into.old.items ++ map (R.spells (tree_of document.now)) (rows_behind (items_view values.now))) }
+{
+    for value in values {
+        if let Some(row) = value.as_table() {
+            into.push(R::read(alloc, document, row)?)?;
+        }
+    }
+    Ok(())
+}
+
+/// Adds the entries of a table.
+fn add_table<E: Drop, R: EntryReader<E>>(
+    into: &mut Vec<E>,
+    alloc: Global,
+    document: &Document,
+    table: BasinTable,
+) -> Result<(), AllocError>
+    ensures { OnOk result
+        (into.new.items ≡ into.old.items ++ map (R.spells (tree_of document.now)) (rows_in (tree_of document.now) table)) }
+{
+    add_entries::<E, R>(into, alloc, document, document.items_at(table))
+}
+
+fn table_of<E: Drop, R: EntryReader<E>>(
+    alloc: Global,
+    document: &Document,
+    table: BasinTable,
+) -> Result<Rows<E>, AllocError>
+    ensures { IfOk result (λ rows. rows ≡ map (R.spells (tree_of document.now)) (rows_in (tree_of document.now) table)) }
+{
+    let mut entries = Vec::new(alloc);
+    add_table::<E, R>(&mut entries, alloc, document, table)?;
+    Ok(Rows::from_vec(entries))
+}
+
+struct NodeReader;
+
+impl EntryReader<Node> for NodeReader {
+    ghost spells = { λ _. node_of };
+
+    fn read(_alloc: Global, _document: &Document, row: &Table) -> Result<Node, AllocError> {
+        Ok(node_of(row))
+    }
+}
+
+struct LinkReader;
+
+impl EntryReader<Link> for LinkReader {
+    ghost spells = { link_of };
+
+    fn read(_alloc: Global, document: &Document, row: &Table) -> Result<Link, AllocError> {
+        Ok(link_of(document, row))
+    }
+}
+
+struct ReservoirReader;
+
+impl EntryReader<Reservoir> for ReservoirReader {
+    ghost spells = { reservoir_of };
+
+    fn read(alloc: Global, document: &Document, row: &Table) -> Result<Reservoir, AllocError> {
+        reservoir_of(alloc, document, row)
+    }
+}
+
+struct DiversionReader;
+
+impl EntryReader<Right> for DiversionReader {
+    ghost spells = { diversion_of };
+
+    fn read(_alloc: Global, document: &Document, row: &Table) -> Result<Right, AllocError> {
+        Ok(diversion_of(document, row))
+    }
+}
+
+struct InstreamReader;
+
+impl EntryReader<Right> for InstreamReader {
+    ghost spells = { instream_of };
+
+    fn read(_alloc: Global, document: &Document, row: &Table) -> Result<Right, AllocError> {
+        Ok(instream_of(document, row))
+    }
+}
+
+struct ZoneReader;
+
+impl EntryReader<Right> for ZoneReader {
+    ghost spells = { zone_of };
+
+    fn read(_alloc: Global, document: &Document, row: &Table) -> Result<Right, AllocError> {
+        Ok(zone_of(document, row))
+    }
+}
+
+struct ReturnReader;
+
+impl EntryReader<ReturnRow> for ReturnReader {
+    ghost spells = { return_of };
+
+    fn read(_alloc: Global, document: &Document, row: &Table) -> Result<ReturnRow, AllocError> {
+        Ok(return_of(document, row))
+    }
+}
+
+fn rights_of(alloc: Global, document: &Document) -> Result<Rows<Right>, AllocError>
+    ensures { IfOk result (λ rights. rights ≡ rights_of (tree_of document.now)) }
+{
+    let mut rights = Vec::new(alloc);
+    add_table::<Right, DiversionReader>(&mut rights, alloc, document, BasinTable::Diversion)?;
+    add_table::<Right, InstreamReader>(&mut rights, alloc, document, BasinTable::Instream)?;
+    add_table::<Right, ZoneReader>(&mut rights, alloc, document, BasinTable::Zone)?;
+    Ok(Rows::from_vec(rights))
+}
+
+/// The basin that a document spells. What can't be there in a document without a fault has a default.
+pub fn basin_of(alloc: Global, document: &Document) -> Result<Basin, AllocError>
+    ensures { IfOk result (λ basin. basin ≡ basin_of (tree_of document.now)) }
+{
+    let nodes = table_of::<Node, NodeReader>(alloc, document, BasinTable::Node)?;
+    let links = table_of::<Link, LinkReader>(alloc, document, BasinTable::Link)?;
+    let reservoirs = table_of::<Reservoir, ReservoirReader>(
+        alloc,
+        document,
+        BasinTable::Reservoir,
+    )?;
+    let rights = rights_of(alloc, document)?;
+    let returns = table_of::<ReturnRow, ReturnReader>(alloc, document, BasinTable::Return)?;
+    let top = document.tree;
+    Ok(Basin {
+        format: 1,
+        first: first_of(text_or_empty(top, "first_month").as_bytes()),
+        months: whole_at(top, "months", 1, 1_200, 1) as u32,
+        year_start: 10,
+        nodes,
+        links,
+        reservoirs,
+        rights,
+        returns,
+    })
+}

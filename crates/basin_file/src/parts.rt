@@ -1,0 +1,183 @@
+//! The parts of a basin, each from the keys and values of its entry.
+ghost use Rattle.std.specs.Prelude.{◌≡◌, ◌<◌, ◌^◌, codes};
+ghost use Rattle.toml.specs.Data.{get_member};
+ghost use Rattle.toml.specs.View.{table_view, items_view};
+ghost use Rattle.basin_tree.specs.Documents.{tree_of};
+ghost use Rattle.basin_file.specs.Spelled.{name_of, name_at, truth_at, inflow_of, carry_of, number_at, point_in, date_of, first_of, node_of, link_of, right_of, diversion_of, instream_of, zone_of, return_of};
+
+use basin_tree::document::Document;
+use basin_tree::tables::Space;
+use toml::{Table, Value};
+use toml_tree::values::{item_at, member, monthly_at, text_or_empty, whole_at, whole_of};
+use water_model::types::{AreaPoint, Carry, Inflow, Link, Node, ReturnRow, Right, RightKind};
+use water_text::day::Day;
+use water_text::month::Month;
+use water_text::name::Name;
+
+fn name_of(text: &[u8]) -> Name
+    ensures { result ≡ name_of text.now }
+{
+    match Name::read(text) {
+        Some(name) => name,
+        None => Name::dash(),
+    }
+}
+
+fn name_at(row: &Table, key: &str) -> Name
+    ensures { result ≡ name_at key.now (table_view row.now) }
+{
+    name_of(text_or_empty(row, key).as_bytes())
+}
+
+fn truth_at(row: &Table, key: &str) -> bool
+    ensures { result ≡ truth_at key.now (table_view row.now) }
+{
+    match member(row, key) {
+        Some(value) => value.as_bool().unwrap_or(false),
+        None => false,
+    }
+}
+
+fn inflow_at(row: &Table) -> Inflow
+    ensures { result ≡ inflow_of (get_member (codes "inflow") (table_view row.now)) }
+{
+    match member(row, "inflow") {
+        Some(value) => match value.as_str() {
+            Some(_) => Inflow::Gauged,
+            None => Inflow::Monthly(monthly_at(row, "inflow", 1_000_000_000)),
+        },
+        None => Inflow::Monthly(monthly_at(row, "inflow", 1_000_000_000)),
+    }
+}
+
+fn carry_at(row: &Table) -> Carry
+    ensures { result ≡ carry_of (get_member (codes "per_day") (table_view row.now)) }
+{
+    match member(row, "per_day") {
+        Some(value) => Carry::Canal {
+            per_day: whole_of(Some(value), 0, 1_000_000_000, 0),
+            shut: [false; 12],
+        },
+        None => Carry::River,
+    }
+}
+
+/// The place, from 0, of the entry that the text at a key names.
+pub fn number_at(document: &Document, space: Space, row: &Table, key: &str) -> u32
+    ensures { result ≡ number_at (tree_of document.now) space key.now (table_view row.now) }
+{
+    match document.named_at(space, text_or_empty(row, key)) {
+        Some(at) => { if at < 4_294_967_296 { at as u32 } else { 0 } }
+        None => 0,
+    }
+}
+
+/// The point of a pair of a storage and an area.
+pub fn point_in(pair: &[Value]) -> AreaPoint
+    ensures { result ≡ point_in (items_view pair.now) }
+{
+    AreaPoint {
+        storage: whole_of(item_at(pair, 0), 0, 16_000_000_000, 0),
+        area: whole_of(item_at(pair, 1), 0, 1_000_000_000, 0),
+    }
+}
+
+fn date_of(text: &[u8]) -> Day
+    ensures { result ≡ date_of text.now }
+{
+    match Day::read(text) {
+        Some(day) => day,
+        None => Day {
+            year: 0,
+            month: 0,
+            day: 0,
+        },
+    }
+}
+
+/// The first month of the run.
+pub fn first_of(text: &[u8]) -> Month
+    ensures { result ≡ first_of text.now }
+{
+    match Month::read(text) {
+        Some(month) => month,
+        None => Month {
+            year: 1800,
+            month: 1,
+        },
+    }
+}
+
+/// The node of an entry.
+pub fn node_of(row: &Table) -> Node
+    ensures { result ≡ node_of (table_view row.now) }
+{
+    Node {
+        name: name_at(row, "name"),
+        outlet: truth_at(row, "outlet"),
+        inflow: inflow_at(row),
+    }
+}
+
+/// The link of an entry.
+pub fn link_of(document: &Document, row: &Table) -> Link
+    ensures { result ≡ link_of (tree_of document.now) (table_view row.now) }
+{
+    Link {
+        name: name_at(row, "name"),
+        from: number_at(document, Space::Nodes, row, "from"),
+        to: number_at(document, Space::Nodes, row, "to"),
+        carry: carry_at(row),
+    }
+}
+
+fn right_of(kind: RightKind, row: &Table) -> Right
+    ensures { result ≡ right_of kind (table_view row.now) }
+{
+    Right {
+        name: name_at(row, "name"),
+        date: date_of(text_or_empty(row, "date").as_bytes()),
+        order: whole_at(row, "order", 0, 1_000_000, 0) as u32,
+        kind,
+        want: monthly_at(row, "want", 1_000_000_000),
+        volume: None,
+        series: false,
+    }
+}
+
+/// The right of a diversion's entry.
+pub fn diversion_of(document: &Document, row: &Table) -> Right
+    ensures { result ≡ diversion_of (tree_of document.now) (table_view row.now) }
+{
+    let node = number_at(document, Space::Nodes, row, "node");
+    right_of(RightKind::Diversion { node }, row)
+}
+
+/// The right of an instream right's entry.
+pub fn instream_of(document: &Document, row: &Table) -> Right
+    ensures { result ≡ instream_of (tree_of document.now) (table_view row.now) }
+{
+    let link = number_at(document, Space::Links, row, "link");
+    right_of(RightKind::Instream { link }, row)
+}
+
+/// The right of a zone's entry.
+pub fn zone_of(document: &Document, row: &Table) -> Right
+    ensures { result ≡ zone_of (tree_of document.now) (table_view row.now) }
+{
+    let reservoir = number_at(document, Space::Reservoirs, row, "reservoir");
+    let level = whole_at(row, "level", 1, 16, 1) as u8;
+    right_of(RightKind::Zone { reservoir, level }, row)
+}
+
+/// The row of a return's entry.
+pub fn return_of(document: &Document, row: &Table) -> ReturnRow
+    ensures { result ≡ return_of (tree_of document.now) (table_view row.now) }
+{
+    ReturnRow {
+        right: number_at(document, Space::Diversions, row, "diversion"),
+        node: number_at(document, Space::Nodes, row, "node"),
+        part: whole_at(row, "part", 1, 10_000, 1) as u32,
+        lag: whole_at(row, "lag", 1, 120, 1) as u32,
+    }
+}
