@@ -4,7 +4,7 @@ use Rattle.std.specs.Prelude.{slice_index, All, unwrap_or, option_map}
 use Rattle.std.proofs.lemmas.Bool.{cases_lt}
 use Rattle.std.proofs.lemmas.List.{get_or_past}
 use Rattle.place_sums.specs.Sums.{total}
-use Rattle.river_net.specs.Running.{total_of}
+use Rattle.river_net.specs.Net.{total_of}
 use Rattle.water_model.specs.Hydrology.{inflow_at, inflow_of_kind, in_year}
 use Rattle.water_model.specs.Valid.{IsValidBasin, IsValidNode, IsValidInflow, IsSeriesOf}
 use Rattle.water_model.specs.declared.types.Basin.{Basin}

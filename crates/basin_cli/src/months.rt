@@ -1,6 +1,6 @@
 //! The months of a basin of nodes and links.
 ghost use Rattle.std.specs.Prelude.{◌≡◌, ◌<◌, ◌^◌, [], length, IfOk};
-ghost use Rattle.river_net.specs.Running.{total_of};
+ghost use Rattle.river_net.specs.Net.{total_of};
 ghost use Rattle.water_model.specs.RunOfRiver.{IsRunOfRiver};
 ghost use Rattle.water_text.specs.Months.{IsMonth};
 ghost use Rattle.water_model.specs.Hydrology.{run_month};
