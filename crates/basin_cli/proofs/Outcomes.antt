@@ -1,5 +1,5 @@
 -- From the cause of an ending: where nothing is refused and nothing fails, the call is done.
-use Rattle.std.proofs.Common.{◌≡◌, ◌⊎◌, inl, inr, refl, ℕ, zero, ◌<◌, ◌≤◌, List, [], length, take, Option, Some, None, arith, append-nil, sym, ◌∙◌}
+use Rattle.std.proofs.Common.{◌≡◌, ◌⊎◌, inl, inr, refl, ℕ, List, [], Option, Some, None, arith, append-nil, sym, ◌∙◌}
 use Rattle.std.specs.Prelude.{IfSome, IsTrue, Bool, true, false}
 use Rattle.std.specs.Io.KnownBytes.{Appends}
 use Rattle.basin_tree.specs.declared.walk.Finding.{Finding}

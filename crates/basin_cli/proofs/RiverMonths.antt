@@ -1,14 +1,10 @@
 -- The record of a month in a basin of nodes and links alone follows the records before it.
-use Rattle.std.proofs.Common.{◌≡◌, ℕ, zero, suc, ◌+◌, ◌-◌, ◌*◌, ◌^◌, ◌<◌, ◌≤◌, Bool, true, false, refl, sym, ap, ◌∙◌, subst, arith, List, [], ◌∷◌, length, map, replicate}
-
+use Rattle.std.proofs.Common.{◌≡◌, ℕ, zero, suc, ◌+◌, ◌-◌, ◌<◌, refl, sym, ap, ◌∙◌, arith, List, [], ◌∷◌, length, map}
 use Rattle.std.proofs.lemmas.List.{get_or-replicate, length-replicate}
-use Rattle.std.specs.Prelude.{slice_index, slice_get, Option, Some, None, All, if◌then◌else◌}
+use Rattle.std.specs.Prelude.{slice_index, slice_get, Option, Some, None}
 use Rattle.place_sums.specs.Sums.{total}
-use Rattle.water_model.specs.Lookups.{of_entry}
 use Rattle.water_model.specs.Hydrology.{run_month, inflow_at, returned_at, stored_at}
-use Rattle.water_model.specs.History.{IsPartialHistory, Follows, FitsBasin, opening_after}
-use Rattle.water_model.specs.Plans.{IsPlan}
-use Rattle.water_model.specs.Valid.{IsValidBasin}
+use Rattle.water_model.specs.History.{IsPartialHistory, Follows, opening_after}
 use Rattle.basin_cli.specs.Rivers.{IsRiverBasin, IsRiverMonth}
 use Rattle.water_model.specs.declared.types.Basin.{Basin}
 use Rattle.water_model.specs.declared.types.Inflows.{Inflows}

@@ -1,7 +1,7 @@
 -- A basin in which nothing is left unbuilt has nodes and links alone, and no gauges.
-use Rattle.std.proofs.Common.{◌≡◌, ℕ, zero, suc, ◌<◌, Bool, true, false, refl, sym, ap, ◌∙◌, ◌≤◌, ◌^◌, subst, arith, List, [], ◌∷◌, length, filter, Option, Some, None}
+use Rattle.std.proofs.Common.{◌≡◌, ℕ, Bool, true, false, refl, sym, ◌≤◌, ◌^◌, subst, arith, List, [], ◌∷◌, length, filter, Option, Some, None}
 use Rattle.std.specs.Prelude.{◌||◌, nat_lt, position, option_map, slice_get, unwrap_or}
-use Rattle.std.specs.List.{list_any, position_or_len}
+use Rattle.std.specs.List.{position_or_len}
 use Rattle.std.specs.Option.{option_or}
 use Rattle.std.proofs.lemmas.Bool.Decides.{nat_tests}
 use Rattle.std.proofs.lemmas.Grind.{common_steps}
@@ -9,14 +9,13 @@ use Rattle.std.proofs.lemmas.List.Sums.{fails_before_first}
 use Rattle.std.proofs.lemmas.List.Elements.{All-nil}
 use Rattle.std.proofs.lemmas.Option.{get_or_from_slice_get, slice_get_within}
 use Rattle.basin_tree.specs.declared.tables.BasinTable.{BasinTable}
-use Rattle.basin_tree.specs.declared.tables.BasinTable.TheVariants.{Node, Reservoir, Diversion, Instream, Zone, Return}
+use Rattle.basin_tree.specs.declared.tables.BasinTable.TheVariants.{Reservoir, Diversion, Instream, Zone, Return}
 use Rattle.basin_tree.specs.declared.walk.Finding.{Finding}
 use Rattle.basin_file.specs.BasinFaults.{is_in_table}
 use Rattle.water_model.specs.Lookups.{of_entry}
 use Rattle.water_model.specs.Places.{numbers_from, places_of}
-use Rattle.water_model.specs.Valid.{IsSeriesOf, is_gauged, is_gauged_kind, gauged_nodes, rights_in_series}
+use Rattle.water_model.specs.Valid.{IsSeriesOf, is_gauged, is_gauged_kind}
 use Rattle.water_model.specs.declared.types.Basin.{Basin}
-use Rattle.water_model.specs.declared.types.Node as node
 use Rattle.water_model.specs.declared.types.Right.{Right}
 use Rattle.water_model.specs.declared.types.RightKind.{RightKind}
 use Rattle.water_model.specs.declared.types.RightKind.TheVariants as kind

@@ -1,6 +1,5 @@
 -- The months of a history have lines.
-use Rattle.std.proofs.Common.{◌≡◌, ℕ, arith, List, length, take, Some, length-take-le}
-use Rattle.std.specs.Prelude.{slice_get}
+use Rattle.std.proofs.Common.{arith, List, take, length-take-le}
 use Rattle.std.proofs.lemmas.Option.{slice_get_within}
 use Rattle.water_model.specs.History.{IsHistory}
 use Rattle.water_model.specs.Valid.{IsValidBasin}
@@ -15,4 +14,3 @@ history_writable b series records valid history i m at =
     let within = slice_get_within records i m at in
     FitsText-follows b series (take i records) m valid (history.partial.each i m at)
     (omega (arith, within, history.whole, length-take-le i records (omega arith)))
-

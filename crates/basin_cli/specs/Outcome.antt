@@ -1,5 +1,5 @@
 -- What each status of a call means: its cause, and what it leaves on out and err.
-use Rattle.std.specs.Prelude.{◌≡◌, ℕ, ◌<◌, ◌≤◌, List, [], length, take, Option, Some, None, ⊤, IfSome, IsSome, ◌⊎◌}
+use Rattle.std.specs.Prelude.{◌≡◌, ℕ, ◌<◌, ◌≤◌, List, [], length, take, Option, Some, None, ⊤, IfSome, ◌⊎◌}
 use Rattle.std.specs.Io.KnownBytes.{Appends}
 use Rattle.water_edge.specs.Edge.{Rose}
 use Rattle.basin_tree.specs.declared.walk.Finding.{Finding}
@@ -10,12 +10,12 @@ use Rattle.water_model.specs.declared.types.Basin.{Basin}
 use Rattle.water_model.specs.declared.types.Inflows.{Inflows}
 use Rattle.water_model.specs.declared.types.MonthRecord.{MonthRecord}
 use Rattle.basin_cli.specs.declared.status.Status.{Status}
-use Rattle.basin_cli.specs.declared.status.Status.TheVariants.{Done, No, Usage, BasinRefused, SeriesRefused, ReadFault, WriteFault, OutOfMemory, InputTooLong}
+use Rattle.basin_cli.specs.declared.status.Status.TheVariants.{Done, No, WriteFault, OutOfMemory}
 use Rattle.basin_cli.specs.declared.ending.Ending.{Ending}
 use Rattle.basin_cli.specs.declared.ending.Ending.TheVariants as ending
 use Rattle.basin_cli.specs.Command.{Command, run}
 use Rattle.basin_cli.specs.Refusal.{basin_refusal}
-use Rattle.basin_cli.specs.Ending.{status_of, line_of, refusal_line}
+use Rattle.basin_cli.specs.Ending.{status_of, line_of}
 
 -- the most bytes of a file
 abbrev pub file_limit : ℕ

@@ -6,8 +6,6 @@ mod ending;
 mod months;
 mod refusal;
 mod status;
-#[cfg(test)]
-mod tests;
 mod top;
 mod writing;
 

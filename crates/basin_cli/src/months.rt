@@ -50,12 +50,7 @@ fn supplies(
 }
 
 /// The run of the river with these supplies.
-fn river_plan(
-    alloc: Global,
-    basin: &Basin,
-    net: &Net,
-    supply: &[u64],
-) -> Result<Plan, AllocError>
+fn river_plan(alloc: Global, basin: &Basin, net: &Net, supply: &[u64]) -> Result<Plan, AllocError>
     requires basin { IsValidBasin basin.now }
     requires rights { basin.now.rights ≡ [] }
     requires net { IsNet basin.now.nodes basin.now.links net.now }

@@ -80,11 +80,7 @@ fn unbuilt(basin: &Basin) -> Option<Finding>
         return Some(found(BasinFault::NotBuilt, BasinTable::Return, 1));
     }
     match gauged_node(basin) {
-        Some(node) => Some(found(
-            BasinFault::NotBuilt,
-            BasinTable::Node,
-            node as u64 + 1,
-        )),
+        Some(node) => Some(found(BasinFault::NotBuilt, BasinTable::Node, node as u64 + 1)),
         None => None,
     }
 }
@@ -101,11 +97,13 @@ pub fn read_accepted(alloc: Global, text: &[u8]) -> Result<Basin, Unaccepted>
     let basin = match read_basin(alloc, text) {
         Ok(basin) => basin,
         Err(BasinRefused::OutOfMemory) => return Err(Unaccepted::OutOfMemory),
-        Err(BasinRefused::Refused {
-            fault,
-            table,
-            entry,
-        }) => {
+        Err(
+            BasinRefused::Refused {
+                fault,
+                table,
+                entry,
+            },
+        ) => {
             return Err(Unaccepted::Refused(Finding {
                 fault,
                 table,

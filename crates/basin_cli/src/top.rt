@@ -14,8 +14,8 @@ use crate::months::records_of;
 use crate::refusal::{Unaccepted, read_accepted};
 use crate::status::Status;
 use crate::writing::put_text;
-use river_net::Net;
 use rights_roll::roll::Roll;
+use river_net::Net;
 use std::alloc::{AllocError, Global};
 use std::sync::ledger::Ledger;
 use steps::Steps;
@@ -74,12 +74,7 @@ fn run_basin<K: Sink>(alloc: Global, basin: &Basin, out: &mut K) -> Ending
 }
 
 /// Does what the words say, and leaves err alone.
-fn decide<S: Shelf, K: Sink>(
-    alloc: Global,
-    words: &[String],
-    shelf: &mut S,
-    out: &mut K,
-) -> Ending
+fn decide<S: Shelf, K: Sink>(alloc: Global, words: &[String], shelf: &mut S, out: &mut K) -> Ending
     requires { ServesFiles (S.serves shelf.old) (command_of (map string_bytes words.now)) }
     ensures cause { EndingHasCause (command_of (map string_bytes words.now)) result (S.told shelf.old)
         (Rose (S.faults shelf.old) (S.faults shelf.new)) (Rose (K.faults out.old) (K.faults out.new)) }

@@ -1,4 +1,4 @@
-use Rattle.std.proofs.Common.{◌≡◌, ◌∷◌, [], ◌++◌, ◌∙◌, subst, sym, ap, arith, length, length-append}
+use Rattle.std.proofs.Common.{◌∷◌, [], ◌∙◌, subst, sym, ap, arith, length, length-append}
 use Rattle.water_model.specs.History.{IsPartialHistory}
 use Rattle.water_model.proofs.Histories.{one_month_more}
 use Rattle.basin_cli.specs.Rivers.{IsRiverMonth}

@@ -1,8 +1,5 @@
-use Rattle.std.proofs.Common.{◌≡◌, ◌^◌, ◌≤◌, refl, sym, ap, ◌∙◌, subst, arith, List, [], ℕ, length}
-use Rattle.std.specs.Prelude.{slice_index}
+use Rattle.std.proofs.Common.{◌≡◌, refl, sym, ap, subst, arith, [], ℕ, length}
 use Rattle.std.proofs.lemmas.Grind.{common_steps}
-use Rattle.place_sums.specs.Sums.{total}
-use Rattle.river_net.specs.Net.{total_of}
 use Rattle.river_net.proofs.RiverPlan.{river_is_plan}
 use Rattle.water_model.specs.CutSets.{CutSets}
 use Rattle.basin_cli.specs.Rivers.{AreSupplies}

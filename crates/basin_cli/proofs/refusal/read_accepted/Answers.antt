@@ -1,4 +1,4 @@
-use Rattle.std.proofs.Common.{◌≡◌, sym, ◌∙◌}
+use Rattle.std.proofs.Common.{sym, ◌∙◌}
 use Rattle.basin_cli.proofs.Unbuilt.{built_river, built_series}
 use Rattle.basin_cli.proofs.refusal.read_accepted.Goals as goal
 

@@ -1,9 +1,4 @@
-use Rattle.std.proofs.Common.{map, string_bytes, sym, subst, ◌∙◌}
-use Rattle.water_edge.specs.Edge.{Rose}
-use Rattle.basin_cli.specs.Command.{command_of}
-use Rattle.basin_cli.specs.Ending.{line_of, status_of}
-use Rattle.basin_cli.specs.Outcome.{Tells}
-use Rattle.basin_cli.proofs.Outcomes.{completes, quiet, told_not}
+use Rattle.basin_cli.proofs.Outcomes.{quiet, told_not}
 use Rattle.basin_cli.proofs.top.basin_main.Goals as goal
 use Rattle.basin_cli.proofs.top.basin_main.Goals.{then-is_told, else-is_told}
 
