@@ -6,6 +6,8 @@ mod ending;
 mod months;
 mod refusal;
 mod status;
+#[cfg(test)]
+mod tests;
 mod top;
 mod writing;
 
