@@ -1,0 +1,16 @@
+pub mod MonthArcs
+pub mod Bridge
+pub mod Plans
+pub mod WayOut
+pub mod Swept
+pub mod Sweeps
+pub mod Lists
+pub mod Marks
+pub mod RightKinds
+pub mod Serves
+pub mod Laid
+pub mod Numbers
+pub mod Begins
+pub mod Solves
+pub mod Turns
+pub mod Rivers

@@ -1,0 +1,58 @@
+-- Reads after writes and after additions.
+use Rattle.std.proofs.Common.{◌≡◌, ◌≢◌, ℕ, zero, suc, ◌+◌, ◌<◌, refl, sym, ◌∙◌, ap, arith, List, [], ◌∷◌, ◌++◌, length, take, drop, inl, inr}
+use Rattle.std.specs.Prelude.{slice_index, slice_get, slice_set, Some}
+use Rattle.std.proofs.lemmas.Bool.{cases_lt}
+use Rattle.std.proofs.lemmas.Grind.{common_steps}
+
+pub get_set : {X : Type 0} (xs : List X) (i : ℕ) (x : X) → i < length xs → slice_get (slice_set xs i x) i ≡ Some x
+get_set [] i x l = absurd (omega arith)
+get_set (y ∷ xs) zero x l = refl
+get_set (y ∷ xs) (suc i) x l = get_set xs i x (omega arith)
+
+pub get_set_other : {X : Type 0} (xs : List X) (i j : ℕ) (x : X) → j ≢ i → slice_get (slice_set xs i x) j ≡ slice_get xs j
+get_set_other [] i j x ne = refl
+get_set_other (y ∷ xs) zero zero x ne = absurd (ne refl)
+get_set_other (y ∷ xs) zero (suc j) x ne = refl
+get_set_other (y ∷ xs) (suc i) zero x ne = refl
+get_set_other (y ∷ xs) (suc i) (suc j) x ne = get_set_other xs i j x (λ e. ne (ap suc e))
+
+pub set_twice : {X : Type 0} (xs : List X) (i : ℕ) (x z : X) → slice_set (slice_set xs i x) i z ≡ slice_set xs i z
+set_twice [] i x z = refl
+set_twice (y ∷ xs) zero x z = refl
+set_twice (y ∷ xs) (suc i) x z = ap (λ (ys : List _). y ∷ ys) (set_twice xs i x z)
+
+pub get_before : {X : Type 0} (xs ys : List X) (k : ℕ) (x : X) → slice_get xs k ≡ Some x → slice_get (xs ++ ys) k ≡ Some x
+get_before [] ys k x h = cc
+get_before (y ∷ xs) ys zero x h = h
+get_before (y ∷ xs) ys (suc k) x h = get_before xs ys k x h
+
+pub get_last : {X : Type 0} (xs : List X) (k : ℕ) (x : X) → k ≡ length xs → slice_get (xs ++ x ∷ []) k ≡ Some x
+get_last [] zero x h = refl
+get_last [] (suc k) x h = absurd (omega arith)
+get_last (y ∷ xs) zero x h = absurd (omega arith)
+get_last (y ∷ xs) (suc k) x h = get_last xs k x (omega arith)
+
+-- one number more of a list that is known place by place
+pub pushed_each : (f : ℕ → ℕ) (xs ys : List ℕ) (n y : ℕ) → ys ≡ xs ++ y ∷ [] → length xs ≡ n → ((k : ℕ) → k < n → slice_index xs k ≡ f k) → y ≡ f n →
+    (k : ℕ) → k < n + 1 → slice_index ys k ≡ f k
+pushed_each f xs ys n y is len each here k l = elim (cases_lt k n) [
+  | inl below ↦ ap (λ (zs : List ℕ). slice_index zs k) is ∙ before xs y k (omega arith) ∙ each k below
+  | inr above ↦ (let e : k ≡ n = omega arith in ap (λ (zs : List ℕ). slice_index zs k) is ∙ last xs y k (omega arith) ∙ here ∙ sym (ap f e))
+]
+  where
+    before : (xs : List ℕ) (y k : ℕ) → k < length xs → slice_index (xs ++ y ∷ []) k ≡ slice_index xs k
+    before xs y k l = grind (arith, common_steps)
+
+    last : (xs : List ℕ) (y k : ℕ) → k ≡ length xs → slice_index (xs ++ y ∷ []) k ≡ y
+    last xs y k e = grind (arith, common_steps)
+
+pub pushed_count : {X : Type 0} (xs ys : List X) (y : X) (n : ℕ) → ys ≡ xs ++ y ∷ [] → length xs ≡ n → length ys ≡ n + 1
+pushed_count xs ys y n is len = ap length is ∙ grind (arith, common_steps)
+
+-- a list that is written whole
+pub whole_rows : {X : Type 0} (old front : List X) → length front ≡ length old → take (length old) (front ++ drop (length front) old) ≡ front
+whole_rows old front len = rw (sym len) (take_front front (drop (length front) old))
+  where
+    take_front : {X : Type 0} (xs ys : List X) → take (length xs) (xs ++ ys) ≡ xs
+    take_front [] ys = refl
+    take_front (x ∷ xs) ys = ap (λ (zs : List _). x ∷ zs) (take_front xs ys)

@@ -1,0 +1,36 @@
+use Rattle.std.proofs.Common.{◌≢◌, ◌∙◌, List, ◌≤◌, length, arith, ap, sym, subst}
+use Rattle.std.specs.Prelude.{All}
+use Rattle.place_sums.proofs.Totals.{count_at_most}
+use Rattle.water_model.specs.Basin.{is_outlet}
+use Rattle.circulation.specs.declared.Ends.{Ends}
+use Rattle.circulation.specs.Contents.{Contents}
+use Rattle.senior_hold.specs.MonthNetwork.{takes}
+use Rattle.senior_hold.proofs.Laid.{laid_fits, laid_ends, froms, tos}
+use Rattle.senior_hold.proofs.solver.Solver.open.Goals as goal
+
+pub open-requires-clause-few : goal.open-requires-clause-few
+open-requires-clause-few c =
+    omega (
+      arith,
+      ap length c.deref.ensures.value,
+      c.in_ok-ends.ensures.count,
+      count_at_most (length c.args.basin.now.rights) (λ r. takes c.args.basin.now r),
+      count_at_most (length c.args.basin.now.nodes) (λ n. is_outlet c.args.basin.now n),
+      c.requires.few.nodes,
+      c.requires.few.links,
+      c.requires.few.rights,
+    )
+
+pub open-requires-clause-ends : goal.open-requires-clause-ends
+open-requires-clause-ends c =
+    subst (λ (xs : List Ends). All (λ e. (e.from ≤ c.len.result) × (e.to ≤ c.len.result) × (e.from ≢ e.to)) xs) (sym c.deref.ensures.value)
+    (laid_fits c.args.basin.now c.in_ok-ends.ends.items c.len.result c.len.ensures c.requires c.in_ok-ends.ensures)
+
+pub invariant_of-result : goal.invariant_of-result
+invariant_of-result c = record {
+  valid = c.requires;
+  is_layout = c.in_ok-layout.ensures;
+  fits_room = c.in_ok-room.ensures;
+  ends = laid_ends c.args.basin.now c.in_ok-ends.ends.items c.in_ok-circ.circ c.in_ok-ends.ensures (ap (λ (x : Contents). x.nodes) c.in_ok-circ.ensures ∙ c.len.ensures)
+      (ap (λ (x : Contents). x.from) c.in_ok-circ.ensures ∙ ap froms c.deref.ensures.value) (ap (λ (x : Contents). x.to) c.in_ok-circ.ensures ∙ ap tos c.deref.ensures.value);
+}

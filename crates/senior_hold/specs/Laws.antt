@@ -1,0 +1,33 @@
+-- Laws over the definitions.
+use Rattle.std.specs.Prelude.{◌≡◌, ℕ, ◌<◌, ◌≤◌, Bool, List, length, slice_index, Some, None}
+use Rattle.water_text.specs.Months.{IsMonth}
+use Rattle.water_text.specs.declared.month.Month.{Month}
+use Rattle.water_model.specs.Plans.{IsPlan}
+use Rattle.water_model.specs.Cuts.{IsTight}
+use Rattle.water_model.specs.CutSets.{CutSets, set_of}
+use Rattle.water_model.specs.Hydrology.{want_in_month}
+use Rattle.water_model.specs.Laws.{AreDeliveries}
+use Rattle.water_model.specs.Valid.{IsValidBasin}
+use Rattle.water_model.specs.declared.types.Basin.{Basin}
+use Rattle.water_model.specs.declared.types.Plan.{Plan}
+use Rattle.senior_hold.specs.Solved.{AreWants, IsSolved}
+
+-- The wants of a valid basin in a month are wants that a solver may be given.
+abbrev pub WantsAreWithin : Type 0
+WantsAreWithin =
+    (b : Basin) (month : Month) (want : List ℕ) → IsValidBasin b → IsMonth month → length want ≡ length b.rights →
+    ((r : ℕ) → r < length b.rights → slice_index want r ≡ want_in_month b month r) → AreWants b month want
+
+-- what a record of a month says of its plan and its cuts
+pub record HasPlanAndCuts (b : Basin) (month : Month) (supply want delivered : List ℕ) (p : Plan) (cuts : CutSets) : Type 0 where
+  pub plan : IsPlan b month supply want p
+  pub short : (r : ℕ) → r < length b.rights → slice_index delivered r < slice_index want r →
+      (cut : List Bool) × (set_of cuts r ≡ Some cut) × IsTight b month supply delivered r cut
+  pub met : (r : ℕ) → r < length b.rights → slice_index want r ≤ slice_index delivered r → set_of cuts r ≡ None
+
+-- A solved month, with what its plan delivers, has a plan, a tight cut for each right that is short, and none for others.
+abbrev pub SolvedMonthsFollow : Type 0
+SolvedMonthsFollow =
+    (b : Basin) (month : Month) (supply want delivered : List ℕ) (p : Plan) (cuts : CutSets) →
+    IsSolved b month supply want p cuts → AreDeliveries b want p delivered →
+    HasPlanAndCuts b month supply want delivered p cuts

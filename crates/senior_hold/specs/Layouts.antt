@@ -1,0 +1,36 @@
+-- What a solver keeps, and how it begins a month.
+use Rattle.std.specs.Prelude.{◌≡◌, ℕ, ◌<◌, List, length, slice_index}
+use Rattle.water_model.specs.RunOfRiver.{IsRunOfRiver}
+use Rattle.water_text.specs.declared.month.Month.{Month}
+use Rattle.water_model.specs.declared.types.Basin.{Basin}
+use Rattle.water_model.specs.declared.types.Plan.{Plan}
+use Rattle.circulation.specs.Contents.{Contents, network, flow_of}
+use Rattle.circulation.specs.Network.{IsFlow}
+use Rattle.river_net.specs.Net.{IsNet}
+use Rattle.rights_roll.specs.Rolls.{IsRollOf}
+use Rattle.senior_hold.specs.MonthNetwork.{IsMonthNetwork, arc_count, plan_of}
+use Rattle.senior_hold.specs.Arcs.{AreArcs}
+use Rattle.senior_hold.specs.Solved.{FitsPlan}
+use Rattle.senior_hold.specs.declared.solver.Layout.{Layout}
+use Rattle.senior_hold.specs.declared.solver.Room.{Room}
+
+-- the network, the roll and the arcs of the basin
+pub record IsLayout (b : Basin) (l : Layout) : Type 0 where
+  pub is_net : IsNet b.nodes b.links l.net
+  pub is_roll : IsRollOf b.rights l.roll
+  pub are_arcs : AreArcs b l.arcs
+
+-- room for a month's bounds, and for the flow that it starts from
+pub record FitsRoom (b : Basin) (r : Room) : Type 0 where
+  pub fits_most : FitsPlan b r.most
+  pub uppers : length r.upper.items ≡ arc_count b
+  pub starts : length r.start.items ≡ arc_count b
+
+-- a month that starts from the run of the river, with no arc held
+pub record IsBegun (b : Basin) (month : Month) (supply want : List ℕ) (c : Contents) (p : Plan) : Type 0 where
+  pub net : IsMonthNetwork b month supply want (network c)
+  pub is_flow : IsFlow (network c) (flow_of c)
+  pub size : length c.lower ≡ arc_count b
+  pub free : (a : ℕ) → a < arc_count b → slice_index c.lower a ≡ 0
+  pub run : IsRunOfRiver b supply p
+  pub same : plan_of b (flow_of c) ≡ p

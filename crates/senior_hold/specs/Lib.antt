@@ -1,0 +1,7 @@
+pub mod MonthNetwork
+pub mod Arcs
+pub mod Solved
+pub mod Serving
+pub mod Layouts
+pub mod Solver
+pub mod Laws

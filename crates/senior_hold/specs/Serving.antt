@@ -1,0 +1,28 @@
+-- What one right's turn changes.
+use Rattle.std.specs.Prelude.{◌≡◌, ◌⊎◌, ℕ, ◌<◌, ◌≤◌, Bool, List, length, slice_index, slice_set, Some, max, min}
+use Rattle.water_model.specs.Lookups.{has}
+use Rattle.water_model.specs.CutSets.{CutSets, with_set, with_room}
+use Rattle.circulation.specs.Contents.{Contents, network, flow_of}
+use Rattle.augment.specs.Raised.{IsGreatestCut}
+
+-- the arc is held at what it has of the want; and where that is less, the right has the greatest tight cut of the arc
+pub record IsServed (old new : Contents) (arc want : ℕ) (before after : CutSets) (right : ℕ) : Type 0 where
+  pub held : new ≡ record old {
+    flow = new.flow;
+    scratch = new.scratch;
+    lower = slice_set old.lower arc (max (slice_index old.lower arc) (min want (flow_of new arc)));
+  }
+  pub outcome : ((want ≤ flow_of new arc) × (after ≡ before))
+      ⊎ ((flow_of new arc < want) × ((cut : List Bool) × ((after ≡ with_room (with_set before right (Some cut)) right)
+      × ((length cut ≡ old.nodes) × IsGreatestCut (network old) (flow_of new) arc (has cut)))))
+
+-- the nodes and the ends of arcs are as before
+pub record SameEnds (old new : Contents) : Type 0 where
+  pub nodes : new.nodes ≡ old.nodes
+  pub from : new.from ≡ old.from
+  pub to : new.to ≡ old.to
+
+-- there are as many nodes and sets as before
+pub record SameShape (old new : CutSets) : Type 0 where
+  pub nodes : new.nodes ≡ old.nodes
+  pub sets : length new.sets ≡ length old.sets

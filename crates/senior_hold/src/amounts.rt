@@ -1,0 +1,137 @@
+//! Amounts by arc: the bounds of a month, and plans as flows and back.
+ghost use Rattle.std.specs.Prelude.{◌≡◌, ℕ, ◌<◌, ◌≤◌, length, slice_index};
+ghost use Rattle.place_sums.specs.Sums.{when};
+ghost use Rattle.water_text.specs.Months.{IsMonth};
+ghost use Rattle.water_model.specs.Basin.{is_outlet};
+ghost use Rattle.water_model.specs.Plans.{carry_of};
+ghost use Rattle.water_model.specs.Valid.{IsValidBasin};
+ghost use Rattle.circulation.specs.Contents.{network, flow_of, arcs};
+ghost use Rattle.senior_hold.specs.MonthNetwork.{arc_count, take_arc, out_arc, takes, list_of, plan_of, HasBasinEnds};
+ghost use Rattle.senior_hold.specs.Arcs.{AreArcs, AreAmounts, AreBounds};
+ghost use Rattle.senior_hold.specs.Solved.{FitsPlan};
+
+use crate::arcs::{Arcs, taking_node};
+use circulation::Circulation;
+use water_model::calls::carry_of;
+use water_model::types::{Basin, Plan};
+use water_text::month::Month;
+
+/// Writes the amounts of a plan to the places of their arcs.
+pub fn lay(basin: &Basin, arcs: &Arcs, plan: &Plan, into: &mut [u64])
+    requires valid { IsValidBasin basin.now }
+    requires arcs { AreArcs basin.now arcs.now }
+    requires plan { FitsPlan basin.now plan.now }
+    requires into { length into.old ≡ arc_count basin.now }
+    ensures { AreAmounts basin.now plan.now (slice_index into.new) }
+{
+    for link in 0..basin.links.len() {
+        into[link] = plan.flow[link];
+    }
+    for right in 0..basin.rights.len() {
+        if taking_node(basin, right as u32).is_some() {
+            into[arcs.rights[right] as usize] = plan.take[right];
+        }
+    }
+    for node in 0..basin.nodes.len() {
+        if basin.nodes[node].outlet {
+            into[arcs.outs[node] as usize] = plan.out[node];
+        }
+    }
+}
+
+/// The most that each link carries in a month.
+fn write_carries(basin: &Basin, month: Month, into: &mut [u64])
+    requires valid { IsValidBasin basin.now }
+    requires month { IsMonth month }
+    requires into { length into.old ≡ length basin.now.links }
+    ensures { (e : ℕ) → e < length basin.now.links → slice_index into.new e ≡ carry_of basin.now month e }
+{
+    for link in 0..basin.links.len() {
+        into[link] = carry_of(basin, link as u32, month);
+    }
+}
+
+/// The most that each arc may have in a month: the carry of a link, the want of a right that takes, and at an outlet as
+/// much as a river carries. `most` is room for the same by link, right and node.
+pub fn write_bounds(
+    basin: &Basin,
+    arcs: &Arcs,
+    month: Month,
+    want: &[u64],
+    most: &mut Plan,
+    upper: &mut [u64],
+)
+    requires valid { IsValidBasin basin.now }
+    requires month { IsMonth month }
+    requires arcs { AreArcs basin.now arcs.now }
+    requires want { length want.now ≡ length basin.now.rights }
+    requires most { FitsPlan basin.now most.old }
+    requires upper { length upper.old ≡ arc_count basin.now }
+    ensures most { FitsPlan basin.now most.new }
+    ensures upper { AreBounds basin.now month want.now (slice_index upper.new) }
+{
+    write_carries(basin, month, most.flow.as_mut_slice());
+    most.take.as_mut_slice().copy_from_slice(want);
+    most.out.as_mut_slice().fill(1_000_000_000_000_000);
+    lay(basin, arcs, most, upper);
+}
+
+/// Reads the flow of each link.
+fn read_links(circ: &Circulation, into: &mut [u64])
+    requires { length into.old ≤ arcs circ.now }
+    ensures { into.new ≡ list_of (length into.old) (flow_of circ.now) }
+{
+    let _arcs = circ.arcs();
+    for link in 0..into.len() {
+        into[link] = circ.flow(link as u32);
+    }
+}
+
+/// Reads what each right takes.
+fn read_takes(basin: &Basin, circ: &Circulation, arcs: &Arcs, into: &mut [u64])
+    requires valid { IsValidBasin basin.now }
+    requires ends { HasBasinEnds basin.now (network circ.now) }
+    requires into { length into.old ≡ length basin.now.rights }
+    requires arcs { AreArcs basin.now arcs.now }
+    ensures { into.new ≡ list_of (length basin.now.rights) (λ r.
+        when (takes basin.now r) (flow_of circ.now (take_arc basin.now r))) }
+{
+    for right in 0..basin.rights.len() {
+        into[right] = if taking_node(basin, right as u32).is_some() {
+            circ.flow(arcs.rights[right])
+        } else {
+            0
+        };
+    }
+}
+
+/// Reads what leaves the basin at each node.
+fn read_outs(basin: &Basin, circ: &Circulation, arcs: &Arcs, into: &mut [u64])
+    requires valid { IsValidBasin basin.now }
+    requires ends { HasBasinEnds basin.now (network circ.now) }
+    requires into { length into.old ≡ length basin.now.nodes }
+    requires arcs { AreArcs basin.now arcs.now }
+    ensures { into.new ≡ list_of (length basin.now.nodes) (λ n.
+        when (is_outlet basin.now n) (flow_of circ.now (out_arc basin.now n))) }
+{
+    for node in 0..basin.nodes.len() {
+        into[node] = if basin.nodes[node].outlet {
+            circ.flow(arcs.outs[node])
+        } else {
+            0
+        };
+    }
+}
+
+/// Reads the plan of a flow.
+pub fn read_plan(basin: &Basin, circ: &Circulation, arcs: &Arcs, plan: &mut Plan)
+    requires valid { IsValidBasin basin.now }
+    requires ends { HasBasinEnds basin.now (network circ.now) }
+    requires arcs { AreArcs basin.now arcs.now }
+    requires plan { FitsPlan basin.now plan.old }
+    ensures { plan.new ≡ plan_of basin.now (flow_of circ.now) }
+{
+    read_links(circ, plan.flow.as_mut_slice());
+    read_takes(basin, circ, arcs, plan.take.as_mut_slice());
+    read_outs(basin, circ, arcs, plan.out.as_mut_slice());
+}

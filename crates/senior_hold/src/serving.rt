@@ -1,0 +1,60 @@
+//! One right's turn.
+ghost use Rattle.std.specs.Prelude.{◌≡◌, ◌+◌, ◌*◌, ◌^◌, ◌<◌, ◌≤◌, length, slice_index, replicate, false, Some, None, OnOk};
+ghost use Rattle.water_model.specs.CutSets.{set_of, with_set};
+ghost use Rattle.circulation.specs.Contents.{network, arcs, IsCirculation};
+ghost use Rattle.augment.specs.Raised.{HasWayOut, not_reached};
+ghost use Rattle.senior_hold.specs.MonthNetwork.{list_of};
+ghost use Rattle.senior_hold.specs.Serving.{IsServed, SameEnds, SameShape};
+
+use augment::{Raised, raise, reached};
+use circulation::Circulation;
+use std::alloc::AllocError;
+use std::sync::ledger::Ledger;
+use steps::Steps;
+use water_model::cut_list::CutList;
+
+/// Adds to a right's empty set the nodes that the last search did not reach.
+fn mark(circ: &Circulation, right: u32, cuts: &mut CutList)
+    requires right { right < length cuts.old.sets }
+    requires nodes { cuts.old.nodes ≡ circ.now.nodes }
+    requires empty { set_of cuts.old right ≡ Some (replicate cuts.old.nodes false) }
+    ensures { cuts.new ≡ with_set cuts.old right (Some (list_of circ.now.nodes (not_reached circ.now))) }
+{
+    for node in 0..circ.nodes() {
+        if !reached(circ, node) {
+            cuts.add(right, node);
+        }
+    }
+}
+
+/// Raises a right's arc to its want, or as far as it can be; gives a right that stays short the greatest tight cut of
+/// its arc; and holds what the arc has of the want. Want of memory comes only at the cut.
+pub fn serve<L: Ledger>(
+    circ: &mut Circulation,
+    arc: u32,
+    want: u64,
+    right: u32,
+    cuts: &mut CutList,
+    searches: &mut Steps<L>,
+) -> Result<(), AllocError>
+    requires arc { arc < arcs circ.old }
+    requires want { want ≤ slice_index circ.old.upper arc }
+    requires limit { want ≤ 10 ^ 9 }
+    requires way_out { HasWayOut (network circ.old) arc }
+    requires right { right < length cuts.old.sets }
+    requires nodes { cuts.old.nodes ≡ circ.old.nodes }
+    requires free { set_of cuts.old right ≡ None }
+    ensures served { OnOk result (IsServed circ.old circ.new arc want cuts.old cuts.new right) }
+    ensures kept { OnOk result (IsCirculation circ.new) }
+    ensures ends { SameEnds circ.old circ.new }
+    ensures shape { SameShape cuts.old cuts.new }
+    ensures cost { searches.new ≤ searches.old + 30 * (2 * arcs circ.old + 2) }
+{
+    if let Raised::Stopped = raise(circ, arc, want, searches) {
+        cuts.begin(right)?;
+        mark(circ, right, cuts);
+    }
+    let got = want.min(circ.flow(arc));
+    circ.hold(arc, got);
+    Ok(())
+}
