@@ -5,5 +5,6 @@
 
 pub mod add;
 pub mod closing;
+pub mod evaporation;
 pub mod supply;
 pub mod want;
