@@ -1,8 +1,10 @@
 -- What is settled of a month before its plan is found.
-use Rattle.std.specs.Prelude.{◌≡◌, ℕ, ◌+◌, ◌<◌, List, map, length, slice_index}
+use Rattle.std.specs.Prelude.{◌≡◌, ℕ, ◌+◌, ◌<◌, List, length, slice_index}
 use Rattle.water_model.specs.Lookups.{of_entry}
 use Rattle.water_model.specs.Hydrology.{run_month, in_year, inflow_at, evaporation, returned_at, stored_at, want_in_month}
-use Rattle.water_model.specs.History.{opening_after}
+use Rattle.water_model.specs.History.{FitsBasin, is_zone_of}
+use Rattle.water_model.specs.Plans.{delivery}
+use Rattle.place_sums.specs.Sums.{total_where}
 use Rattle.water_model.specs.declared.types.Basin.{Basin}
 use Rattle.water_model.specs.declared.types.Inflows.{Inflows}
 use Rattle.water_model.specs.declared.types.MonthRecord.{MonthRecord}
@@ -29,12 +31,29 @@ pub record HasWants (b : Basin) (index : ℕ) (want : List ℕ) : Type 0 where
   pub count : length want ≡ length b.rights
   pub each : (r : ℕ) → r < length b.rights → slice_index want r ≡ want_in_month b (run_month b index) r
 
--- a record of the month behind these records, as far as it is settled before its plan
-pub record IsOpened (b : Basin) (series : Inflows) (before : List MonthRecord) (m : MonthRecord) : Type 0 where
-  pub index : m.index ≡ length before
-  pub month : m.month ≡ run_month b m.index
-  pub opening : m.opening ≡ opening_after b before
-  pub evaporated : HasEvaporated b m.index m.opening m.evaporated
-  pub returned : HasReturned b (map (λ k. k.delivered) before) m.returned
-  pub supply : HasSupply b series m.index m.opening m.evaporated m.returned m.supply
-  pub want : HasWants b m.index m.want
+-- a record's lists have a number for each reservoir, node, link or right
+pub record FitsRecord (b : Basin) (m : MonthRecord) : Type 0 where
+  pub fits : FitsBasin b m
+  pub flow : length m.plan.flow ≡ length b.links
+  pub take : length m.plan.take ≡ length b.rights
+  pub out : length m.plan.out ≡ length b.nodes
+
+-- a record's opening, evaporation, supply and wants are settled, by the closing of the month before and by what comes
+-- back. All else stays
+pub record IsSettled (b : Basin) (series : Inflows) (index : ℕ) (old new : MonthRecord) : Type 0 where
+  pub index_is : new.index ≡ index
+  pub month : new.month ≡ run_month b index
+  pub opening : new.opening ≡ old.closing
+  pub evaporated : HasEvaporated b index new.opening new.evaporated
+  pub supply : HasSupply b series index new.opening new.evaporated old.returned new.supply
+  pub want : HasWants b index new.want
+  pub rest : new ≡ record old { index = new.index; month = new.month; opening = new.opening; evaporated = new.evaporated; supply = new.supply; want = new.want }
+
+-- a record has what its plan delivers and what its reservoirs close with. All else stays
+pub record IsConcluded (b : Basin) (old new : MonthRecord) : Type 0 where
+  pub delivered_count : length new.delivered ≡ length b.rights
+  pub delivered : (r : ℕ) → r < length b.rights → slice_index new.delivered r ≡ delivery b old.want old.plan r
+  pub closing_count : length new.closing ≡ length b.reservoirs
+  pub closing : (v : ℕ) → v < length b.reservoirs → slice_index new.closing v
+      ≡ total_where (length b.rights) (λ r. is_zone_of b r v) (λ r. slice_index old.plan.take r)
+  pub rest : new ≡ record old { delivered = new.delivered; closing = new.closing }

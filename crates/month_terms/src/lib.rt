@@ -6,5 +6,6 @@
 pub mod add;
 pub mod closing;
 pub mod evaporation;
+pub mod month;
 pub mod supply;
 pub mod want;
