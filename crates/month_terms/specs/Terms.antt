@@ -1,5 +1,6 @@
 -- What is settled of a month before its plan is found.
 use Rattle.std.specs.Prelude.{◌≡◌, ℕ, ◌+◌, ◌<◌, List, length, slice_index}
+use Rattle.water_text.specs.Months.{IsMonth}
 use Rattle.water_model.specs.Lookups.{of_entry}
 use Rattle.water_model.specs.Hydrology.{run_month, in_year, inflow_at, evaporation, returned_at, stored_at, want_in_month}
 use Rattle.water_model.specs.History.{FitsBasin, is_zone_of}
@@ -43,6 +44,7 @@ pub record FitsRecord (b : Basin) (m : MonthRecord) : Type 0 where
 pub record IsSettled (b : Basin) (series : Inflows) (index : ℕ) (old new : MonthRecord) : Type 0 where
   pub index_is : new.index ≡ index
   pub month : new.month ≡ run_month b index
+  pub calendar : IsMonth new.month
   pub opening : new.opening ≡ old.closing
   pub evaporated : HasEvaporated b index new.opening new.evaporated
   pub supply : HasSupply b series index new.opening new.evaporated old.returned new.supply

@@ -1,0 +1,7 @@
+//! The months of a run, one after the other: each opens with what the months before left.
+#![tactic(auto)]
+
+mod blank;
+//pub mod laws;
+//mod next;
+//pub mod run;
