@@ -1,7 +1,8 @@
 -- What a row keeps after one month more.
-use Rattle.std.proofs.Common.{◌≡◌, ◌∙◌, ℕ, zero, suc, ◌+◌, ◌-◌, ◌*◌, ◌/◌, ◌%◌, ◌<◌, ◌≤◌, List, [], ◌∷◌, ◌++◌, length, get_or, map, drop, refl, sym, ap, arith}
+use Rattle.std.proofs.Common.{◌≡◌, ◌∙◌, ℕ, zero, suc, ◌+◌, ◌-◌, ◌*◌, ◌/◌, ◌%◌, ◌<◌, ◌≤◌, List, [], ◌∷◌, ◌++◌, length, get_or, map, take, drop, refl, sym, ap, arith}
 use Rattle.std.specs.Prelude.{slice_index, slice_get, All, Option, option_map, unwrap_or}
 use Rattle.std.proofs.lemmas.List.{length-map, length-drop, length-append, map-append, drop-append-le, drop-drop}
+use Rattle.std.proofs.lemmas.Grind.{common_steps}
 use Rattle.std.proofs.lemmas.List.Elements.{All-map}
 use Rattle.std.proofs.Math.Nat.{mul-add}
 use Rattle.circular_buffer.specs.Buffer.{keep_last}
@@ -63,3 +64,11 @@ stands_after deliveries delivered rows lags lagged h = record {
   each = All-map (IsOnTheWay (deliveries ++ delivered ∷ [])) (after_month delivered) lags
       (λ k d l. on_the_way_after deliveries delivered _ (lagged k d l).lag.0 (h.each k d l));
 }
+
+pub lagged_after : (delivered : List ℕ) (lags : List OnTheWay) → All (λ w. IsLagged w.row) lags → All (λ w. IsLagged w.row) (map (after_month delivered) lags)
+lagged_after delivered lags h = All-map (λ w. IsLagged w.row) (after_month delivered) lags h
+
+-- the next row that wasn't changed yet
+pub unchanged : {X : Type 0} (f : X → X) (now before : List X) (i : ℕ) (d : X) → i < length before →
+    now ≡ map f (take i before) ++ drop i before → get_or now i d ≡ get_or before i d
+unchanged {X = X} f now before i d l e = grind (arith, common_steps)

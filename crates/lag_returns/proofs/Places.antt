@@ -1,5 +1,5 @@
 -- The rows of what is on its way, and the places of nodes.
-use Rattle.std.proofs.Common.{◌≡◌, ◌∙◌, ℕ, ◌+◌, ◌-◌, ◌*◌, ◌%◌, ◌<◌, ◌≤◌, Bool, true, false, List, [], ◌∷◌, length, get_or, set, map, drop, refl, sym, ap, subst, arith, inl, inr}
+use Rattle.std.proofs.Common.{◌≡◌, ◌∙◌, ℕ, ◌+◌, ◌-◌, ◌*◌, ◌%◌, ◌^◌, ◌<◌, ◌≤◌, Bool, true, false, List, [], ◌∷◌, length, get_or, set, map, drop, refl, sym, ap, subst, arith, inl, inr}
 use Rattle.std.specs.Prelude.{All, if◌then◌else◌, ◌==◌, option_map, unwrap_or, slice_get, Some}
 use Rattle.std.proofs.lemmas.Bool.{cases_Bool}
 use Rattle.std.proofs.lemmas.Bool.Decides.{nat_tests}
@@ -22,6 +22,10 @@ use Rattle.lag_returns.proofs.Arrivals.{arriving_is}
 pub of_row : (P : ReturnRow → Type 0) (lags : List OnTheWay) → All P (rows_of lags) → All (λ w. P w.row) lags
 of_row P lags h k d l =
     subst P (get_or-map (λ w. w.row) lags k d d.row l) (h k d.row (rw length-map l))
+
+pub row_at : (P : ReturnRow → Type 0) (lags : List OnTheWay) (i : ℕ) (w : OnTheWay) → All P (rows_of lags) → i < length lags →
+    w ≡ get_or lags i w → P w.row
+row_at P lags i w h l read = subst (λ x. P x.row) (sym read) (of_row P lags h i w l)
 
 pub lagged_fresh : (rows : List ReturnRow) → All IsLagged rows → All (λ w. IsLagged w.row) (map fresh rows)
 lagged_fresh rows h = All-map (λ w. IsLagged w.row) fresh rows h
@@ -62,6 +66,14 @@ one_row_more lags i w into n before l read node h =
       total_more i (λ k. of_entry lags k (brought_to n) 0),
       ap (λ o. unwrap_or (option_map (brought_to n) o) 0) (slice_get_read lags _ i w refl l read),
     )
+
+pub one_row_little : (w : OnTheWay) (into : List ℕ) (n : ℕ) → w.row.node < length into → arriving w ≤ 10 ^ 9 →
+    get_or (set into w.row.node (get_or into w.row.node 0 + arriving w)) n 0 ≤ get_or into n 0 + 10 ^ 9
+one_row_little w into n node little =
+    at_most w.row.node n (arriving w) _ (get_or into n 0) little (place_after into w.row.node n (arriving w) node)
+  where
+    at_most : (k n a x y : ℕ) → a ≤ 10 ^ 9 → x ≡ y + (if k == n then a else 0) → x ≤ y + 10 ^ 9
+    at_most k n a x y l e = grind (arith, nat_tests)
 
 -- what the rows bring is what the sums over all months say
 pub arrivals : (lags : List OnTheWay) (rows : List ReturnRow) (deliveries : List (List ℕ)) (node : ℕ) → StandsFor lags rows deliveries →

@@ -8,6 +8,6 @@ abbrev pub invariant-loop-flow : goal.invariant-loop-flow
 invariant-loop-flow l = record {
   places : length l.into ≡ length l.fn.into;
   added : (n : ℕ) → n < length l.into →
-      get_or l.into n 0 ≡ get_or l.fn.into n 0 + total l.flow-index (λ k. of_entry l.flows k (brought_to n) 0);
+      get_or l.into n 0 ≡ get_or l.fn.into n 0 + total l.flow-index (λ k. of_entry l.fn.flows k (brought_to n) 0);
   small : (n : ℕ) → n < length l.into → get_or l.into n 0 ≤ get_or l.fn.into n 0 + 10 ^ 9 * l.flow-index;
 }
