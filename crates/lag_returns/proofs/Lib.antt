@@ -1,0 +1,3 @@
+pub mod Arrivals
+pub mod Months
+pub mod Places

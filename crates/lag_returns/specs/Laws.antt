@@ -1,0 +1,22 @@
+-- What users of return rows may rely on.
+use Rattle.std.specs.Prelude.{◌≡◌, ℕ, ◌<◌, ◌≤◌, List, length, All}
+use Rattle.water_model.specs.Hydrology.{returned_at}
+use Rattle.water_model.specs.Valid.{IsValidBasin}
+use Rattle.water_model.specs.declared.types.Basin.{Basin}
+use Rattle.lag_returns.specs.Lags.{IsLagged, arrivals_at}
+
+-- A valid basin's rows bring what the basin's returns are.
+abbrev pub ArrivalsAreReturns : Type 0
+ArrivalsAreReturns =
+    (b : Basin) (deliveries : List (List ℕ)) (node : ℕ) →
+    arrivals_at b.returns deliveries node ≡ returned_at b deliveries node (length deliveries)
+
+-- the return rows of a basin have their numbers, nodes and rights in range, and are few
+pub record HasLaggedRows (b : Basin) : Type 0 where
+  pub lagged : All IsLagged b.returns
+  pub nodes : All (λ row. row.node < length b.nodes) b.returns
+  pub rights : All (λ row. row.right < length b.rights) b.returns
+  pub few : length b.returns ≤ 16000
+
+abbrev pub ValidRowsAreLagged : Type 0
+ValidRowsAreLagged = (b : Basin) → IsValidBasin b → HasLaggedRows b

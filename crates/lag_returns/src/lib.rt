@@ -1,0 +1,161 @@
+//! What comes back to the river, months later, of what diversions take.
+#![tactic(auto)]
+
+ghost use Rattle.std.specs.Prelude.{◌≡◌, ℕ, ◌+◌, ◌*◌, ◌^◌, ◌<◌, ◌≤◌, ◌++◌, ◌∷◌, [], List, length, slice_index, slice_set, map, All, IfOk};
+ghost use Rattle.lag_returns.specs.Flows.{after_month, arriving, brought, due, fresh, with_delivery};
+ghost use Rattle.lag_returns.specs.Lags.{IsLagged, StandsFor, rows_of, arrivals_at};
+ghost use Rattle.water_model.specs.declared.types.ReturnRow.{ReturnRow};
+
+use circular_buffer::HeapCircularBuffer;
+use std::alloc::{AllocError, Global};
+use std::marker::Model;
+use water_model::types::ReturnRow;
+
+/// A return row, the deliveries of its diversion that are on their way, and the remainder, in parts of 10,000, of those
+/// that came back.
+#[derive(Drop)]
+struct Flow {
+    row: ReturnRow,
+    waiting: HeapCircularBuffer<u64>,
+    remainder: u64,
+}
+
+impl Model for Flow {
+    ghost use Rattle.lag_returns.specs.Lags.{OnTheWay};
+
+    ghost Value = { OnTheWay };
+
+    ghost view = { λ f. record { row = f.row; waiting = f.waiting.items; remainder = f.remainder } };
+
+    ghost use Rattle.lag_returns.specs.Flows.{IsSoundFlow};
+
+    ghost invariant = { λ f. IsSoundFlow f.row f.waiting f.remainder };
+}
+
+impl Flow {
+    fn open(alloc: Global, row: ReturnRow) -> Result<Flow, AllocError>
+        requires { IsLagged row }
+        ensures { IfOk result (λ flow. flow ≡ fresh row) }
+    {
+        let waiting = HeapCircularBuffer::with_capacity(alloc, row.lag as usize)?;
+        Ok(Flow {
+            row,
+            waiting,
+            remainder: 0,
+        })
+    }
+
+    /// The parts of 10,000 that are due this month.
+    fn due(&self) -> u64
+        ensures due { result ≡ due self.now }
+        ensures small { result < 10 ^ 13 + 10 ^ 4 }
+    {
+        if self.waiting.len() < self.row.lag as usize {
+            return 0;
+        }
+        match self.waiting.front() {
+            Some(oldest) => self.remainder + u64::from(self.row.part) * *oldest,
+            None => 0,
+        }
+    }
+
+    /// Adds what the row brings this month to its node's place.
+    fn arrive(&self, into: &mut [u64])
+        requires node { self.now.row.node < length into.old }
+        requires room { slice_index into.old self.now.row.node + 10 ^ 9 ≤ 10 ^ 15 }
+        ensures adds { into.new ≡ slice_set into.old self.now.row.node (slice_index into.old self.now.row.node + arriving self.now) }
+        ensures small { arriving self.now ≤ 10 ^ 9 }
+    {
+        into[self.row.node as usize] += self.due() / 10_000;
+    }
+
+    /// Takes the month's delivery to the diversion.
+    fn take(&mut self, amount: u64)
+        requires { amount ≤ 10 ^ 9 }
+        ensures { self.new ≡ with_delivery amount self.old }
+    {
+        self.remainder = self.due() % 10_000;
+        self.waiting.push_back(amount);
+    }
+}
+
+/// Adds what each row brings to its node's place.
+fn arrive_each(flows: &[Flow], into: &mut [u64])
+    requires nodes { All (λ row. row.node < length into.old) (rows_of flows.now) }
+    requires room { All (λ n. n + 10 ^ 9 * length (rows_of flows.now) ≤ 10 ^ 15) into.old }
+    ensures length { length into.new ≡ length into.old }
+    ensures adds { (node : ℕ) → node < length into.old → slice_index into.new node ≡ slice_index into.old node + brought flows.now node }
+{
+    for flow in flows {
+        flow.arrive(into);
+    }
+}
+
+/// Takes each row's delivery out of the month's deliveries by right.
+fn take_each(flows: &mut [Flow], delivered: &[u64])
+    requires rights { All (λ row. row.right < length delivered.now) (rows_of flows.old) }
+    requires small { All (λ n. n ≤ 10 ^ 9) delivered.now }
+    ensures { flows.new ≡ map (after_month delivered.now) flows.old }
+{
+    for flow in flows.iter_mut() {
+        let right = flow.row.right as usize;
+        flow.take(delivered[right]);
+    }
+}
+
+/// Return rows, and the deliveries of their diversions that are on their way.
+///
+/// A value doesn't keep the deliveries that came back already. It stands for all months so far: contracts say what holds
+/// for each list of the months' deliveries, by right, that it stands for. Contracts see the list of its rows, each with
+/// what waits and the remainder.
+#[derive(Drop)]
+pub struct Lags {
+    flows: Vec<Flow>,
+}
+
+impl Model for Lags {
+    ghost use Rattle.std.specs.Prelude.{List, All};
+    ghost use Rattle.lag_returns.specs.Lags.{OnTheWay, IsLagged};
+
+    ghost Value = { List OnTheWay };
+
+    ghost view = { λ l. l.flows.items };
+
+    ghost invariant = { λ l. All (λ w. IsLagged w.row) l.flows.items };
+}
+
+impl Lags {
+    /// Nothing is on its way. A part is 1 to 10,000 parts of 10,000, a lag 1 to 120 months. Only this call takes memory,
+    /// for each row as much as its lag is long.
+    pub fn open(alloc: Global, rows: &[ReturnRow]) -> Result<Lags, AllocError>
+        requires { All IsLagged rows.now }
+        ensures { IfOk result (λ lags. StandsFor lags rows.now []) }
+    {
+        let mut flows = Vec::with_capacity(alloc, rows.len())?;
+        for row in rows {
+            flows.push(Flow::open(alloc, *row)?)?;
+        }
+        Ok(Lags { flows })
+    }
+
+    /// Adds what each row brings this month to the place of its node, in units of 1,000 cubic metres. The places are
+    /// indexed by node, and each has room for 10^9 from each row. The cost is linear in the rows.
+    pub fn arrive(&self, into: &mut [u64])
+        requires nodes { All (λ row. row.node < length into.old) (rows_of self.now) }
+        requires room { All (λ n. n + 10 ^ 9 * length (rows_of self.now) ≤ 10 ^ 15) into.old }
+        ensures length { length into.new ≡ length into.old }
+        ensures adds { (rows : List ReturnRow) (deliveries : List (List ℕ)) → StandsFor self.now rows deliveries → (node : ℕ) → node < length into.old → slice_index into.new node ≡ slice_index into.old node + arrivals_at rows deliveries node }
+    {
+        arrive_each(&self.flows, into);
+    }
+
+    /// Takes the month's deliveries, indexed by right and each at most 10^9, and moves to the next month. The cost is
+    /// linear in the rows.
+    pub fn month_done(&mut self, delivered: &[u64])
+        requires rights { All (λ row. row.right < length delivered.now) (rows_of self.old) }
+        requires small { All (λ n. n ≤ 10 ^ 9) delivered.now }
+        ensures { (rows : List ReturnRow) (deliveries : List (List ℕ)) → StandsFor self.old rows deliveries → StandsFor self.new rows (deliveries ++ delivered.now ∷ []) }
+    {
+        take_each(&mut self.flows, delivered);
+    }
+}
