@@ -19,7 +19,7 @@ use Rattle.month_terms.specs.Terms.{FitsRecord, HasReturned, IsSettled, IsConclu
 use Rattle.month_terms.proofs.Amounts.{supply_small, nothing_used, want_is}
 use Rattle.senior_hold.specs.Solved.{IsSolved, AreSupplies, FitsCuts}
 use Rattle.senior_hold.specs.Solved as sweep
-use Rattle.month_fold.specs.Reaches.{HasReaches}
+use Rattle.month_fold.specs.Runs.{IsNext}
 
 -- a record in which the next month begins, behind these records
 pub record IsBegun (b : Basin) (series : Inflows) (records : List MonthRecord) (m : MonthRecord) : Type 0 where
@@ -117,12 +117,8 @@ fields_of b series i begun settled planned made is = record {
     last : made ≡ record planned { delivered = made.delivered; closing = made.closing }
     last = is.is_concluded.rest
 
--- the record fits, follows those before it, and has the reaches
-pub record IsNext (b : Basin) (series : Inflows) (records : List MonthRecord) (m : MonthRecord) : Type 0 where
-  pub follows : Follows b series records m
-  pub reaches : HasReaches b m
-
-made_fits : (b : Basin) (series : Inflows) (i : ℕ) (begun settled planned made : MonthRecord) → IsMade b series i begun settled planned made → FitsRecord b made
+-- the record fits
+pub made_fits : (b : Basin) (series : Inflows) (i : ℕ) (begun settled planned made : MonthRecord) → IsMade b series i begun settled planned made → FitsRecord b made
 made_fits b series i begun settled planned made is =
     let f = fields_of b series i begun settled planned made is in
     let plan = is.solved.greatest.plan in

@@ -1,1 +1,3 @@
 pub mod Reaches
+pub mod Runs
+pub mod RunInside

@@ -1,9 +1,8 @@
 -- What a run keeps.
-use Rattle.std.specs.Prelude.{◌≡◌, ℕ, ◌≤◌, List, length, map, replicate}
+use Rattle.std.specs.Prelude.{◌≡◌, length, map, replicate}
 use Rattle.water_model.specs.Valid.{IsValidBasin, IsSeriesOf}
-use Rattle.water_model.specs.declared.types.MonthRecord.{MonthRecord}
 use Rattle.month_terms.specs.Terms.{FitsRecord}
-use Rattle.month_fold.specs.Runs.{RunSeen, StandsFor}
+use Rattle.month_fold.specs.Runs.{RunSeen, HasMonths}
 use Rattle.month_fold.specs.declared.run.Run.TheInside.{Inside}
 
 abbrev pub seen_of : Inside → RunSeen
@@ -17,5 +16,4 @@ pub record IsReady (i : Inside) : Type 0 where
   pub tables : i.tables.items ≡ map (λ v. v.area) i.basin.now.reservoirs
   pub month : FitsRecord i.basin.now i.month
   pub used : i.month.used ≡ replicate (length i.basin.now.rights) 0
-  pub records : List MonthRecord
-  pub stands : StandsFor (seen_of i) records
+  pub months : HasMonths (seen_of i)

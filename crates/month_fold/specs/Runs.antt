@@ -2,8 +2,8 @@
 use Rattle.std.specs.Prelude.{◌≡◌, ℕ, List, map, length}
 use Rattle.lag_returns.specs.Lags.{OnTheWay}
 use Rattle.lag_returns.specs.Lags as lag
-use Rattle.water_model.specs.History.{IsPartialHistory, opening_after}
-use Rattle.month_fold.specs.Reaches.{HaveReaches}
+use Rattle.water_model.specs.History.{IsPartialHistory, Follows, opening_after}
+use Rattle.month_fold.specs.Reaches.{HaveReaches, HasReaches}
 use Rattle.water_model.specs.declared.types.Basin.{Basin}
 use Rattle.water_model.specs.declared.types.Inflows.{Inflows}
 use Rattle.water_model.specs.declared.types.MonthRecord.{MonthRecord}
@@ -25,3 +25,13 @@ pub record StandsFor (run : RunSeen) (records : List MonthRecord) : Type 0 where
   pub done : run.done ≡ length records
   pub stored : run.last.closing ≡ opening_after run.basin records
   pub lags : lag.StandsFor run.lags run.basin.returns (map (λ m. m.delivered) records)
+
+-- the run went through some months
+pub record HasMonths (run : RunSeen) : Type 0 where
+  pub records : List MonthRecord
+  pub stands : StandsFor run records
+
+-- the record follows these, and its sets are the reaches of its short rights
+pub record IsNext (b : Basin) (series : Inflows) (records : List MonthRecord) (m : MonthRecord) : Type 0 where
+  pub follows : Follows b series records m
+  pub reaches : HasReaches b m

@@ -1,7 +1,6 @@
-//! The months of a run, one after the other: each opens with what the months before left.
+//! The months of a run, one after the other: each opens with what the months before it left.
 #![tactic(auto)]
 
 mod blank;
-//pub mod laws;
-//mod next;
-//pub mod run;
+mod next;
+pub mod run;
