@@ -1,13 +1,12 @@
 -- What is due by what a row keeps is what the sums over all months say.
-use Rattle.std.proofs.Common.{◌≡◌, ◌∙◌, ℕ, zero, suc, ◌+◌, ◌-◌, ◌*◌, ◌/◌, ◌%◌, ◌<◌, ◌≤◌, List, length, get_or, map, refl, sym, ap, arith, inl, inr, true, false}
-use Rattle.std.specs.Prelude.{slice_index, nat_lt, if◌then◌else◌, unwrap_or}
+use Rattle.std.proofs.Common.{◌≡◌, ◌∙◌, ℕ, ◌+◌, ◌-◌, ◌*◌, ◌/◌, ◌%◌, ◌<◌, ◌≤◌, List, length, get_or, refl, sym, ap, arith, inl, inr, true, false}
+use Rattle.std.specs.Prelude.{slice_index, nat_lt, unwrap_or}
 use Rattle.std.proofs.lemmas.Bool.{cases_Bool}
 use Rattle.std.proofs.lemmas.Bool.Decides.{nat_tests}
 use Rattle.std.proofs.lemmas.List.{length-map, length-drop, get_or-drop}
 use Rattle.std.proofs.lemmas.Option.{slice_get-map, unwrap_or-slice_get}
 use Rattle.std.proofs.Math.Nat.{mul-add}
 use Rattle.circular_buffer.specs.Buffer.{keep_last}
-use Rattle.place_sums.specs.Sums.{total}
 use Rattle.place_sums.proofs.Totals.{total_start, total_more}
 use Rattle.water_model.specs.Hydrology.{delivered_in, delivered_before, returned_by}
 use Rattle.lag_returns.specs.Flows.{due, arriving}

@@ -1,7 +1,7 @@
 -- What a row keeps after one month more.
-use Rattle.std.proofs.Common.{◌≡◌, ◌∙◌, ℕ, zero, suc, ◌+◌, ◌-◌, ◌*◌, ◌/◌, ◌%◌, ◌<◌, ◌≤◌, List, [], ◌∷◌, ◌++◌, length, get_or, map, take, drop, refl, sym, ap, arith}
-use Rattle.std.specs.Prelude.{slice_index, slice_get, All, Option, option_map, unwrap_or}
-use Rattle.std.proofs.lemmas.List.{length-map, length-drop, length-append, map-append, drop-append-le, drop-drop}
+use Rattle.std.proofs.Common.{◌≡◌, ◌∙◌, ℕ, ◌+◌, ◌-◌, ◌*◌, ◌%◌, ◌<◌, ◌≤◌, List, [], ◌∷◌, ◌++◌, length, get_or, map, take, drop, refl, sym, ap, arith}
+use Rattle.std.specs.Prelude.{slice_index, All, option_map, unwrap_or}
+use Rattle.std.proofs.lemmas.List.{length-drop, length-append, map-append, drop-append-le, drop-drop}
 use Rattle.std.proofs.lemmas.Grind.{common_steps}
 use Rattle.std.proofs.lemmas.List.Elements.{All-map}
 use Rattle.std.proofs.Math.Nat.{mul-add}
@@ -52,7 +52,7 @@ on_the_way_after deliveries delivered w lag h = record { waiting = waiting; rema
         ≡ (w.row.part * delivered_before (deliveries ++ delivered ∷ []) w.row.right (length (deliveries ++ delivered ∷ []) - w.row.lag)) % 10000
     by found = rw (before, found.1.parts, remainder, found.1.more, mul-add) refl
 
-rows_after : (delivered : List ℕ) (lags : List OnTheWay) → rows_of (map (after_month delivered) lags) ≡ rows_of lags
+pub rows_after : (delivered : List ℕ) (lags : List OnTheWay) → rows_of (map (after_month delivered) lags) ≡ rows_of lags
 rows_after delivered [] = refl
 rows_after delivered (w ∷ lags) = ap (λ rows. w.row ∷ rows) (rows_after delivered lags)
 

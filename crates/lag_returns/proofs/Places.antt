@@ -1,7 +1,6 @@
 -- The rows of what is on its way, and the places of nodes.
-use Rattle.std.proofs.Common.{◌≡◌, ◌∙◌, ℕ, ◌+◌, ◌-◌, ◌*◌, ◌%◌, ◌^◌, ◌<◌, ◌≤◌, Bool, true, false, List, [], ◌∷◌, length, get_or, set, map, drop, refl, sym, ap, subst, arith, inl, inr}
+use Rattle.std.proofs.Common.{◌≡◌, ◌∙◌, ℕ, ◌+◌, ◌-◌, ◌*◌, ◌%◌, ◌^◌, ◌<◌, ◌≤◌, List, [], ◌∷◌, length, get_or, set, map, refl, sym, ap, subst, arith}
 use Rattle.std.specs.Prelude.{All, if◌then◌else◌, ◌==◌, option_map, unwrap_or, slice_get, Some}
-use Rattle.std.proofs.lemmas.Bool.{cases_Bool}
 use Rattle.std.proofs.lemmas.Bool.Decides.{nat_tests}
 use Rattle.std.proofs.lemmas.Grind.{common_steps}
 use Rattle.std.proofs.lemmas.List.{length-map, get_or-map}
@@ -15,7 +14,7 @@ use Rattle.water_model.specs.Lookups.{of_entry}
 use Rattle.water_model.specs.declared.types.ReturnRow.{ReturnRow}
 use Rattle.water_model.proofs.Balance.{entry_holds}
 use Rattle.lag_returns.specs.Flows.{fresh, arriving, brought, brought_to}
-use Rattle.lag_returns.specs.Lags.{OnTheWay, IsOnTheWay, StandsFor, IsLagged, rows_of, delivered_to, arrivals_at}
+use Rattle.lag_returns.specs.Lags.{OnTheWay, IsOnTheWay, StandsFor, IsLagged, rows_of, arrivals_at}
 use Rattle.lag_returns.proofs.Arrivals.{arriving_is}
 
 -- what holds of each row

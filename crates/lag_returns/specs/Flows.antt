@@ -1,5 +1,5 @@
 -- One row's deliveries on their way, from month to month.
-use Rattle.std.specs.Prelude.{◌≡◌, ℕ, ◌+◌, ◌*◌, ◌/◌, ◌%◌, ◌^◌, ◌<◌, ◌≤◌, List, [], ◌∷◌, ◌++◌, length, slice_index, slice_set, All, nat_lt, ◌==◌, if◌then◌else◌}
+use Rattle.std.specs.Prelude.{◌≡◌, ℕ, ◌+◌, ◌*◌, ◌/◌, ◌%◌, ◌^◌, ◌<◌, ◌≤◌, List, [], ◌∷◌, ◌++◌, length, slice_index, All, nat_lt, ◌==◌, if◌then◌else◌}
 use Rattle.circular_buffer.specs.Buffer.{Buffer, keep_last}
 use Rattle.place_sums.specs.Sums.{total}
 use Rattle.water_model.specs.Lookups.{of_entry}
@@ -30,7 +30,7 @@ abbrev pub with_delivery : ℕ → OnTheWay → OnTheWay
 with_delivery amount w = record {
   row = w.row;
   waiting = keep_last w.row.lag (w.waiting ++ amount ∷ []);
-  remainder = due w % 10000
+  remainder = due w % 10000;
 }
 
 abbrev pub after_month : List ℕ → OnTheWay → OnTheWay

@@ -1,5 +1,6 @@
 -- What users of return rows may rely on.
-use Rattle.std.specs.Prelude.{◌≡◌, ℕ, ◌<◌, ◌≤◌, List, length, All}
+use Rattle.std.specs.Prelude.{◌≡◌, ℕ, ◌*◌, ◌^◌, ◌<◌, ◌≤◌, List, length, All}
+use Rattle.place_sums.specs.Sums.{total}
 use Rattle.water_model.specs.Hydrology.{returned_at}
 use Rattle.water_model.specs.Valid.{IsValidBasin}
 use Rattle.water_model.specs.declared.types.Basin.{Basin}
@@ -20,3 +21,9 @@ pub record HasLaggedRows (b : Basin) : Type 0 where
 
 abbrev pub ValidRowsAreLagged : Type 0
 ValidRowsAreLagged = (b : Basin) → IsValidBasin b → HasLaggedRows b
+
+-- In a month the returns of a valid basin sum to at most 10^9 for each row, where no right was ever delivered more.
+abbrev pub ReturnsAreSmall : Type 0
+ReturnsAreSmall =
+    (b : Basin) (deliveries : List (List ℕ)) (i : ℕ) → IsValidBasin b → All (λ delivered. All (λ n. n ≤ 10 ^ 9) delivered) deliveries →
+    total (length b.nodes) (λ node. returned_at b deliveries node i) ≤ 10 ^ 9 * length b.returns

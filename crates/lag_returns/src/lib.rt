@@ -11,6 +11,10 @@ use std::alloc::{AllocError, Global};
 use std::marker::Model;
 use water_model::types::ReturnRow;
 
+pub mod laws;
+#[cfg(test)]
+mod tests;
+
 /// A return row, the deliveries of its diversion that are on their way, and the remainder, in parts of 10,000, of those
 /// that came back.
 #[derive(Drop)]
@@ -154,7 +158,8 @@ impl Lags {
     pub fn month_done(&mut self, delivered: &[u64])
         requires rights { All (λ row. row.right < length delivered.now) (rows_of self.old) }
         requires small { All (λ n. n ≤ 10 ^ 9) delivered.now }
-        ensures { (rows : List ReturnRow) (deliveries : List (List ℕ)) → StandsFor self.old rows deliveries → StandsFor self.new rows (deliveries ++ delivered.now ∷ []) }
+        ensures rows { rows_of self.new ≡ rows_of self.old }
+        ensures stands { (rows : List ReturnRow) (deliveries : List (List ℕ)) → StandsFor self.old rows deliveries → StandsFor self.new rows (deliveries ++ delivered.now ∷ []) }
     {
         take_each(&mut self.flows, delivered);
     }

@@ -1,4 +1,4 @@
-use Rattle.std.proofs.Common.{◌≡◌, ◌∙◌, ◌<◌, length, get_or, ap, refl, arith}
+use Rattle.std.proofs.Common.{◌∙◌, ◌<◌, length, get_or, ap, refl, arith}
 use Rattle.place_sums.proofs.Totals.{total_start}
 use Rattle.water_model.specs.Lookups.{of_entry}
 use Rattle.lag_returns.specs.Flows.{brought_to}
