@@ -51,7 +51,8 @@ pub fn serve<L: Ledger>(
     ensures room { OnErr result (has_room cuts.old right ≡ false) }
     ensures cost { searches.new ≤ searches.old + 30 * (2 * arcs circ.old + 2) }
 {
-    if let Raised::Stopped = raise(circ, arc, want, searches) {
+    let raised = raise(circ, arc, want, searches);
+    if raised == Raised::Stopped {
         cuts.begin(right)?;
         mark(circ, right, cuts);
     }
