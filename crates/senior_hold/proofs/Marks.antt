@@ -1,11 +1,11 @@
 -- The set of a right after writes.
 use Rattle.std.proofs.Common.{◌≡◌, ◌≢◌, ℕ, zero, suc, [], ◌∷◌, ◌+◌, ◌<◌, Bool, true, false, refl, sym, ◌∙◌, ap, subst, arith, List, length, replicate, inl, inr}
-use Rattle.std.proofs.lemmas.Bool.{cases_eq}
+use Rattle.std.proofs.lemmas.Bool.{cases_eq, cases_Bool}
 use Rattle.std.proofs.lemmas.Bool.Decides.{nat_tests}
 use Rattle.std.proofs.lemmas.List.{ext_get_or, get_or-replicate, get_or-set_same, get_or-set_other, length-set, length-replicate}
 use Rattle.std.proofs.lemmas.List.FromFn.{get_or-map-range_with_len, length-map-range_with_len}
 use Rattle.std.specs.Prelude.{◌==◌, ◌&&◌, nat_lt, slice_get, slice_set, Option, Some, None, unwrap_or, option_map, IfSome, IsSome, IsTrue, ◌↔◌}
-use Rattle.water_model.specs.CutSets.{CutSets, set_of, with_set}
+use Rattle.water_model.specs.CutSets.{CutSets, set_of, with_set, with_room, has_room}
 use Rattle.senior_hold.specs.MonthNetwork.{list_of}
 use Rattle.senior_hold.proofs.Lists.{get_set, get_set_other, set_twice}
 use Rattle.water_model.specs.Lookups.{has}
@@ -104,3 +104,21 @@ is_unreached v n p t l both h = grind (arith, nat_tests)
 
 pub is_reached : (v n p : ℕ) (t : Bool) → (IsTrue t ↔ (0 < p)) → t ≡ true → nat_lt v n && (p == 0) ≡ false
 is_reached v n p t both h = grind (arith, nat_tests)
+
+-- no right loses its room
+pub room_stays : (c : CutSets) (r q : ℕ) → has_room c q ≡ true → has_room (with_room c r) q ≡ true
+room_stays c r q h = stays c.room r q h
+  where
+    stays : (xs : List Bool) (r q : ℕ) → has xs q ≡ true → has (slice_set xs r true) q ≡ true
+    stays [] r q h = h
+    stays (x ∷ xs) zero zero h = refl
+    stays (x ∷ xs) zero (suc q) h = h
+    stays (x ∷ xs) (suc r) zero h = h
+    stays (x ∷ xs) (suc r) (suc q) h = stays xs r q h
+
+-- a right that lacks room now lacked it before
+pub room_lacked : (old new : CutSets) (r : ℕ) → ((q : ℕ) → has_room old q ≡ true → has_room new q ≡ true) → has_room new r ≡ false → has_room old r ≡ false
+room_lacked old new r keeps none = elim (cases_Bool (has_room old r)) [
+  | inl had ↦ absurd (let both : false ≡ true = sym none ∙ keeps r had in cc (both))
+  | inr lacked ↦ lacked
+]

@@ -97,10 +97,9 @@ fn read_takes(basin: &Basin, circ: &Circulation, arcs: &Arcs, into: &mut [u64])
         when (takes basin.now r) (flow_of circ.now (take_arc basin.now r))) }
 {
     for right in 0..basin.rights.len() {
-        into[right] = if taking_node(basin, right as u32).is_some() {
-            circ.flow(arcs.rights[right])
-        } else {
-            0
+        into[right] = match taking_node(basin, right as u32) {
+            Some(_) => circ.flow(arcs.rights[right]),
+            None => 0,
         };
     }
 }

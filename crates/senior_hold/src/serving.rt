@@ -1,10 +1,10 @@
 //! One right's turn.
-ghost use Rattle.std.specs.Prelude.{◌≡◌, ◌+◌, ◌*◌, ◌^◌, ◌<◌, ◌≤◌, length, slice_index, replicate, false, Some, None, OnOk};
-ghost use Rattle.water_model.specs.CutSets.{set_of, with_set};
+ghost use Rattle.std.specs.Prelude.{◌≡◌, ◌+◌, ◌*◌, ◌^◌, ◌<◌, ◌≤◌, length, slice_index, replicate, false, Some, None, OnOk, OnErr};
+ghost use Rattle.water_model.specs.CutSets.{set_of, with_set, has_room};
 ghost use Rattle.circulation.specs.Contents.{network, arcs, IsCirculation};
 ghost use Rattle.augment.specs.Raised.{HasWayOut, not_reached};
 ghost use Rattle.senior_hold.specs.MonthNetwork.{list_of};
-ghost use Rattle.senior_hold.specs.Serving.{IsServed, SameEnds, SameShape};
+ghost use Rattle.senior_hold.specs.Serving.{IsServed, SameEnds, KeepsShape};
 
 use augment::{Raised, raise, reached};
 use circulation::Circulation;
@@ -28,7 +28,7 @@ fn mark(circ: &Circulation, right: u32, cuts: &mut CutList)
 }
 
 /// Raises a right's arc to its want, or as far as it can be; gives a right that stays short the greatest tight cut of
-/// its arc; and holds what the arc has of the want. Want of memory comes only at the cut.
+/// its arc; and holds what the arc has of the want. Memory can run out only for a right without room for a set.
 pub fn serve<L: Ledger>(
     circ: &mut Circulation,
     arc: u32,
@@ -47,10 +47,12 @@ pub fn serve<L: Ledger>(
     ensures served { OnOk result (IsServed circ.old circ.new arc want cuts.old cuts.new right) }
     ensures kept { OnOk result (IsCirculation circ.new) }
     ensures ends { SameEnds circ.old circ.new }
-    ensures shape { SameShape cuts.old cuts.new }
+    ensures shape { KeepsShape cuts.old cuts.new }
+    ensures room { OnErr result (has_room cuts.old right ≡ false) }
     ensures cost { searches.new ≤ searches.old + 30 * (2 * arcs circ.old + 2) }
 {
-    if let Raised::Stopped = raise(circ, arc, want, searches) {
+    let raised = raise(circ, arc, want, searches);
+    if raised == Raised::Stopped {
         cuts.begin(right)?;
         mark(circ, right, cuts);
     }

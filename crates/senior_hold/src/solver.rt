@@ -1,12 +1,12 @@
 //! The solver of a basin's months.
-ghost use Rattle.std.specs.Prelude.{◌≡◌, ℕ, ◌+◌, ◌*◌, ◌^◌, ◌<◌, ◌≤◌, length, slice_index, IfOk, OnOk};
+ghost use Rattle.std.specs.Prelude.{◌≡◌, ℕ, ◌+◌, ◌*◌, ◌^◌, ◌<◌, ◌≤◌, length, slice_index, IfOk, OnOk, OnErr};
 ghost use Rattle.water_text.specs.Months.{IsMonth};
 ghost use Rattle.water_model.specs.Valid.{IsValidBasin};
 ghost use Rattle.water_model.specs.RunOfRiver.{IsRunOfRiver};
 ghost use Rattle.circulation.specs.Contents.{network};
 ghost use Rattle.river_net.specs.Net.{IsNet};
 ghost use Rattle.senior_hold.specs.MonthNetwork.{arc_count, HasBasinEnds};
-ghost use Rattle.senior_hold.specs.Solved.{FitsPlan, FitsCuts, AreSupplies, AreWants, IsGiven, IsSolved};
+ghost use Rattle.senior_hold.specs.Solved.{FitsPlan, FitsCuts, AreSupplies, AreWants, IsGiven, IsSolved, LacksRoom};
 ghost use Rattle.senior_hold.specs.Layouts.{IsLayout, FitsRoom, IsBegun};
 
 use crate::amounts::{lay, read_plan, write_bounds};
@@ -109,11 +109,12 @@ fn solve<L: Ledger>(
     requires ends { HasBasinEnds basin.now (network circ.old) }
     requires month { IsMonth month }
     requires given { IsGiven basin.now month supply.now want.now plan.old cuts.old }
-    ensures room { FitsRoom basin.now room.new }
+    ensures fits_room { FitsRoom basin.now room.new }
     ensures ends { HasBasinEnds basin.now (network circ.new) }
     ensures plan { FitsPlan basin.now plan.new }
     ensures cuts { FitsCuts basin.now cuts.new }
     ensures solved { OnOk result (IsSolved basin.now month supply.now want.now plan.new cuts.new) }
+    ensures room { OnErr result (LacksRoom basin.now cuts.old) }
     ensures pushes { searches.new ≤ searches.old + length basin.now.rights * (30 * (2 * arc_count basin.now + 2)) }
 {
     begin(basin, layout, room, circ, month, supply, want, plan);
@@ -210,8 +211,8 @@ impl<'b> Solver<'b> {
     /// supply is indexed by node, the want by right, both in units of 1,000 cubic metres. Without rights the plan is the
     /// run of the river. Each search that finds a walk ticks `searches` once.
     ///
-    /// AllocError comes where memory for a set is lacking, and at no other place. Then the lists keep their lengths and
-    /// the solver can go on, but the plan and the sets say nothing of the month.
+    /// AllocError comes only where memory for the set of a right is lacking that had no room for one yet. Then the lists
+    /// keep their lengths and the solver can go on, but the plan and the sets say nothing of the month.
     pub fn solve_month<L: Ledger>(
         &mut self,
         month: Month,
@@ -227,6 +228,7 @@ impl<'b> Solver<'b> {
         ensures plan { FitsPlan self.old plan.new }
         ensures cuts { FitsCuts self.old cuts.new }
         ensures solved { OnOk result (IsSolved self.old month supply.now want.now plan.new cuts.new) }
+        ensures room { OnErr result (LacksRoom self.old cuts.old) }
         ensures pushes { searches.new ≤ searches.old + length self.old.rights * (30 * (2 * arc_count self.old + 2)) }
     {
         solve(

@@ -1,5 +1,7 @@
 use Rattle.std.proofs.Common.{◌≡◌, ◌∙◌, ◌+◌, ◌*◌, ◌≤◌, length, arith, refl, ap, subst}
 use Rattle.senior_hold.proofs.Solves.{IsStanding, standing_start, standing_next, standing_end}
+use Rattle.std.proofs.lemmas.Result.{err_from_is_err_and}
+use Rattle.senior_hold.proofs.Marks.{room_lacked}
 use Rattle.senior_hold.specs.MonthNetwork.{arc_count}
 use Rattle.senior_hold.proofs.Turns.{turn_in_range, one_more, within_all, order_of_roll, turn, turn_arc, turn_want, turn_way_out, turn_free}
 use Rattle.senior_hold.proofs.solver.solve.Goals as goal
@@ -8,6 +10,7 @@ pub loop-right-init : goal.loop-right-init
 loop-right-init g c = record {
   standing = standing_start c.args.basin.now c.args.month c.args.supply.now c.args.want.now c.args.layout.now.roll.order c.begin.new.circ c.args.cuts.now c.begin.new.plan c.args.plan.now c.begin.ensures.begun c.requires.given;
   first = λ e. refl;
+  room = λ r h. h;
   cost = omega arith;
 }
 
@@ -43,6 +46,7 @@ loop-right-preserved g c =
       standing = standing_next c.args.basin.now c.args.month c.args.supply.now c.args.want.now c.args.layout.now.roll.order c.loop-right.right-index _ c.index.result.now _ c.loop-right.circ c.serve.new.circ c.loop-right.cuts c.serve.new.cuts
           c.requires.valid t.below t.is o c.loop-right.invariant.standing t.arc_is refl c.in_ok-serve.ensures.served c.in_ok-serve.ensures.kept;
       first = λ e. absurd (omega arith);
+      room = λ r h. c.serve.ensures.shape.room r (c.loop-right.invariant.room r h);
       cost = one_more (arc_count c.args.basin.now) (length c.loop-right.circ.from) c.loop-right.right-index _ _ _ c.loop-right.invariant.standing.net.ends.arcs c.loop-right.invariant.cost c.serve.ensures.cost;
     }
 
@@ -72,6 +76,13 @@ serve-requires-clause-right g c =
     let o = order_of_roll c.args.basin.now c.args.layout.now.roll c.requires.valid c.requires.layout.is_roll in
     let inside = turn_in_range c.args.basin.now c.args.layout.now.roll.order c.by_seniority-right-items.result.now c.loop-right.right-index o c.by_seniority-right-items.ensures c.loop-right-test.true in
     omega (arith, inside, c.loop-right.invariant.standing.cut_rights)
+
+pub returns-in_err-serve-clause-room : goal.returns-in_err-serve-clause-room
+returns-in_err-serve-clause-room g c =
+    let o = order_of_roll c.args.basin.now c.args.layout.now.roll c.requires.valid c.requires.layout.is_roll in
+    let inside = turn_in_range c.args.basin.now c.args.layout.now.roll.order c.by_seniority-right-items.result.now c.loop-right.right-index o c.by_seniority-right-items.ensures c.loop-right-test.true in
+    let p = err_from_is_err_and c.from_residual.result c.from_residual.ensures.1 in
+    rw p.1 (record { right = _; in_range = inside; no_room = room_lacked c.args.cuts.now c.loop-right.cuts _ c.loop-right.invariant.room c.in_err-serve.ensures.room })
 
 pub returns-in_err-serve-clause-pushes : goal.returns-in_err-serve-clause-pushes
 returns-in_err-serve-clause-pushes g c =

@@ -1,4 +1,5 @@
-use Rattle.std.proofs.Common.{◌≡◌, ◌≤◌, ◌+◌, ◌*◌}
+use Rattle.std.proofs.Common.{◌≡◌, ◌≤◌, ◌+◌, ◌*◌, ℕ, true}
+use Rattle.water_model.specs.CutSets.{has_room}
 use Rattle.senior_hold.specs.MonthNetwork.{arc_count}
 use Rattle.senior_hold.proofs.Solves.{IsStanding}
 use Rattle.senior_hold.proofs.solver.solve.Given as goal
@@ -7,5 +8,6 @@ abbrev pub invariant-loop-right : goal.invariant-loop-right
 invariant-loop-right g l = record {
   standing : IsStanding l.basin l.fn.month l.fn.supply l.want l.fn.layout.roll.order l.right-index l.circ l.cuts;
   first : l.right-index ≡ 0 → l.circ ≡ l.initial.circ;
+  room : (r : ℕ) → has_room l.fn.cuts r ≡ true → has_room l.cuts r ≡ true;
   cost : l.searches ≤ l.fn.searches + l.right-index * (30 * (2 * arc_count l.basin + 2));
 }
