@@ -1,12 +1,11 @@
 -- The record of a solved month follows the records before it.
-use Rattle.std.proofs.Common.{◌≡◌, ℕ, ◌+◌, ◌*◌, ◌^◌, ◌<◌, ◌≤◌, Bool, refl, sym, ◌∙◌, ap, subst, arith, List, [], ◌∷◌, length, map, replicate, inl, inr}
-use Rattle.std.specs.Prelude.{slice_index, Some, None, if◌then◌else◌}
+use Rattle.std.proofs.Common.{◌≡◌, ℕ, zero, suc, ◌+◌, ◌^◌, ◌<◌, ◌≤◌, Bool, refl, sym, ◌∙◌, ap, arith, List, [], ◌∷◌, length, map, replicate, inl, inr, get_or}
+use Rattle.std.specs.Prelude.{slice_index, Option, Some, None, if◌then◌else◌, All}
 use Rattle.std.proofs.lemmas.List.{get_or-replicate}
-use Rattle.place_sums.specs.Sums.{total}
 use Rattle.place_sums.proofs.Totals.{total_same, term_le_total}
 use Rattle.water_model.specs.Cuts.{IsReach}
-use Rattle.water_model.specs.CutSets.{CutSets, set_of}
-use Rattle.water_model.specs.History.{IsPartialHistory, Follows, IsShort, cut_of, opening_after, is_zone_of}
+use Rattle.water_model.specs.CutSets.{CutSets, set_of, without_sets}
+use Rattle.water_model.specs.History.{IsPartialHistory, IsShort, cut_of, opening_after, is_zone_of}
 use Rattle.water_model.specs.Lookups.{of_entry}
 use Rattle.water_model.specs.Hydrology.{inflow_at, returned_at, stored_at, run_month, in_year, evaporation, used_of, want_of, want_in_month}
 use Rattle.water_model.specs.Laws.{AreDeliveries}
@@ -15,11 +14,12 @@ use Rattle.water_model.specs.Valid.{IsValidBasin, IsSeriesOf}
 use Rattle.water_model.specs.declared.types.Basin.{Basin}
 use Rattle.water_model.specs.declared.types.Inflows.{Inflows}
 use Rattle.water_model.specs.declared.types.MonthRecord.{MonthRecord}
+use Rattle.water_model.specs.declared.types.Plan.{Plan}
 use Rattle.month_terms.specs.Terms.{FitsRecord, HasReturned, IsSettled, IsConcluded}
-use Rattle.month_terms.proofs.Amounts.{supply_small, nothing_used, want_is}
-use Rattle.senior_hold.specs.Solved.{IsSolved, AreSupplies, FitsCuts}
+use Rattle.month_terms.proofs.Amounts.{supply_small, nothing_used, want_is, want_most, want_carried, follows_small}
+use Rattle.senior_hold.specs.Solved.{IsGiven, IsSolved, AreSupplies, AreWants, FitsCuts}
 use Rattle.senior_hold.specs.Solved as sweep
-use Rattle.month_fold.specs.Runs.{IsNext}
+use Rattle.month_fold.specs.Runs.{RunSeen, StandsFor, IsNext}
 
 -- a record in which the next month begins, behind these records
 pub record IsBegun (b : Basin) (series : Inflows) (records : List MonthRecord) (m : MonthRecord) : Type 0 where
@@ -50,8 +50,12 @@ pub supplies_given : (b : Basin) (series : Inflows) (records : List MonthRecord)
     IsSeriesOf b series → IsBegun b series records m → i ≡ length records → IsSettled b series i m settled → AreSupplies b settled.supply
 supplies_given b series records m settled i valid fits begun at is = record {
   count = is.supply.count;
-  small = omega (arith, supply_small b series records settled.evaporated i valid fits begun.partial, total_same (length b.nodes) (λ n. slice_index settled.supply n)
-      (λ n. inflow_at b series n i + returned_at b (map (λ k. k.delivered) records) n i + stored_at b (opening_after b records) settled.evaporated n) each);
+  small = omega (
+    arith,
+    supply_small b series records settled.evaporated i valid fits begun.partial,
+    total_same (length b.nodes) (λ n. slice_index settled.supply n)
+        (λ n. inflow_at b series n i + returned_at b (map (λ k. k.delivered) records) n i + stored_at b (opening_after b records) settled.evaporated n) each,
+  );
 }
   where
     months : (xs : List MonthRecord) → length (map (λ k. k.delivered) xs) ≡ length xs
@@ -213,3 +217,90 @@ made_follows b series records i begun settled planned made valid fits starts at 
       | inl has ↦ ap (λ c. set_of c r) f.cuts ∙ has.1
       | inr short ↦ absurd (omega (arith, short.0, h, ap (λ xs. slice_index xs r) f.want))
     ]
+
+-- the wants that are settled are small, and of no instream right more than its link carries
+pub wants_given : (b : Basin) (series : Inflows) (i : ℕ) (m settled : MonthRecord) → IsValidBasin b → IsSettled b series i m settled →
+    AreWants b settled.month settled.want
+wants_given b series i m settled valid is = record {
+  count = is.want.count;
+  small = λ r l. rw (is.want.each r l) (want_most b (run_month b i) r valid l);
+  instream = λ r e l on. rw (is.want.each r l, is.month) (want_carried b (run_month b i) r e on);
+}
+
+pub settled_given : (b : Basin) (series : Inflows) (records : List MonthRecord) (i : ℕ) (m settled : MonthRecord) (cuts : CutSets) → IsValidBasin b →
+    IsSeriesOf b series → IsBegun b series records m → i ≡ length records → FitsRecord b m → IsSettled b series i m settled →
+    cuts ≡ without_sets settled.cuts → IsGiven b settled.month settled.supply settled.want settled.plan cuts
+settled_given b series records i m settled cuts valid fits begun at shape is none = record {
+  supplies = supplies_given b series records m settled i valid fits begun at is;
+  wants = wants_given b series i m settled valid is;
+  fits_plan = record {
+    flow = ap (λ k. length k.plan.flow) is.rest ∙ shape.flow;
+    take = ap (λ k. length k.plan.take) is.rest ∙ shape.take;
+    out = ap (λ k. length k.plan.out) is.rest ∙ shape.out;
+  };
+  fits_cuts = record {
+    nodes = ap (λ c. c.nodes) none ∙ (ap (λ k. k.cuts.nodes) is.rest ∙ shape.fits.cut_nodes);
+    rights = ap (λ c. length c.sets) none ∙ (emptied settled.cuts.sets ∙ (ap (λ k. length k.cuts.sets) is.rest ∙ shape.fits.cuts));
+  };
+  no_sets = λ r l. ap (λ c. set_of c r) none ∙ no_set settled.cuts.sets r;
+}
+  where
+    nothing : Option (List Bool)
+    nothing = None
+
+    emptied : (sets : List (Option (List Bool))) → length (map (λ _. nothing) sets) ≡ length sets
+    emptied [] = refl
+    emptied (x ∷ sets) = omega (arith, emptied sets)
+
+    no_set : (sets : List (Option (List Bool))) (r : ℕ) → of_entry (map (λ _. nothing) sets) r (λ set. set) None ≡ None
+    no_set [] r = refl
+    no_set (x ∷ sets) zero = refl
+    no_set (x ∷ sets) (suc r) = no_set sets r
+
+-- what is planned takes little
+pub planned_small : (b : Basin) (series : Inflows) (i : ℕ) (m settled : MonthRecord) (plan : Plan) (cuts : CutSets) → IsValidBasin b →
+    IsSettled b series i m settled → IsSolved b settled.month settled.supply settled.want plan cuts →
+    (r : ℕ) → r < length b.rights → slice_index plan.take r ≤ 10 ^ 9
+planned_small b series i m settled plan cuts valid is solved r l =
+    omega (arith, solved.greatest.plan.wants r l, (wants_given b series i m settled valid is).small r l)
+
+-- and delivers little
+pub next_small : (b : Basin) (series : Inflows) (records : List MonthRecord) (m : MonthRecord) → IsValidBasin b → IsNext b series records m →
+    All (λ n. n ≤ 10 ^ 9) m.delivered
+next_small b series records m valid next = λ k d l. rw (any_default m.delivered k d 0 l) ((follows_small b series records m valid next.follows).delivered k)
+  where
+    any_default : (xs : List ℕ) (k d e : ℕ) → k < length xs → get_or xs k d ≡ get_or xs k e
+    any_default [] k d e l = absurd (omega arith)
+    any_default (x ∷ xs) zero d e l = refl
+    any_default (x ∷ xs) (suc k) d e l = any_default xs k d e (omega arith)
+
+-- the record in which a run's next month begins, with what comes back
+pub run_begun : (run : RunSeen) (records : List MonthRecord) (m : MonthRecord) → StandsFor run records →
+    m ≡ record run.last { returned = m.returned } → HasReturned run.basin (map (λ k. k.delivered) records) m.returned →
+    run.last.used ≡ replicate (length run.basin.rights) 0 → IsBegun run.basin run.series records m
+run_begun run records m stands is returned used = record {
+  partial = stands.partial;
+  stored = ap (λ k. k.closing) is ∙ stands.stored;
+  returned = returned;
+  used = ap (λ k. k.used) is ∙ used;
+}
+
+pub begun_fits : (b : Basin) (m begun : MonthRecord) → FitsRecord b m → begun ≡ record m { returned = begun.returned } →
+    length begun.returned ≡ length m.returned → FitsRecord b begun
+begun_fits b m begun fits is count = record {
+  fits = record {
+    opening = ap (λ k. length k.opening) is ∙ fits.fits.opening;
+    evaporated = ap (λ k. length k.evaporated) is ∙ fits.fits.evaporated;
+    closing = ap (λ k. length k.closing) is ∙ fits.fits.closing;
+    returned = count ∙ fits.fits.returned;
+    supply = ap (λ k. length k.supply) is ∙ fits.fits.supply;
+    used = ap (λ k. length k.used) is ∙ fits.fits.used;
+    want = ap (λ k. length k.want) is ∙ fits.fits.want;
+    delivered = ap (λ k. length k.delivered) is ∙ fits.fits.delivered;
+    cuts = ap (λ k. length k.cuts.sets) is ∙ fits.fits.cuts;
+    cut_nodes = ap (λ k. k.cuts.nodes) is ∙ fits.fits.cut_nodes;
+  };
+  flow = ap (λ k. length k.plan.flow) is ∙ fits.flow;
+  take = ap (λ k. length k.plan.take) is ∙ fits.take;
+  out = ap (λ k. length k.plan.out) is ∙ fits.out;
+}

@@ -17,16 +17,28 @@ use std::sync::ledger::Ledger;
 use steps::Steps;
 use water_model::types::{Basin, Inflows, MonthRecord};
 
-/// Writes what comes back to each node this month.
-fn bring_back(basin: &Basin, lags: &Lags, returned: &mut [u64])
+/// Writes what arrives at each node this month.
+fn read_arrivals(basin: &Basin, lags: &Lags, returned: &mut [u64])
     requires basin { IsValidBasin basin.now }
     requires rows { rows_of lags.now ≡ basin.now.returns }
     requires returned { length returned.old ≡ length basin.now.nodes }
-    ensures length { length returned.new ≡ length basin.now.nodes }
+    ensures length { length returned.new ≡ length returned.old }
     ensures each { (deliveries : List (List ℕ)) → lag.StandsFor lags.now basin.now.returns deliveries → HasReturned basin.now deliveries returned.new }
 {
     returned.fill(0);
     lags.arrive(returned);
+}
+
+/// Writes what comes back to each node this month into its record.
+fn bring_back(basin: &Basin, lags: &Lags, month: &mut MonthRecord)
+    requires basin { IsValidBasin basin.now }
+    requires rows { rows_of lags.now ≡ basin.now.returns }
+    requires returned { length month.old.returned ≡ length basin.now.nodes }
+    ensures each { (deliveries : List (List ℕ)) → lag.StandsFor lags.now basin.now.returns deliveries → HasReturned basin.now deliveries month.new.returned }
+    ensures rest { month.new ≡ record month.old { returned = month.new.returned } }
+    ensures length { length month.new.returned ≡ length month.old.returned }
+{
+    read_arrivals(basin, lags, month.returned.as_mut_slice());
 }
 
 /// Solves the month with this index in a record that has the closing storage of the month before. `tables` has the area
@@ -61,7 +73,7 @@ pub fn next_month<L: Ledger>(
         IsNext basin.now series.now records month.new) }
     ensures pushes { searches.new ≤ searches.old + length basin.now.rights * (30 * (2 * arc_count basin.now + 2)) }
 {
-    bring_back(basin, lags, month.returned.as_mut_slice());
+    bring_back(basin, lags, month);
     settle(basin, series, tables, index, month);
     month.cuts.clear();
     solver.solve_month(

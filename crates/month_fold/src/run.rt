@@ -46,11 +46,7 @@ impl<'b> Model for Run<'b> {
 
 impl<'b> Run<'b> {
     /// A run before its first month. AllocError comes where memory is lacking.
-    pub fn open(
-        alloc: Global,
-        basin: &'b Basin,
-        series: &'b Inflows,
-    ) -> Result<Run<'b>, AllocError>
+    pub fn open(alloc: Global, basin: &'b Basin, series: &'b Inflows) -> Result<Run<'b>, AllocError>
         requires basin { IsValidBasin basin.now }
         requires series { IsSeriesOf basin.now series.now }
         ensures basin { IfOk result (λ run. run.basin ≡ basin.now) }

@@ -1,4 +1,3 @@
-use Rattle.std.proofs.Common.{length, arith}
 use Rattle.month_fold.proofs.Counts.{zeros_count, mapped_count, no_sets_count, no_sets_nodes}
 use Rattle.month_fold.proofs.blank.blank_month.Goals as goal
 
