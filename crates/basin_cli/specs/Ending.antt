@@ -1,5 +1,5 @@
 -- How a call may end, and the line that it puts to err.
-use Rattle.std.specs.Prelude.{ℕ, List, [], ◌++◌, codes, Option, Some, None}
+use Rattle.std.specs.Prelude.{ℕ, List, [], ◌++◌, codes, Option, Some, None, ⊤}
 use Rattle.std.specs.Fmt.{decimal}
 use Rattle.basin_tree.specs.declared.walk.Finding.{Finding}
 use Rattle.basin_tree.specs.Faults.{fault_name}
@@ -10,7 +10,7 @@ use Rattle.inflow_file.specs.declared.refused.SeriesRefused.{SeriesRefused}
 use Rattle.inflow_file.specs.declared.refused.SeriesRefused.TheVariants as refused
 use Rattle.water_model.specs.Basin.{node_name}
 use Rattle.water_model.specs.declared.types.Basin.{Basin}
-use Rattle.water_text.specs.Months.{month_digits}
+use Rattle.water_text.specs.Months.{month_digits, IsMonth}
 use Rattle.basin_cli.specs.declared.ending.File.{File}
 use Rattle.basin_cli.specs.declared.ending.File.TheVariants as file
 use Rattle.basin_cli.specs.declared.ending.SeriesFinding.{SeriesFinding}
@@ -68,3 +68,12 @@ line_of (ending.ReadFault file) = codes "read: " ++ file_name file ++ codes "\n"
 line_of ending.WriteFault = codes "write: failed\n"
 line_of ending.OutOfMemory = codes "out of memory\n"
 line_of (ending.InputTooLong file) = codes "too long: " ++ file_name file ++ codes "\n"
+
+-- the month of a missing amount is one that can be spelled
+abbrev pub CanBeSpelled : SeriesFinding → Type 0
+CanBeSpelled (finding.Record fault number) = ⊤
+CanBeSpelled (finding.Missing month node) = IsMonth month
+
+abbrev pub CanBeTold : Ending → Type 0
+CanBeTold (ending.SeriesRefused finding) = CanBeSpelled finding
+CanBeTold ending = ⊤

@@ -1,7 +1,8 @@
 pub mod Command
-pub mod Refusal
 pub mod Ending
+pub mod Header
+pub mod Headline
 pub mod Outcome
 pub mod Code
-pub mod Rivers
-pub mod Unaccepted
+pub mod Drafts
+pub mod Series

@@ -1,23 +1,55 @@
 //! How a call ends, and the line that tells it on err.
-ghost use Rattle.std.specs.Prelude.{◌≡◌, ◌↔◌, IsTrue, []};
-ghost use Rattle.basin_cli.specs.Ending.{status_of, line_of, refusal_line};
+ghost use Rattle.std.specs.Prelude.{◌≡◌, ◌↔◌, ◌≤◌, ◌++◌, IsTrue, [], codes, length};
+ghost use Rattle.water_text.specs.Months.{IsMonth};
+ghost use Rattle.basin_cli.specs.Ending.{status_of, line_of, refusal_line, series_line, file_name, series_fault_name, CanBeTold, CanBeSpelled};
 ghost use Rattle.basin_cli.specs.Outcome.{IsQuiet, Tells};
 
 use crate::status::Status;
 use basin_tree::walk::Finding;
+use inflow_file::SeriesFault;
 use water_edge::Sink;
 use water_text::line::Line;
+use water_text::month::Month;
+use water_text::name::Name;
+
+/// A file of a command.
+#[derive(Clone, Copy, Debug, PartialEq, Eq)]
+pub enum File {
+    Basin,
+    Series,
+}
+
+impl File {
+    /// The word for the file.
+    #[tactic(auto, unfolding(crate::specs::Ending::file_name))]
+    fn name(&self) -> &'static str
+        ensures { result.now ≡ file_name self.now }
+    {
+        match self {
+            File::Basin => "BASIN",
+            File::Series => "SERIES",
+        }
+    }
+}
+
+/// Why a series is refused: a record at fault, or an amount that is missing.
+#[derive(Drop)]
+pub enum SeriesFinding {
+    Record { fault: SeriesFault, number: u64 },
+    Missing { month: Month, node: Name },
+}
 
 /// How a call ended, with what its line on err tells.
-#[derive(Clone, Copy)]
+#[derive(Drop)]
 pub enum Ending {
     Done,
     Usage,
     BasinRefused(Finding),
-    ReadFault,
+    SeriesRefused(SeriesFinding),
+    ReadFault(File),
     WriteFault,
     OutOfMemory,
-    InputTooLong,
+    InputTooLong(File),
 }
 
 impl Ending {
@@ -36,11 +68,28 @@ impl Ending {
             Ending::Done => Status::Done,
             Ending::Usage => Status::Usage,
             Ending::BasinRefused(_) => Status::BasinRefused,
-            Ending::ReadFault => Status::ReadFault,
+            Ending::SeriesRefused(_) => Status::SeriesRefused,
+            Ending::ReadFault(_) => Status::ReadFault,
             Ending::WriteFault => Status::WriteFault,
             Ending::OutOfMemory => Status::OutOfMemory,
-            Ending::InputTooLong => Status::InputTooLong,
+            Ending::InputTooLong(_) => Status::InputTooLong,
         }
+    }
+}
+
+/// The word for a fault of a series.
+#[tactic(auto, unfolding(crate::specs::Ending::series_fault_name))]
+fn series_fault_name(fault: SeriesFault) -> &'static str
+    ensures { result.now ≡ series_fault_name fault }
+{
+    match fault {
+        SeriesFault::Csv => "Csv",
+        SeriesFault::Header => "Header",
+        SeriesFault::BadMonth => "BadMonth",
+        SeriesFault::NoSuchNode => "NoSuchNode",
+        SeriesFault::NotGauged => "NotGauged",
+        SeriesFault::BadAmount => "BadAmount",
+        SeriesFault::Repeated => "Repeated",
     }
 }
 
@@ -59,25 +108,63 @@ fn put_refusal(line: &mut Line, finding: &Finding)
     line.word(b"\n");
 }
 
+/// Makes the line of a refused series.
+#[tactic(auto, unfolding(crate::specs::Ending::series_line))]
+fn put_series_refusal(line: &mut Line, finding: &SeriesFinding)
+    requires empty { line.old ≡ [] }
+    requires told { CanBeSpelled finding.now }
+    ensures { line.new ≡ series_line finding.now }
+{
+    match finding {
+        SeriesFinding::Record { fault, number } => {
+            line.word(b"series: ");
+            line.word(series_fault_name(*fault).as_bytes());
+            line.word(b" ");
+            line.amount(*number);
+        }
+        SeriesFinding::Missing { month, node } => {
+            line.word(b"series: Missing ");
+            month.put_into(line);
+            line.word(b" ");
+            line.word(node.bytes());
+        }
+    }
+    line.word(b"\n");
+}
+
+/// Makes a line of a word and a file's name.
+fn put_file(line: &mut Line, word: &[u8], file: File)
+    requires empty { line.old ≡ [] }
+    requires short { length word.now ≤ 16 }
+    ensures { line.new ≡ word.now ++ file_name file ++ codes "\n" }
+{
+    line.word(word);
+    line.word(file.name().as_bytes());
+    line.word(b"\n");
+}
+
 /// Makes the line of an ending.
 #[tactic(auto, unfolding(crate::specs::Ending::line_of))]
 fn put_line(line: &mut Line, ending: &Ending)
-    requires { line.old ≡ [] }
+    requires empty { line.old ≡ [] }
+    requires told { CanBeTold ending.now }
     ensures { line.new ≡ line_of ending.now }
 {
     match ending {
         Ending::Done => {}
         Ending::Usage => line.word(b"usage: basin_cli COMMAND WORDS\n"),
         Ending::BasinRefused(finding) => put_refusal(line, finding),
-        Ending::ReadFault => line.word(b"read: BASIN\n"),
+        Ending::SeriesRefused(finding) => put_series_refusal(line, finding),
+        Ending::ReadFault(file) => put_file(line, b"read: ", *file),
         Ending::WriteFault => line.word(b"write: failed\n"),
         Ending::OutOfMemory => line.word(b"out of memory\n"),
-        Ending::InputTooLong => line.word(b"too long: BASIN\n"),
+        Ending::InputTooLong(file) => put_file(line, b"too long: ", *file),
     }
 }
 
 /// Puts the line of an ending to err. If err fails, a front of it stands there. It takes no memory.
 pub fn tell<E: Sink>(ending: &Ending, err: &mut E)
+    requires { CanBeTold ending.now }
     ensures { Tells (E.taken err.old) (E.taken err.new) (E.faults err.old) (E.faults err.new) (line_of ending.now) }
 {
     let mut line = Line::new();

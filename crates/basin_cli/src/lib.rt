@@ -3,8 +3,8 @@
 
 mod command;
 mod ending;
-mod months;
-mod refusal;
+mod draft;
+mod files;
 mod status;
 #[cfg(test)]
 mod tests;

@@ -1,51 +1,101 @@
-//! The result text of records.
-ghost use Rattle.std.specs.Prelude.{◌≡◌, IsErr};
-ghost use Rattle.water_edge.specs.Edge.{HasCause, Puts};
-ghost use Rattle.basin_cli.specs.Rivers.{AreWritable};
-ghost use Rattle.std.specs.List.{flat_map};
-ghost use Rattle.water_model.specs.Spelling.{whole_line};
-ghost use Rattle.water_model.specs.Text.{items_of_month, text_bytes};
-ghost use Rattle.water_model.specs.Valid.{IsValidBasin};
+//! The result text of a run.
+ghost use Rattle.std.specs.Prelude.{ℕ, List, ◌≡◌, ◌+◌, ◌-◌, ◌*◌, ◌<◌, ◌≤◌, IfOk, OnOk};
 ghost use Rattle.rights_roll.specs.Rolls.{IsRollOf};
+ghost use Rattle.water_model.specs.Text.{text_bytes};
+ghost use Rattle.water_model.specs.Valid.{IsValidBasin, IsSeriesOf};
+ghost use Rattle.water_model.specs.declared.types.MonthRecord.{MonthRecord};
+ghost use Rattle.basin_cli.specs.Drafts.{IsDraftOf};
+ghost use Rattle.basin_cli.specs.Headline.{KeepsPriority, most_pushes, run_pushes};
 
+use crate::draft::Draft;
+use month_fold::run::Run;
 use result_text::{put_head, put_month, put_tail};
 use rights_roll::roll::Roll;
-use water_edge::{Sink, SinkFailed};
-use water_model::types::{Basin, MonthRecord};
+use std::alloc::{AllocError, Global};
+use std::sync::ledger::Ledger;
+use steps::Steps;
+use water_model::types::{Basin, Inflows};
 
-/// Puts the lines of the months.
-fn put_months<K: Sink>(
-    out: &mut K,
+/// The roll of a valid basin, as far as memory reaches.
+fn roll_of(alloc: Global, basin: &Basin) -> Result<Roll, AllocError>
+    requires { IsValidBasin basin.now }
+    ensures { IfOk result (IsRollOf basin.now.rights) }
+{
+    // In a valid basin a roll is refused for want of memory alone.
+    match Roll::build(alloc, basin.rights.as_slice(), basin.returns.as_slice()) {
+        Ok(roll) => Ok(roll),
+        Err(_) => Err(AllocError),
+    }
+}
+
+/// Solves the next month and appends its lines.
+fn draft_month<L: Ledger>(
+    draft: &mut Draft,
     basin: &Basin,
     roll: &Roll,
-    records: &[MonthRecord],
-) -> Result<(), SinkFailed>
+    run: &mut Run,
+    searches: &mut Steps<L>,
+) -> Result<(), AllocError>
     requires basin { IsValidBasin basin.now }
     requires roll { IsRollOf basin.now.rights roll.now }
-    requires months { AreWritable basin.now records.now }
-    ensures text { Puts (K.taken out.old) (K.taken out.new) result (flat_map (whole_line basin.now) (flat_map (items_of_month basin.now) records.now)) }
-    ensures cause { HasCause (K.faults out.old) (K.faults out.new) (IsErr result) }
+    requires left { run.old.done < basin.now.months }
+    requires draft { IsDraftOf basin.now run.old draft.old.bytes }
+    ensures series { run.new.series ≡ run.old.series }
+    ensures done { OnOk result (run.new.done ≡ run.old.done + 1) }
+    ensures draft { OnOk result (IsDraftOf basin.now run.new draft.new.bytes) }
+    ensures pushes { searches.new ≤ searches.old + most_pushes basin.now }
 {
-    for record in records {
-        put_month(out, basin, roll, record)?;
+    run.step(searches)?;
+    match put_month(draft, basin, roll, run.month()) {
+        Ok(()) => Ok(()),
+        Err(_) => Err(AllocError),
+    }
+}
+
+/// Solves all months that are left and appends their lines.
+fn draft_months<L: Ledger>(
+    draft: &mut Draft,
+    basin: &Basin,
+    roll: &Roll,
+    run: &mut Run,
+    searches: &mut Steps<L>,
+) -> Result<(), AllocError>
+    requires basin { IsValidBasin basin.now }
+    requires roll { IsRollOf basin.now.rights roll.now }
+    requires draft { IsDraftOf basin.now run.old draft.old.bytes }
+    requires first { run.old.done ≡ 0 }
+    ensures series { run.new.series ≡ run.old.series }
+    ensures done { OnOk result (run.new.done ≡ basin.now.months) }
+    ensures draft { OnOk result (IsDraftOf basin.now run.new draft.new.bytes) }
+    ensures pushes { searches.new ≤ searches.old + run_pushes basin.now }
+{
+    for _month in 0..basin.months {
+        draft_month(draft, basin, roll, run, searches)?;
     }
     Ok(())
 }
 
-/// Puts the text of the records of a run's months. After a failure a front of it was put.
-pub fn put_text<K: Sink>(
-    out: &mut K,
+/// The whole text of a run of a basin with a series, before any of it is written.
+pub fn text_of_run<L: Ledger>(
+    alloc: Global,
     basin: &Basin,
-    roll: &Roll,
-    records: &[MonthRecord],
-) -> Result<(), SinkFailed>
+    series: &Inflows,
+    searches: &mut Steps<L>,
+) -> Result<Draft, AllocError>
     requires basin { IsValidBasin basin.now }
-    requires roll { IsRollOf basin.now.rights roll.now }
-    requires months { AreWritable basin.now records.now }
-    ensures text { Puts (K.taken out.old) (K.taken out.new) result (text_bytes basin.now records.now) }
-    ensures cause { HasCause (K.faults out.old) (K.faults out.new) (IsErr result) }
+    requires series { IsSeriesOf basin.now series.now }
+    ensures text { IfOk result (λ draft. (records : List MonthRecord) × KeepsPriority basin.now series.now records × (draft.bytes ≡ text_bytes basin.now records)) }
+    ensures pushes { searches.new ≤ searches.old + run_pushes basin.now }
 {
-    put_head(out, basin)?;
-    put_months(out, basin, roll, records)?;
-    put_tail(out, basin)
+    let roll = roll_of(alloc, basin)?;
+    let mut run = Run::open(alloc, basin, series)?;
+    let mut draft = Draft::new(alloc);
+    if put_head(&mut draft, basin).is_err() {
+        return Err(AllocError);
+    }
+    draft_months(&mut draft, basin, &roll, &mut run, searches)?;
+    if put_tail(&mut draft, basin).is_err() {
+        return Err(AllocError);
+    }
+    Ok(draft)
 }

@@ -1,0 +1,39 @@
+-- What the records of a run are: the theorem of the program.
+use Rattle.std.specs.Prelude.{◌≡◌, ℕ, ◌+◌, ◌*◌, ◌<◌, ◌≤◌, List, length, slice_index, slice_get, Some}
+use Rattle.month_fold.specs.Reaches.{HaveReaches}
+use Rattle.senior_hold.specs.MonthNetwork.{arc_count}
+use Rattle.water_model.specs.Balance.{IsBalanced}
+use Rattle.water_model.specs.History.{IsHistory}
+use Rattle.water_model.specs.Laws.{ServesSeniors}
+use Rattle.water_model.specs.Plans.{IsPlan, IsGreatest, delivery}
+use Rattle.water_model.specs.declared.types.Basin.{Basin}
+use Rattle.water_model.specs.declared.types.Inflows.{Inflows}
+use Rattle.water_model.specs.declared.types.MonthRecord.{MonthRecord}
+use Rattle.water_model.specs.declared.types.Plan.{Plan}
+
+-- in any plan of the month that delivers at least as much to each right senior to a right, the right gets no more
+abbrev pub NobodyCouldGetMore : Basin → MonthRecord → Type 0
+NobodyCouldGetMore b m =
+    (q : Plan) → IsPlan b m.month m.supply m.want q → (right : ℕ) → right < length b.rights →
+    ServesSeniors b m.delivered m.want q right → delivery b m.want q right ≤ slice_index m.delivered right
+
+-- the records of a run of a basin with a series, which keep the priority of rights and lose no water
+pub record KeepsPriority (b : Basin) (series : Inflows) (records : List MonthRecord) : Type 0 where
+  -- every month opens with exactly what the deliveries, evaporation and lags before it leave, and each short right has
+  -- a tight cut
+  pub history : IsHistory b series records
+  -- the deliveries of a month, in order of seniority, are lexicographically greatest among all plans of the month
+  pub greatest : (i : ℕ) (m : MonthRecord) → slice_get records i ≡ Some m → IsGreatest b m.month m.supply m.want m.plan
+  -- the cut of a short right is its reach, and no other right has one
+  pub reaches : HaveReaches b records
+  -- so no water of a junior could lessen a senior's shortage
+  pub no_more : (i : ℕ) (m : MonthRecord) → slice_get records i ≡ Some m → NobodyCouldGetMore b m
+  -- no water is made or lost
+  pub balanced : IsBalanced b series records
+
+-- the most pushes in a month, and in all months of a run
+abbrev pub most_pushes : Basin → ℕ
+most_pushes b = length b.rights * (30 * (2 * arc_count b + 2))
+
+abbrev pub run_pushes : Basin → ℕ
+run_pushes b = b.months * most_pushes b

@@ -1,0 +1,47 @@
+-- What the files of a command are accepted for, and how reading them may end.
+use Rattle.std.specs.Prelude.{◌≡◌, ℕ, ◌≤◌, List, length, Option, Some, None, ⊤, IfSome}
+use Rattle.std.specs.Option.{option_and_then}
+use Rattle.basin_file.specs.BasinFaults.{file_fault}
+use Rattle.inflow_file.specs.SeriesFaults.{series_fault, SpellsSeries}
+use Rattle.water_model.specs.declared.types.Basin.{Basin}
+use Rattle.water_model.specs.declared.types.Inflows.{Inflows}
+use Rattle.basin_cli.specs.declared.ending.Ending.{Ending}
+use Rattle.basin_cli.specs.declared.ending.Ending.TheVariants as ending
+use Rattle.basin_cli.specs.declared.ending.File.{File}
+use Rattle.basin_cli.specs.declared.ending.File.TheVariants as file
+use Rattle.basin_cli.specs.Ending.{finding_of}
+use Rattle.basin_cli.specs.Outcome.{IsTooLong, file_limit}
+
+-- how the reading of a file may end without its bytes
+abbrev pub FileEnds : File → Option (List ℕ) → Type 0 → Ending → Type 0
+FileEnds file told read (ending.ReadFault named) = (named ≡ file) × read
+FileEnds file told read (ending.InputTooLong named) = (named ≡ file) × IfSome told IsTooLong
+FileEnds file told read ending.OutOfMemory = ⊤
+FileEnds file told read other = ⊥
+
+-- how a basin's bytes may be refused
+abbrev pub BasinEnds : List ℕ → Ending → Type 0
+BasinEnds bytes (ending.BasinRefused finding) = file_fault bytes ≡ Some finding
+BasinEnds bytes ending.OutOfMemory = ⊤
+BasinEnds bytes other = ⊥
+
+-- how the bytes of a basin's series may be refused
+abbrev pub SeriesEnds : Basin → List ℕ → Ending → Type 0
+SeriesEnds b bytes (ending.SeriesRefused finding) = option_and_then (finding_of b) (series_fault b bytes) ≡ Some finding
+SeriesEnds b bytes ending.OutOfMemory = ⊤
+SeriesEnds b bytes other = ⊥
+
+-- the bytes are within the limit, and spell the series of the basin
+pub record IsSeriesText (b : Basin) (series : Inflows) (bytes : List ℕ) : Type 0 where
+  pub within : length bytes ≤ file_limit
+  pub sound : series_fault b bytes ≡ None
+  pub spelled : SpellsSeries b bytes series
+
+-- how the reading of a series may end, where its bytes are told or not
+abbrev pub SeriesReadEnds : Basin → Option (List ℕ) → Type 0 → Ending → Type 0
+SeriesReadEnds b told read (ending.SeriesRefused finding) =
+    IfSome told (λ bytes. (length bytes ≤ file_limit) × (option_and_then (finding_of b) (series_fault b bytes) ≡ Some finding))
+SeriesReadEnds b told read (ending.ReadFault file.Series) = read
+SeriesReadEnds b told read (ending.InputTooLong file.Series) = IfSome told IsTooLong
+SeriesReadEnds b told read ending.OutOfMemory = ⊤
+SeriesReadEnds b told read other = ⊥

@@ -1,0 +1,117 @@
+//! The files of a command: a basin, and a series of its gauged inflows.
+ghost use Rattle.std.specs.Prelude.{◌≡◌, ◌≤◌, None, IfOk, OnOk, IfErr, IfSome, length, option_map};
+ghost use Rattle.water_edge.specs.Edge.{Rose, SameShelf, HasCause};
+ghost use Rattle.basin_file.specs.BasinFaults.{Spells, file_fault};
+ghost use Rattle.inflow_file.specs.SeriesFaults.{series_fault, SpellsSeries};
+ghost use Rattle.water_model.specs.Valid.{IsValidBasin, IsSeriesOf};
+ghost use Rattle.basin_cli.specs.Command.{ServesSeries};
+ghost use Rattle.basin_cli.specs.Ending.{CanBeTold};
+ghost use Rattle.basin_cli.specs.Header.{header};
+ghost use Rattle.basin_cli.specs.Outcome.{file_limit, series_told};
+ghost use Rattle.basin_cli.specs.Series.{FileEnds, BasinEnds, SeriesEnds, SeriesReadEnds, IsSeriesText};
+
+use crate::ending::{Ending, File, SeriesFinding};
+use basin_file::read::{BasinRefused, read_basin};
+use basin_tree::walk::Finding;
+use inflow_file::{HEADER, SeriesRefused, read_inflows};
+use std::alloc::Global;
+use water_edge::{Shelf, ShelfRefused};
+use water_model::types::{Basin, Inflows};
+use water_text::name::Name;
+
+const FILE_LIMIT: u64 = 67_108_864;
+
+/// The bytes of a file of the command.
+pub fn read_file<S: Shelf>(
+    alloc: Global,
+    shelf: &mut S,
+    name: &str,
+    file: File,
+) -> Result<Vec<u8>, Ending>
+    requires { S.serves shelf.old name.now }
+    ensures same { SameShelf (S.told shelf.old) (S.told shelf.new) (S.serves shelf.old) (S.serves shelf.new) }
+    ensures later { S.faults shelf.old ≤ S.faults shelf.new }
+    ensures within { IfOk result (λ text. length text.items ≤ file_limit) }
+    ensures bytes { IfOk result (λ text. IfSome (S.told shelf.old name.now) (λ bytes. text.items ≡ bytes)) }
+    ensures ends { IfErr result (λ e. FileEnds file (S.told shelf.old name.now) (Rose (S.faults shelf.old) (S.faults shelf.new)) e) }
+{
+    match shelf.read_whole(alloc, name, FILE_LIMIT) {
+        Ok(text) => Ok(text),
+        Err(ShelfRefused::Failed) => Err(Ending::ReadFault(file)),
+        Err(ShelfRefused::TooLong) => Err(Ending::InputTooLong(file)),
+        Err(ShelfRefused::OutOfMemory) => Err(Ending::OutOfMemory),
+    }
+}
+
+/// The basin that the bytes spell, or how the call ends.
+pub fn accept_basin(alloc: Global, text: &[u8]) -> Result<Basin, Ending>
+    ensures spelled { IfOk result (λ basin. Spells text.now basin) }
+    ensures valid { IfOk result IsValidBasin }
+    ensures sound { OnOk result (file_fault text.now ≡ None) }
+    ensures ends { IfErr result (λ e. BasinEnds text.now e) }
+{
+    match read_basin(alloc, text) {
+        Ok(basin) => Ok(basin),
+        Err(BasinRefused::OutOfMemory) => Err(Ending::OutOfMemory),
+        Err(
+            BasinRefused::Refused {
+                fault,
+                table,
+                entry,
+            },
+        ) => Err(Ending::BasinRefused(Finding {
+            fault,
+            table,
+            entry,
+        })),
+    }
+}
+
+/// The series that the bytes spell for a basin, or how the call ends.
+fn accept_series(alloc: Global, basin: &Basin, text: &[u8]) -> Result<Inflows, Ending>
+    requires basin { IsValidBasin basin.now }
+    ensures spelled { IfOk result (λ series. SpellsSeries basin.now text.now series) }
+    ensures fits { IfOk result (λ series. IsSeriesOf basin.now series) }
+    ensures sound { OnOk result (series_fault basin.now text.now ≡ None) }
+    ensures ends { IfErr result (λ e. SeriesEnds basin.now text.now e) }
+    ensures told { IfErr result CanBeTold }
+{
+    match read_inflows(alloc, basin, text) {
+        Ok(series) => Ok(series),
+        Err(SeriesRefused::OutOfMemory) => Err(Ending::OutOfMemory),
+        Err(SeriesRefused::Record { fault, number }) => {
+            Err(Ending::SeriesRefused(SeriesFinding::Record { fault, number }))
+        }
+        Err(SeriesRefused::Missing { month, node }) => {
+            match Name::read(basin.nodes[node as usize].name.bytes()) {
+                Some(node) => Err(Ending::SeriesRefused(SeriesFinding::Missing { month, node })),
+                None => unreachable!(),
+            }
+        }
+    }
+}
+
+/// The series of a basin, from the file of this name or, without one, from the header alone; or how the call ends.
+pub fn read_series<S: Shelf>(
+    alloc: Global,
+    shelf: &mut S,
+    name: Option<&str>,
+    basin: &Basin,
+) -> Result<Inflows, Ending>
+    requires basin { IsValidBasin basin.now }
+    requires serves { ServesSeries (S.serves shelf.old) (option_map (λ n. n.now) name) }
+    ensures later { S.faults shelf.old ≤ S.faults shelf.new }
+    ensures fits { IfOk result (λ series. IsSeriesOf basin.now series) }
+    ensures text { IfOk result (λ series. IfSome (series_told (S.told shelf.old) (option_map (λ n. n.now) name)) (IsSeriesText basin.now series)) }
+    ensures ends { IfErr result (λ e. SeriesReadEnds basin.now (series_told (S.told shelf.old) (option_map (λ n. n.now) name))
+        (Rose (S.faults shelf.old) (S.faults shelf.new)) e) }
+    ensures told { IfErr result CanBeTold }
+{
+    match name {
+        None => accept_series(alloc, basin, HEADER),
+        Some(name) => {
+            let text = read_file(alloc, shelf, name, File::Series)?;
+            accept_series(alloc, basin, &text)
+        }
+    }
+}
