@@ -1,0 +1,4 @@
+pub mod CsvRecords
+pub mod Entries
+pub mod RecordsLeft
+pub mod SeriesFaults

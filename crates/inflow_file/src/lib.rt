@@ -1,0 +1,8 @@
+//! Reads the table of gauged inflows: the series of a basin that the bytes spell, or the first fault in them.
+#![tactic(auto)]
+
+pub mod entry;
+mod records;
+mod refused;
+
+pub use refused::{SeriesFault, SeriesRefused};
