@@ -1,5 +1,5 @@
 //! The records of a table, read one after the other.
-ghost use Rattle.std.specs.Prelude.{◌≡◌, OnOk, IfOk};
+ghost use Rattle.std.specs.Prelude.{◌≡◌, true, IfOk};
 ghost use Rattle.csv.specs.Records.{fields_of};
 ghost use Rattle.inflow_file.specs.CsvRecords.{records_of};
 ghost use Rattle.inflow_file.specs.RecordsLeft.{records_left, IsReading, TakesFirst};
@@ -25,11 +25,11 @@ pub(crate) fn read_row(
     row: &mut ByteRecord,
 ) -> Result<bool, AllocError>
     requires { IsReading reader.old }
-    ensures reading { OnOk result (IsReading reader.new) }
+    ensures reading { IfOk result (λ found. found ≡ true → IsReading reader.new) }
     ensures takes { IfOk result (λ found. TakesFirst found (fields_of row.new) (records_left reader.old) (records_left reader.new)) }
 {
-    match reader.read_byte_record(row) {
-        Ok(found) => Ok(found),
-        Err(_) => Err(AllocError),
-    }
+    let Ok(found) = reader.read_byte_record(row) else {
+        return Err(AllocError);
+    };
+    Ok(found)
 }
