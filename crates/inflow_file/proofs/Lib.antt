@@ -1,1 +1,2 @@
+pub mod NodeLaws
 pub mod RecordLaws

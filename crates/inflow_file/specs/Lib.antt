@@ -1,4 +1,5 @@
 pub mod CsvRecords
 pub mod Entries
+pub mod GaugePlaces
 pub mod RecordsLeft
 pub mod SeriesFaults

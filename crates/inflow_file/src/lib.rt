@@ -2,6 +2,7 @@
 #![tactic(auto)]
 
 pub mod entry;
+mod gauges;
 mod records;
 mod refused;
 
