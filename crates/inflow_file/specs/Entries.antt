@@ -1,8 +1,8 @@
 -- What a record of a series says.
-use Rattle.std.specs.Prelude.{ℕ, ◌^◌, List, [], ◌∷◌, Option, Some, None, Result, Ok, Err, position, if◌then◌else◌}
+use Rattle.std.specs.Prelude.{◌≡◌, ℕ, ◌^◌, ◌<◌, ◌≤◌, Bool, true, length, List, [], ◌∷◌, Option, Some, None, Result, Ok, Err, position, if◌then◌else◌}
 use Rattle.std.specs.Str.{bytes_eq}
 use Rattle.water_text.specs.Amounts.{read_amount}
-use Rattle.water_text.specs.Months.{read_month}
+use Rattle.water_text.specs.Months.{IsMonth, read_month}
 use Rattle.water_model.specs.Valid.{is_gauged}
 use Rattle.water_model.specs.declared.types.Basin.{Basin}
 use Rattle.inflow_file.specs.declared.entry.Entry.{Entry}
@@ -27,3 +27,10 @@ read_record b (month ∷ name ∷ amount ∷ []) =
       need fault.BadAmount (read_amount amount (10 ^ 9)) (λ a. Ok (record { month = m; node = n; amount = a }))
     else Err fault.NotGauged))
 read_record b _ = Err fault.Csv
+
+-- what holds of every entry that is read
+pub record IsEntry (b : Basin) (e : Entry) : Type 0 where
+  pub month : IsMonth e.month
+  pub node : e.node < length b.nodes
+  pub gauged : is_gauged b e.node ≡ true
+  pub amount : e.amount ≤ 10 ^ 9

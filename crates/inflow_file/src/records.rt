@@ -1,7 +1,7 @@
 //! The records of a table, read one after the other.
 ghost use Rattle.std.specs.Prelude.{◌≡◌, true, IfOk};
 ghost use Rattle.csv.specs.Records.{fields_of};
-ghost use Rattle.inflow_file.specs.CsvRecords.{records_of};
+ghost use Rattle.inflow_file.specs.CsvRecords.{records_of, is_header, IsThree};
 ghost use Rattle.inflow_file.specs.RecordsLeft.{records_left, IsReading, TakesFirst};
 
 use csv::{ByteRecord, Reader, ReaderBuilder};
@@ -32,4 +32,33 @@ pub(crate) fn read_row(
         return Err(AllocError);
     };
     Ok(found)
+}
+
+/// The three fields of a record, or `None` where it has another number of fields.
+pub(crate) fn three_fields(row: &ByteRecord) -> Option<(&[u8], &[u8], &[u8])>
+    ensures { IsThree (fields_of row.now) result }
+{
+    if row.len() != 3 {
+        return None;
+    }
+    let Some(first) = row.get(0) else {
+        return None;
+    };
+    let Some(second) = row.get(1) else {
+        return None;
+    };
+    let Some(third) = row.get(2) else {
+        return None;
+    };
+    Some((first, second, third))
+}
+
+/// Whether a record is the header.
+pub(crate) fn is_header(row: &ByteRecord) -> bool
+    ensures { result ≡ is_header (fields_of row.now) }
+{
+    match three_fields(row) {
+        Some((first, second, third)) => first == b"month".as_slice() && second == b"node".as_slice() && third == b"amount".as_slice(),
+        None => false,
+    }
 }
