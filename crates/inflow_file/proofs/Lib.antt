@@ -1,3 +1,5 @@
+pub mod DueLaws
 pub mod FieldLaws
 pub mod NodeLaws
 pub mod RecordLaws
+pub mod RunLaws

@@ -100,6 +100,12 @@ passed_most p (suc n) =
     by_test true h = omega arith
     by_test false h = omega arith
 
+same_test : (a c : ℕ) → a ≡ c → a == c ≡ true
+same_test a c h = grind (arith, nat_tests)
+
+other_test : (a c : ℕ) → a < c → a == c ≡ false
+other_test a c h = grind (arith, nat_tests)
+
 -- the place of a number among those that pass a test: as many stand before it as pass below it
 place_from : (p : ℕ → Bool) (from count k x : ℕ) → k < count → x ≡ from + k → p x ≡ true →
     place_in (filter p (numbers_from from count)) x ≡ length (filter p (numbers_from from k))
@@ -108,22 +114,72 @@ place_from p from zero k x l e h = absurd (omega arith)
 place_from p from (suc count) zero x l e h =
     let same : from ≡ x = omega arith in
     let passes : p from ≡ true = ap p same ∙ h in
-    let here : from == x ≡ true = is_same from x same in
+    let here : from == x ≡ true = same_test from x same in
     rw (passes, here) refl
-  where
-    is_same : (a c : ℕ) → a ≡ c → a == c ≡ true
-    is_same a c h = grind (arith, nat_tests)
 place_from p from (suc count) (suc k) x l e h =
-    by_test (p from) (other from x (omega arith)) (place_from p (suc from) count k x (omega arith) (omega arith) h)
+    by_test (p from) (other_test from x (omega arith)) (place_from p (suc from) count k x (omega arith) (omega arith) h)
   where
-    other : (a c : ℕ) → a < c → a == c ≡ false
-    other a c h = grind (arith, nat_tests)
-
     by_test : (t : Bool) → from == x ≡ false → place_in (filter p (numbers_from (suc from) count)) x ≡ length (filter p (numbers_from (suc from) k)) →
         place_in (if t then from ∷ filter p (numbers_from (suc from) count) else filter p (numbers_from (suc from) count)) x
         ≡ length (if t then from ∷ filter p (numbers_from (suc from) k) else filter p (numbers_from (suc from) k))
     by_test true f h = rw f (omega arith)
     by_test false f h = h
+
+-- a number that passes stands at its place
+pub place_holds : (p : ℕ → Bool) (from count k x : ℕ) → k < count → x ≡ from + k → p x ≡ true →
+    (place_in (filter p (numbers_from from count)) x < length (filter p (numbers_from from count)))
+    × (get_or (filter p (numbers_from from count)) (place_in (filter p (numbers_from from count)) x) 0 ≡ x)
+unfolding numbers_from
+place_holds p from zero k x l e h = absurd (omega arith)
+place_holds p from (suc count) zero x l e h =
+    let same : from ≡ x = omega arith in
+    let passes : p from ≡ true = ap p same ∙ h in
+    let here : from == x ≡ true = same_test from x same in
+    rw (passes, here) (omega arith, same)
+place_holds p from (suc count) (suc k) x l e h =
+    by_test (p from) (other_test from x (omega arith)) (place_holds p (suc from) count k x (omega arith) (omega arith) h)
+  where
+    by_test : (t : Bool) → from == x ≡ false →
+        (place_in (filter p (numbers_from (suc from) count)) x < length (filter p (numbers_from (suc from) count)))
+        × (get_or (filter p (numbers_from (suc from) count)) (place_in (filter p (numbers_from (suc from) count)) x) 0 ≡ x) →
+        (place_in (if t then from ∷ filter p (numbers_from (suc from) count) else filter p (numbers_from (suc from) count)) x
+            < length (if t then from ∷ filter p (numbers_from (suc from) count) else filter p (numbers_from (suc from) count)))
+        × (get_or (if t then from ∷ filter p (numbers_from (suc from) count) else filter p (numbers_from (suc from) count))
+            (place_in (if t then from ∷ filter p (numbers_from (suc from) count) else filter p (numbers_from (suc from) count)) x) 0 ≡ x)
+    by_test true f h =
+        let next : 1 + place_in (filter p (numbers_from (suc from) count)) x ≡ suc (place_in (filter p (numbers_from (suc from) count)) x) = omega arith in
+        rw (f, next) (omega (arith, h.0), h.1)
+    by_test false f h = h
+
+passing_from : (p : ℕ → Bool) (from count g : ℕ) → g < length (filter p (numbers_from from count)) → from ≤ get_or (filter p (numbers_from from count)) g 0
+unfolding numbers_from
+passing_from p from zero g l = absurd (omega arith)
+passing_from p from (suc count) g l = by_test (p from) g l (passing_from p (suc from) count)
+  where
+    by_test : (t : Bool) (g : ℕ) → g < length (if t then from ∷ filter p (numbers_from (suc from) count) else filter p (numbers_from (suc from) count)) →
+        ((k : ℕ) → k < length (filter p (numbers_from (suc from) count)) → suc from ≤ get_or (filter p (numbers_from (suc from) count)) k 0) →
+        from ≤ get_or (if t then from ∷ filter p (numbers_from (suc from) count) else filter p (numbers_from (suc from) count)) g 0
+    by_test true zero l further = omega arith
+    by_test true (suc g) l further = let h = further g (omega arith) in omega (arith, h)
+    by_test false g l further = let h = further g l in omega (arith, h)
+
+-- the place of the number that stands at a place
+pub place_of_passing : (p : ℕ → Bool) (from count g : ℕ) → g < length (filter p (numbers_from from count)) →
+    place_in (filter p (numbers_from from count)) (get_or (filter p (numbers_from from count)) g 0) ≡ g
+unfolding numbers_from
+place_of_passing p from zero g l = absurd (omega arith)
+place_of_passing p from (suc count) g l = by_test (p from) g l (place_of_passing p (suc from) count) (passing_from p (suc from) count)
+  where
+    by_test : (t : Bool) (g : ℕ) → g < length (if t then from ∷ filter p (numbers_from (suc from) count) else filter p (numbers_from (suc from) count)) →
+        ((k : ℕ) → k < length (filter p (numbers_from (suc from) count)) → place_in (filter p (numbers_from (suc from) count)) (get_or (filter p (numbers_from (suc from) count)) k 0) ≡ k) →
+        ((k : ℕ) → k < length (filter p (numbers_from (suc from) count)) → suc from ≤ get_or (filter p (numbers_from (suc from) count)) k 0) →
+        place_in (if t then from ∷ filter p (numbers_from (suc from) count) else filter p (numbers_from (suc from) count))
+        (get_or (if t then from ∷ filter p (numbers_from (suc from) count) else filter p (numbers_from (suc from) count)) g 0) ≡ g
+    by_test true zero l further least = rw (same_test from from refl) refl
+    by_test true (suc g) l further least =
+        let h = least g (omega arith) in
+        rw (other_test from (get_or (filter p (numbers_from (suc from) count)) g 0) h, further g (omega arith)) (omega arith)
+    by_test false g l further least = further g l
 
 pub place_passed : (p : ℕ → Bool) (count x : ℕ) → x < count → p x ≡ true → place_in (filter p (numbers_from 0 count)) x ≡ passed_below p x
 place_passed p count x l h = place_from p 0 count x x l (omega arith) h
