@@ -6,7 +6,7 @@ use Rattle.std.specs.Option.{option_or}
 use Rattle.std.proofs.lemmas.Bool.{cases_Bool, cases_eq, false≢true}
 use Rattle.std.proofs.lemmas.Bool.Decides.{nat_tests}
 use Rattle.std.proofs.lemmas.List.{ext_get_or, length-map, length-append, length-set, get_or_append_left, get_or-append-add, get_or-map, get_or-set_same, get_or-set_other}
-use Rattle.std.proofs.lemmas.Nat.{div-add-mod', div_below, mod_below, same_from_place}
+use Rattle.std.proofs.lemmas.Nat.{div-add-mod', div_below, mod_below, mul-le}
 use Rattle.water_text.specs.Months.{IsMonth}
 use Rattle.water_text.specs.declared.month.Month.{Month}
 use Rattle.water_model.specs.Hydrology.{run_month, place_in}
@@ -18,7 +18,7 @@ use Rattle.inflow_file.specs.Entries.{IsEntry}
 use Rattle.inflow_file.specs.Given.{given}
 use Rattle.inflow_file.specs.SeriesFaults.{amount_for, due, is_same_month, months_of, repeats, is_in_run}
 use Rattle.inflow_file.specs.declared.entry.Entry.{Entry}
-use Rattle.inflow_file.proofs.NodeLaws.{place_holds, place_of_passing}
+use Rattle.inflow_file.proofs.NodeLaws.{passed_most, place_holds, place_of_passing}
 use Rattle.inflow_file.proofs.RunLaws.{both, same_number, same_itself, length-months, month_there, month_in_run, same_index, same_month_is, same_month_itself}
 
 or_none : {X : Type 0} (r : Option X) → option_or r None ≡ r
@@ -75,6 +75,27 @@ due_at b i g m l k =
     grid_at (months_of b) (gauged_nodes b) i g m 0 (omega (arith, length-months b)) k
     ∙ ap (λ (month : Month). (month, get_or (gauged_nodes b) g 0)) (month_there b i m l)
 
+pub few_gauges : (b : Basin) → length b.nodes ≤ 2000 → gauges b ≤ 2000
+few_gauges b few = omega (arith, few, passed_most (λ n. is_gauged b n) (length b.nodes))
+
+-- the table is small enough for numbers of the machine
+pub small_table : (b : Basin) → b.months ≤ 1200 → length b.nodes ≤ 2000 → b.months * gauges b ≤ 2400000
+small_table b months few = small b.months (gauges b) months (few_gauges b few)
+  where
+    small : (m g : ℕ) → m ≤ 1200 → g ≤ 2000 → m * g ≤ 2400000
+    small m g h k = mul-le m g 1200 2000 h k
+
+-- the gauge of a gauged node
+pub node_there : (b : Basin) (node : ℕ) → node < length b.nodes → is_gauged b node ≡ true →
+    (place_in (gauged_nodes b) node < gauges b) × (get_or (gauged_nodes b) (place_in (gauged_nodes b) node) 0 ≡ node)
+node_there b node l h = place_holds (λ n. is_gauged b n) 0 (length b.nodes) node node l (omega arith) h
+
+pub small_place : (b : Basin) (i node : ℕ) → b.months ≤ 1200 → length b.nodes ≤ 2000 → i < b.months → node < length b.nodes → is_gauged b node ≡ true →
+    (i * gauges b ≤ 2400000) × (i * gauges b + place_in (gauged_nodes b) node < b.months * gauges b)
+small_place b i node months few l k h =
+    let within = cell_within i b.months (gauges b) (place_in (gauged_nodes b) node) l (node_there b node k h).0 in
+    (omega (arith, within, small_table b months few), within)
+
 -- the row and the gauge of a place
 pub record IsSplit (b : Basin) (k : ℕ) : Type 0 where
   pub row : k / gauges b < b.months
@@ -120,11 +141,6 @@ one_entry_more (x ∷ entries) e month node = by_test (is_for month node x) (one
         ≡ option_or (option_map (λ (y : Entry). y.amount) (if t then Some x else find (is_for month node) entries)) (if is_for month node e then Some e.amount else None)
     by_test true h = refl
     by_test false h = h
-
--- the gauge of a gauged node
-pub node_there : (b : Basin) (node : ℕ) → node < length b.nodes → is_gauged b node ≡ true →
-    (place_in (gauged_nodes b) node < gauges b) × (get_or (gauged_nodes b) (place_in (gauged_nodes b) node) 0 ≡ node)
-node_there b node l h = place_holds (λ n. is_gauged b n) 0 (length b.nodes) node node l (omega arith) h
 
 -- each gauge has its own node
 pub own_gauge : (b : Basin) (g node : ℕ) → g < gauges b → get_or (gauged_nodes b) g 0 ≡ node → place_in (gauged_nodes b) node ≡ g
@@ -205,3 +221,36 @@ passes_by b earlier e outside =
         ∙ (one_entry_more earlier e (run_month b (k / gauges b)) (get_or (gauged_nodes b) (k % gauges b) 0)
         ∙ (rw (never (k / gauges b) (get_or (gauged_nodes b) (k % gauges b) 0) s.row) (or_none (amount_for earlier (run_month b (k / gauges b)) (get_or (gauged_nodes b) (k % gauges b) 0)))
         ∙ sym (given_at b earlier (k / gauges b) (k % gauges b) s.row s.gauge))))
+
+-- what entering an entry does, where its month is outside the run
+pub outside_is : (b : Basin) (earlier : List Entry) (e : Entry) (amounts : List (Option ℕ)) → is_in_run b e.month ≡ false → amounts ≡ given b earlier →
+    (repeats b earlier e ≡ false) × (amounts ≡ given b (earlier ++ e ∷ []))
+outside_is b earlier e amounts outside is = (rw outside refl, is ∙ sym (passes_by b earlier e outside))
+
+-- where it has a place in the table, what stands there
+pub stands_there : (b : Basin) (earlier : List Entry) (e : Entry) (i : ℕ) (amounts : List (Option ℕ)) → IsEntry b e → i < b.months → e.month ≡ run_month b i → amounts ≡ given b earlier →
+    get_or amounts (place_for b i e.node) None ≡ amount_for earlier e.month e.node
+stands_there b earlier e i amounts entry l month is =
+    let there = node_there b e.node entry.node entry.gauged in
+    ap (λ xs. get_or xs (place_for b i e.node) None) is
+    ∙ (given_at b earlier i (place_in (gauged_nodes b) e.node) l there.0
+    ∙ (ap (amount_for earlier (run_month b i)) there.1 ∙ ap (λ m. amount_for earlier m e.node) (sym month)))
+
+pub repeated_is : (b : Basin) (earlier : List Entry) (e : Entry) (i : ℕ) (amounts : List (Option ℕ)) → IsEntry b e → i < b.months → e.month ≡ run_month b i → amounts ≡ given b earlier →
+    is_some (get_or amounts (place_for b i e.node) None) ≡ repeats b earlier e
+repeated_is b earlier e i amounts entry l month is =
+    let inside : is_in_run b e.month ≡ true = ap (is_in_run b) month ∙ month_in_run b i l in
+    rw (inside, stands_there b earlier e i amounts entry l month is) refl
+
+pub entered_is : (b : Basin) (earlier : List Entry) (e : Entry) (i : ℕ) (amounts : List (Option ℕ)) → IsMonth b.first → IsEntry b e → i < b.months → e.month ≡ run_month b i →
+    amounts ≡ given b earlier → is_some (get_or amounts (place_for b i e.node) None) ≡ false →
+    (repeats b earlier e ≡ false) × (set amounts (place_for b i e.node) (Some e.amount) ≡ given b (earlier ++ e ∷ []))
+entered_is b earlier e i amounts first entry l month is free =
+    let absent : amount_for earlier (run_month b i) e.node ≡ None =
+    ap (λ m. amount_for earlier m e.node) (sym month) ∙ (sym (stands_there b earlier e i amounts entry l month is) ∙ none_there _ free) in
+    (sym (repeated_is b earlier e i amounts entry l month is) ∙ free,
+      ap (λ xs. set xs (place_for b i e.node) (Some e.amount)) is ∙ sym (enters b earlier e i first entry l month absent))
+  where
+    none_there : (r : Option ℕ) → is_some r ≡ false → r ≡ None
+    none_there None h = refl
+    none_there (Some n) h = cc

@@ -1,6 +1,7 @@
 //! Reads the table of gauged inflows: the series of a basin that the bytes spell, or the first fault in them.
 #![tactic(auto)]
 
+mod amounts;
 pub mod entry;
 mod gauges;
 mod records;
