@@ -3,3 +3,4 @@ pub mod FieldLaws
 pub mod NodeLaws
 pub mod RecordLaws
 pub mod RunLaws
+pub mod TableLaws

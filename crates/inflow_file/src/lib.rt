@@ -4,6 +4,7 @@
 mod amounts;
 pub mod entry;
 mod gauges;
+mod read;
 mod records;
 mod refused;
 
