@@ -1,5 +1,6 @@
 pub mod DueLaws
 pub mod FieldLaws
+pub mod GapLaws
 pub mod NodeLaws
 pub mod RecordLaws
 pub mod RunLaws

@@ -1,7 +1,9 @@
 -- What is kept of the records that were read, and what each step of the reading does.
-use Rattle.std.specs.Prelude.{◌≡◌, ℕ, ◌++◌, ◌∷◌, [], List, map, Option, Some, None, Result, Ok, Err, MatchResult}
+use Rattle.std.specs.Prelude.{◌≡◌, ℕ, ◌++◌, ◌∷◌, [], List, drop, map, Option, Some, None, Result, Ok, Err, MatchResult}
+use Rattle.water_model.specs.Valid.{IsSeriesOf}
 use Rattle.water_model.specs.declared.types.Basin.{Basin}
-use Rattle.inflow_file.specs.SeriesFaults.{IsRefusalOf, amount_for, due, entries_of, first_fault, record_fault}
+use Rattle.water_model.specs.declared.types.Inflows.{Inflows}
+use Rattle.inflow_file.specs.SeriesFaults.{IsRefusalOf, SpellsAmounts, amount_for, due, entries_of, first_fault, missing, record_fault, table_fault}
 use Rattle.inflow_file.specs.declared.entry.Entry.{Entry}
 use Rattle.inflow_file.specs.declared.refused.SeriesFault.{SeriesFault}
 use Rattle.inflow_file.specs.declared.refused.SeriesRefused.{SeriesRefused}
@@ -24,3 +26,13 @@ Takes b before row old new result = old ≡ given_by b before → MatchResult re
 abbrev pub TakesAll : Basin → List (List (List ℕ)) → List (Option ℕ) → Result (Unit {0}) SeriesRefused → Type 0
 TakesAll b rows new (Ok done) = (first_fault b [] 2 rows ≡ None) × (new ≡ given_by b rows)
 TakesAll b rows new (Err e) = IsRefusalOf (first_fault b [] 2 rows) e
+
+-- all records of a table are taken, so that nothing but a missing amount can be at fault, or the first fault is told
+abbrev pub TakesTable : Basin → List (List (List ℕ)) → List (Option ℕ) → Result (Unit {0}) SeriesRefused → Type 0
+TakesTable b table new (Ok done) = (table_fault b table ≡ missing b (entries_of b (drop 1 table))) × (new ≡ given_by b (drop 1 table))
+TakesTable b table new (Err e) = IsRefusalOf (table_fault b table) e
+
+-- the series of the records behind the header is complete, or an amount is missing
+abbrev pub Completes : Basin → List (List (List ℕ)) → Result Inflows SeriesRefused → Type 0
+Completes b rows (Ok series) = (missing b (entries_of b rows) ≡ None) × IsSeriesOf b series × SpellsAmounts b rows series
+Completes b rows (Err e) = IsRefusalOf (missing b (entries_of b rows)) e

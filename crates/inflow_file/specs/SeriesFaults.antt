@@ -81,7 +81,10 @@ IsRefusalOf first e = first ≡ Some e
 abbrev pub IsSeriesRefusal : SeriesRefused → Basin → List ℕ → Type 0
 IsSeriesRefusal e b text = IsRefusalOf (series_fault b text) e
 
--- in each month of the run the inflow of each gauged node is what the records behind the header say
-pub record SpellsSeries (b : Basin) (text : List ℕ) (series : Inflows) : Type 0 where
+-- in each month of the run the inflow of each gauged node is the amount that the records behind the header give
+pub record SpellsAmounts (b : Basin) (rows : List (List (List ℕ))) (series : Inflows) : Type 0 where
   pub each : (node i : ℕ) → node < length b.nodes → is_gauged b node ≡ true → i < b.months →
-      amount_for (entries_of b (drop 1 (records_of text))) (run_month b i) node ≡ Some (inflow_at b series node i)
+      amount_for (entries_of b rows) (run_month b i) node ≡ Some (inflow_at b series node i)
+
+abbrev pub SpellsSeries : Basin → List ℕ → Inflows → Type 0
+SpellsSeries b text series = SpellsAmounts b (drop 1 (records_of text)) series
