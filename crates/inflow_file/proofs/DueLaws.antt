@@ -1,16 +1,14 @@
 -- What is due, and the amounts that are given for it.
-use Rattle.std.proofs.Common.{◌≡◌, ◌≢◌, ◌⊎◌, ℕ, zero, suc, ◌+◌, ◌-◌, ◌*◌, ◌/◌, ◌%◌, ◌<◌, ◌≤◌, Bool, true, false, refl, sym, ap, ◌∙◌, arith, List, [], ◌∷◌, ◌++◌, length, get_or, set, map, filter, inl, inr, Option, Some, None, if◌then◌else◌, is_some, option_map}
-use Rattle.std.specs.Prelude.{◌==◌, ◌&&◌, not}
-use Rattle.std.specs.List.{find, flat_map, range_with_len}
+use Rattle.std.proofs.Common.{◌≡◌, ◌≢◌, ◌⊎◌, ℕ, zero, suc, ◌+◌, ◌*◌, ◌/◌, ◌%◌, ◌<◌, ◌≤◌, Bool, true, false, refl, sym, ap, ◌∙◌, arith, List, [], ◌∷◌, ◌++◌, length, get_or, set, map, replicate, inl, inr, Option, Some, None, if◌then◌else◌, is_some, option_map}
+use Rattle.std.specs.Prelude.{◌==◌, ◌&&◌}
+use Rattle.std.specs.List.{find, flat_map}
 use Rattle.std.specs.Option.{option_or}
 use Rattle.std.proofs.lemmas.Bool.{cases_Bool, cases_eq, false≢true}
-use Rattle.std.proofs.lemmas.Bool.Decides.{nat_tests}
 use Rattle.std.proofs.lemmas.List.{ext_get_or, length-map, length-append, length-set, get_or_append_left, get_or-append-add, get_or-map, get_or-set_same, get_or-set_other}
 use Rattle.std.proofs.lemmas.Nat.{div-add-mod', div_below, mod_below, mul-le}
 use Rattle.water_text.specs.Months.{IsMonth}
 use Rattle.water_text.specs.declared.month.Month.{Month}
 use Rattle.water_model.specs.Hydrology.{run_month, place_in}
-use Rattle.water_model.specs.Places.{numbers_from, places_of}
 use Rattle.water_model.specs.Valid.{gauged_nodes, is_gauged}
 use Rattle.water_model.specs.declared.types.Basin.{Basin}
 use Rattle.water_model.proofs.Gauges.{cell_within}
@@ -247,10 +245,20 @@ pub entered_is : (b : Basin) (earlier : List Entry) (e : Entry) (i : ℕ) (amoun
     (repeats b earlier e ≡ false) × (set amounts (place_for b i e.node) (Some e.amount) ≡ given b (earlier ++ e ∷ []))
 entered_is b earlier e i amounts first entry l month is free =
     let absent : amount_for earlier (run_month b i) e.node ≡ None =
-    ap (λ m. amount_for earlier m e.node) (sym month) ∙ (sym (stands_there b earlier e i amounts entry l month is) ∙ none_there _ free) in
-    (sym (repeated_is b earlier e i amounts entry l month is) ∙ free,
-      ap (λ xs. set xs (place_for b i e.node) (Some e.amount)) is ∙ sym (enters b earlier e i first entry l month absent))
+    ap (λ m. amount_for earlier m e.node) (sym month) ∙ (sym (stands_there b earlier e i amounts entry l month is) ∙ none_there _ free) in (
+      sym (repeated_is b earlier e i amounts entry l month is) ∙ free,
+      ap (λ xs. set xs (place_for b i e.node) (Some e.amount)) is ∙ sym (enters b earlier e i first entry l month absent),
+    )
   where
     none_there : (r : Option ℕ) → is_some r ≡ false → r ≡ None
     none_there None h = refl
     none_there (Some n) h = cc
+
+-- no entry gives an amount
+none_of : (ds : List (Month × ℕ)) → map (λ d. amount_for [] d.0 d.1) ds ≡ replicate (length ds) None
+none_of [] = refl
+none_of (d ∷ ds) = ap (λ xs. None ∷ xs) (none_of ds)
+
+pub none_given : (b : Basin) → given b [] ≡ replicate (b.months * gauges b) None
+unfolding given
+none_given b = none_of (due b) ∙ ap (λ n. replicate n None) (length-due b)

@@ -1,5 +1,5 @@
 -- The three fields of a record.
-use Rattle.std.proofs.Common.{◌≡◌, ◌≢◌, ℕ, zero, suc, ◌<◌, refl, sym, arith, List, [], ◌∷◌, length, Option, Some, None}
+use Rattle.std.proofs.Common.{◌≡◌, ◌≢◌, ℕ, zero, suc, ◌<◌, refl, arith, List, [], ◌∷◌, length, Some, None}
 use Rattle.std.specs.Prelude.{Err}
 use Rattle.csv.specs.Records.{field_at}
 use Rattle.water_model.specs.declared.types.Basin.{Basin}

@@ -1,19 +1,18 @@
 -- The first amount that is missing, and the series where none is.
-use Rattle.std.proofs.Common.{◌≡◌, ◌≢◌, ℕ, zero, suc, ◌+◌, ◌-◌, ◌*◌, ◌/◌, ◌%◌, ◌^◌, ◌<◌, ◌≤◌, Bool, true, false, refl, sym, ap, ◌∙◌, arith, List, [], ◌∷◌, ◌++◌, length, get_or, map, filter, inl, inr, Option, Some, None, if◌then◌else◌, is_some, option_map, unwrap_or, slice_get, slice_index, All, Ok, Err, Result}
-use Rattle.std.specs.Prelude.{◌==◌, ◌&&◌, not, nat_le, cond}
+use Rattle.std.proofs.Common.{◌≡◌, ℕ, zero, suc, ◌+◌, ◌*◌, ◌/◌, ◌%◌, ◌^◌, ◌<◌, ◌≤◌, Bool, true, false, refl, sym, ap, ◌∙◌, arith, List, [], ◌∷◌, length, get_or, map, filter, Option, Some, None, if◌then◌else◌, is_some, option_map, unwrap_or, slice_get, All, Ok, Err, Result}
+use Rattle.std.specs.Prelude.{◌==◌, ◌&&◌, not}
 use Rattle.std.specs.List.{find, cons_option}
 use Rattle.std.specs.Result.{result_ok}
-use Rattle.std.proofs.lemmas.Bool.{cases_Bool, false≢true}
-use Rattle.std.proofs.lemmas.Bool.Decides.{nat_tests}
+use Rattle.std.proofs.lemmas.Bool.{false≢true}
 use Rattle.std.proofs.lemmas.List.{length-map, get_or-map}
-use Rattle.std.proofs.lemmas.List.Elements.{All-from_get_or, All-nil, All-tail, All-head}
+use Rattle.std.proofs.lemmas.List.Elements.{All-from_get_or, All-nil}
 use Rattle.std.proofs.lemmas.Option.{get_or_from_slice_get, same_Some, slice_get_within}
 use Rattle.water_text.specs.Amounts.{read_amount}
 use Rattle.water_text.specs.Months.{read_month}
 use Rattle.water_text.specs.declared.month.Month.{Month}
 use Rattle.water_model.specs.Hydrology.{run_month, place_in, inflow_at, inflow_of_kind, table_at}
 use Rattle.water_model.specs.Lookups.{of_entry}
-use Rattle.water_model.specs.Places.{numbers_from, places_of}
+use Rattle.water_model.specs.Places.{numbers_from}
 use Rattle.water_model.specs.Valid.{IsSeriesOf, IsValidBasin, IsValidRight, gauged_nodes, is_gauged, is_gauged_kind, rights_in_series}
 use Rattle.water_model.specs.declared.types.Basin.{Basin}
 use Rattle.water_model.specs.declared.types.Inflow.{Inflow}
@@ -210,17 +209,17 @@ pub complete_series : (b : Basin) (rows : List (List (List ℕ))) (amounts : Lis
     IsFilled amounts series.amount → series.gauged ≡ gauged_nodes b → series.wanted ≡ [] → series.want ≡ [] →
     (missing b (entries_of b rows) ≡ None) × IsSeriesOf b series × SpellsAmounts b rows series
 complete_series b rows amounts series valid is filled gauged wanted want = (
-    none_missing b (entries_of b rows) amounts is filled.all,
-    record {
-      gauged = gauged;
-      amounts = ap length filled.filled_is ∙ (length-map amounts (λ a. unwrap_or a 0) ∙ (ap length is ∙ (length-given b (entries_of b rows) ∙ ap (λ xs. b.months * length xs) (sym gauged))));
-      small_amounts = small_filled b rows amounts series.amount is filled;
-      wanted = wanted ∙ sym (no_rights b valid.rights);
-      wants = rw (want, wanted) (omega arith);
-      small_wants = rw want (All-nil (λ n. n ≤ 10 ^ 9));
-    },
-    record { each = λ node i l g m. spelled b rows series amounts node i is filled gauged l g m },
-  )
+  none_missing b (entries_of b rows) amounts is filled.all,
+  record {
+    gauged = gauged;
+    amounts = ap length filled.filled_is ∙ (length-map amounts (λ a. unwrap_or a 0) ∙ (ap length is ∙ (length-given b (entries_of b rows) ∙ ap (λ xs. b.months * length xs) (sym gauged))));
+    small_amounts = small_filled b rows amounts series.amount is filled;
+    wanted = wanted ∙ sym (no_rights b valid.rights);
+    wants = rw (want, wanted) (omega arith);
+    small_wants = rw want (All-nil (λ n. n ≤ 10 ^ 9));
+  },
+  record { each = λ node i l g m. spelled b rows series amounts node i is filled gauged l g m },
+)
 
 pub missing_told : (b : Basin) (rows : List (List (List ℕ))) (amounts : List (Option ℕ)) (k : ℕ) (e : SeriesRefused) → amounts ≡ given_by b rows → k < length amounts →
     ((j : ℕ) → j < k → is_some (get_or amounts j None) ≡ true) → is_some (get_or amounts k None) ≡ false →

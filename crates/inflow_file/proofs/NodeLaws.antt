@@ -1,8 +1,8 @@
 -- The numbers of names, and the places of gauges.
-use Rattle.std.proofs.Common.{◌≡◌, ◌≢◌, ℕ, zero, suc, ◌+◌, ◌-◌, ◌<◌, ◌≤◌, Bool, true, false, refl, sym, ap, ◌∙◌, arith, List, [], ◌∷◌, ◌++◌, length, take, drop, get_or, slice_index, filter, position, Option, Some, None, is_some, if◌then◌else◌, inl, inr, add-one, zero-add}
+use Rattle.std.proofs.Common.{◌≡◌, ℕ, zero, suc, ◌+◌, ◌<◌, ◌≤◌, Bool, true, false, refl, sym, ap, ◌∙◌, arith, List, [], ◌∷◌, ◌++◌, length, drop, get_or, slice_index, filter, position, Option, Some, None, is_some, if◌then◌else◌, inl, inr, add-one, zero-add}
 use Rattle.std.specs.Prelude.{◌==◌, cond, nat_lt, not}
 use Rattle.std.specs.Borrow.{Bor}
-use Rattle.std.specs.List.{position_or_len, prefix_len}
+use Rattle.std.specs.List.{position_or_len}
 use Rattle.std.specs.Option.{option_or}
 use Rattle.std.specs.Str.{bytes_eq}
 use Rattle.std.proofs.lemmas.Bool.{cases_Bool, cases_lt, false≢true}
@@ -13,7 +13,7 @@ use Rattle.std.proofs.lemmas.Map.Text.{hash_map_updates_str}
 use Rattle.std.proofs.lemmas.Slice.Eq.{bytes_eq-Decides}
 use Rattle.indexmap.specs.IndexMap.{IndexMap, get_by, UpdatesBy}
 use Rattle.water_model.specs.Hydrology.{place_in}
-use Rattle.water_model.specs.Places.{numbers_from, places_of}
+use Rattle.water_model.specs.Places.{numbers_from}
 use Rattle.water_model.specs.declared.types.Node.{Node}
 use Rattle.inflow_file.specs.GaugePlaces.{AddsNumber, first_named, node_at}
 
@@ -143,9 +143,9 @@ place_holds p from (suc count) (suc k) x l e h =
         (place_in (filter p (numbers_from (suc from) count)) x < length (filter p (numbers_from (suc from) count)))
         × (get_or (filter p (numbers_from (suc from) count)) (place_in (filter p (numbers_from (suc from) count)) x) 0 ≡ x) →
         (place_in (if t then from ∷ filter p (numbers_from (suc from) count) else filter p (numbers_from (suc from) count)) x
-            < length (if t then from ∷ filter p (numbers_from (suc from) count) else filter p (numbers_from (suc from) count)))
+        < length (if t then from ∷ filter p (numbers_from (suc from) count) else filter p (numbers_from (suc from) count)))
         × (get_or (if t then from ∷ filter p (numbers_from (suc from) count) else filter p (numbers_from (suc from) count))
-            (place_in (if t then from ∷ filter p (numbers_from (suc from) count) else filter p (numbers_from (suc from) count)) x) 0 ≡ x)
+        (place_in (if t then from ∷ filter p (numbers_from (suc from) count) else filter p (numbers_from (suc from) count)) x) 0 ≡ x)
     by_test true f h =
         let next : 1 + place_in (filter p (numbers_from (suc from) count)) x ≡ suc (place_in (filter p (numbers_from (suc from) count)) x) = omega arith in
         rw (f, next) (omega (arith, h.0), h.1)

@@ -1,13 +1,11 @@
 -- The records of a text, one after the other.
-use Rattle.std.proofs.Common.{◌≡◌, ◌≢◌, ℕ, zero, suc, ◌+◌, ◌<◌, ◌≤◌, Bool, true, false, refl, sym, ap, ◌∙◌, arith, List, [], ◌∷◌, ◌++◌, length, add-one, Option, Some, None, if◌then◌else◌, inl, inr}
+use Rattle.std.proofs.Common.{◌≡◌, ℕ, zero, suc, ◌+◌, ◌<◌, ◌≤◌, Bool, true, false, refl, ap, ◌∙◌, arith, List, [], ◌∷◌, ◌++◌, length, add-one, Option, Some, None, if◌then◌else◌, inl}
 use Rattle.std.specs.Prelude.{◌==◌, ◌||◌, ◌&&◌}
 use Rattle.std.specs.Borrow.{Bor}
-use Rattle.std.proofs.lemmas.Bool.{cases_Bool}
 use Rattle.csv.specs.Machine.{Read, next_record, step, is_end, ends_at_end, after_end, in_field, start_field, start_record, fields_after, field_after}
-use Rattle.csv.specs.Reading.{AreRecords, Reached, ReadRecord, default_config, records, records_from, records_next, source_of, strip_bom}
+use Rattle.csv.specs.Reading.{Reached, ReadRecord, default_config, records_from, records_next, strip_bom}
 use Rattle.csv.specs.declared.parser.Action.{Action}
 use Rattle.csv.specs.declared.parser.Action.TheVariants as act
-use Rattle.csv.specs.declared.parser.Config.{Config}
 use Rattle.csv.specs.declared.parser.State.{State}
 use Rattle.csv.specs.declared.parser.State.TheVariants as st
 use Rattle.csv.specs.declared.parser.Terminator.TheVariants as term

@@ -1,18 +1,15 @@
 -- The records of a table, from the first to the last.
-use Rattle.std.proofs.Common.{◌≡◌, ℕ, zero, suc, ◌+◌, ◌<◌, ◌≤◌, Bool, true, false, refl, sym, ap, ◌∙◌, arith, List, [], ◌∷◌, ◌++◌, length, append_assoc, Option, Some, None, option_map, Result, Ok, Err, MatchResult, if◌then◌else◌}
-use Rattle.std.specs.List.{filter_map}
-use Rattle.std.specs.Option.{option_or}
+use Rattle.std.proofs.Common.{◌≡◌, ℕ, ◌+◌, true, false, refl, sym, ap, ◌∙◌, List, [], ◌∷◌, ◌++◌, append_assoc, Option, Some, None, Result, Ok, Err, MatchResult}
 use Rattle.std.specs.Result.{result_ok}
 use Rattle.std.proofs.lemmas.List.{append-nil}
 use Rattle.std.proofs.lemmas.List.Elements.{filter_map-append}
 use Rattle.water_model.specs.declared.types.Basin.{Basin}
 use Rattle.inflow_file.specs.Entries.{read_record}
-use Rattle.inflow_file.specs.Given.{given, given_by, Takes}
-use Rattle.inflow_file.specs.SeriesFaults.{entries_of, fault_after, first_fault, record_fault, repeats}
+use Rattle.inflow_file.specs.Given.{given, Takes}
+use Rattle.inflow_file.specs.SeriesFaults.{entries_of, first_fault, record_fault, repeats}
 use Rattle.inflow_file.specs.declared.entry.Entry.{Entry}
 use Rattle.inflow_file.specs.declared.refused.SeriesFault.{SeriesFault}
 use Rattle.inflow_file.specs.declared.refused.SeriesFault.TheVariants as fault
-use Rattle.inflow_file.specs.declared.refused.SeriesRefused.{SeriesRefused}
 use Rattle.inflow_file.specs.declared.refused.SeriesRefused.TheVariants as refused
 
 -- the entries of one record more
@@ -25,8 +22,8 @@ entries_more b before row e reads =
 pub entry_taken : (b : Basin) (before : List (List (List ℕ))) (row : List (List ℕ)) (e : Entry) (old new : List (Option ℕ)) (result : Result (Unit {0}) SeriesFault) →
     Ok e ≡ read_record b row →
     (old ≡ given b (entries_of b before) → MatchResult result
-        (λ _. (repeats b (entries_of b before) e ≡ false) × (new ≡ given b (entries_of b before ++ e ∷ [])))
-        (λ f. (f ≡ fault.Repeated) × (repeats b (entries_of b before) e ≡ true))) →
+    (λ _. (repeats b (entries_of b before) e ≡ false) × (new ≡ given b (entries_of b before ++ e ∷ [])))
+    (λ f. (f ≡ fault.Repeated) × (repeats b (entries_of b before) e ≡ true))) →
     Takes b before row old new result
 entry_taken b before row e old new (Ok done) reads enters is =
     let h = enters is in

@@ -1,5 +1,5 @@
 -- What a record of a series says.
-use Rattle.std.specs.Prelude.{◌≡◌, ℕ, ◌^◌, ◌<◌, ◌≤◌, Bool, true, length, List, [], ◌∷◌, Option, Some, None, Result, Ok, Err, position, if◌then◌else◌}
+use Rattle.std.specs.Prelude.{◌≡◌, ℕ, ◌^◌, ◌<◌, ◌≤◌, true, length, List, [], ◌∷◌, Option, Some, None, Result, Ok, Err, position, if◌then◌else◌}
 use Rattle.std.specs.Str.{bytes_eq}
 use Rattle.water_text.specs.Amounts.{read_amount}
 use Rattle.water_text.specs.Months.{IsMonth, read_month}
@@ -24,7 +24,7 @@ read_record b (month ∷ name ∷ amount ∷ []) =
     need fault.BadMonth (read_month month) (λ m.
     need fault.NoSuchNode (node_named b name) (λ n.
     if is_gauged b n then
-      need fault.BadAmount (read_amount amount (10 ^ 9)) (λ a. Ok (record { month = m; node = n; amount = a }))
+    need fault.BadAmount (read_amount amount (10 ^ 9)) (λ a. Ok (record { month = m; node = n; amount = a }))
     else Err fault.NotGauged))
 read_record b _ = Err fault.Csv
 

@@ -27,9 +27,14 @@ abbrev pub TakesAll : Basin → List (List (List ℕ)) → List (Option ℕ) →
 TakesAll b rows new (Ok done) = (first_fault b [] 2 rows ≡ None) × (new ≡ given_by b rows)
 TakesAll b rows new (Err e) = IsRefusalOf (first_fault b [] 2 rows) e
 
--- all records of a table are taken, so that nothing but a missing amount can be at fault, or the first fault is told
+-- all records of a table are taken, so that nothing but a missing amount can be at fault
+pub record TookTable (b : Basin) (table : List (List (List ℕ))) (amounts : List (Option ℕ)) : Type 0 where
+  pub fault : table_fault b table ≡ missing b (entries_of b (drop 1 table))
+  pub given : amounts ≡ given_by b (drop 1 table)
+
+-- they are, or the first fault is told
 abbrev pub TakesTable : Basin → List (List (List ℕ)) → List (Option ℕ) → Result (Unit {0}) SeriesRefused → Type 0
-TakesTable b table new (Ok done) = (table_fault b table ≡ missing b (entries_of b (drop 1 table))) × (new ≡ given_by b (drop 1 table))
+TakesTable b table new (Ok done) = TookTable b table new
 TakesTable b table new (Err e) = IsRefusalOf (table_fault b table) e
 
 -- the series of the records behind the header is complete, or an amount is missing

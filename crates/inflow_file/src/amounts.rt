@@ -123,7 +123,11 @@ fn filled(alloc: Global, amounts: &[Option<u64>]) -> Result<Vec<u64>, AllocError
 }
 
 /// The series of the amounts, or the first month and node for which none is there.
-pub(crate) fn complete(alloc: Global, gauges: Gauges, amounts: &[Option<u64>]) -> Result<Inflows, SeriesRefused>
+pub(crate) fn complete(
+    alloc: Global,
+    gauges: Gauges,
+    amounts: &[Option<u64>],
+) -> Result<Inflows, SeriesRefused>
     requires basin { IsValidBasin gauges.basin.now }
     requires count { length amounts.now ≡ gauges.basin.now.months * length (gauged_nodes gauges.basin.now) }
     ensures { (rows : List (List (List ℕ))) → amounts.now ≡ given_by gauges.entry.basin.now rows → Completes gauges.entry.basin.now rows result }

@@ -8,4 +8,5 @@ mod read;
 mod records;
 mod refused;
 
+pub use read::{HEADER, read_inflows};
 pub use refused::{SeriesFault, SeriesRefused};

@@ -20,10 +20,7 @@ pub(crate) fn reader_of(alloc: Global, text: &[u8]) -> Reader<&[u8]>
 
 /// Reads the next record into `row`, and says whether there was one. It takes an error of the reader underneath for want of memory:
 /// one over bytes in memory has no other.
-pub(crate) fn read_row(
-    reader: &mut Reader<&[u8]>,
-    row: &mut ByteRecord,
-) -> Result<bool, AllocError>
+pub(crate) fn read_row(reader: &mut Reader<&[u8]>, row: &mut ByteRecord) -> Result<bool, AllocError>
     requires { IsReading reader.old }
     ensures reading { IfOk result (λ found. found ≡ true → IsReading reader.new) }
     ensures takes { IfOk result (λ found. TakesFirst found (fields_of row.new) (records_left reader.old) (records_left reader.new)) }
@@ -58,7 +55,9 @@ pub(crate) fn is_header(row: &ByteRecord) -> bool
     ensures { result ≡ is_header (fields_of row.now) }
 {
     match three_fields(row) {
-        Some((first, second, third)) => first == b"month".as_slice() && second == b"node".as_slice() && third == b"amount".as_slice(),
+        Some((first, second, third)) => first == b"month".as_slice()
+            && second == b"node".as_slice()
+            && third == b"amount".as_slice(),
         None => false,
     }
 }

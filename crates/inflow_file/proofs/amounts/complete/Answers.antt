@@ -1,4 +1,4 @@
-use Rattle.std.proofs.Common.{◌≡◌, ◌∙◌, arith, sym, length, ◌<◌, is_some, get_or, None, true, refl}
+use Rattle.std.proofs.Common.{◌∙◌, arith}
 use Rattle.inflow_file.proofs.GapLaws.{complete_series, missing_told}
 use Rattle.inflow_file.proofs.amounts.complete.Goals as goal
 

@@ -1,5 +1,5 @@
 use Rattle.std.proofs.Common.{arith}
-use Rattle.inflow_file.proofs.RunLaws.{month_behind, month_outside}
+use Rattle.inflow_file.proofs.RunLaws.{month_outside}
 use Rattle.inflow_file.proofs.amounts.index_in_run.Goals as goal
 
 pub returns-then-number-first : goal.returns-then-number-first

@@ -34,6 +34,6 @@ returns c =
       nodes = rw (← end) c.loop-node.invariant.gauged;
       count = c.loop-node.invariant.count ∙ end;
       each = λ node l gauged. rw c.loop-node.invariant.gauged (
-        let below : node < c.loop-node.node = omega arith in
-        c.loop-node.invariant.each node below ∙ sym (place_passed (λ n. is_gauged c.args.basin.now n) c.loop-node.node node below gauged));
+          let below : node < c.loop-node.node = omega arith in
+          c.loop-node.invariant.each node below ∙ sym (place_passed (λ n. is_gauged c.args.basin.now n) c.loop-node.node node below gauged));
     }

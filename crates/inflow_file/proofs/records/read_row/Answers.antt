@@ -1,5 +1,4 @@
 use Rattle.csv.specs.Records.{fields_of}
-use Rattle.std.proofs.Common.{◌≡◌, true}
 use Rattle.inflow_file.proofs.RecordLaws.{reads_on, takes_first}
 use Rattle.inflow_file.proofs.records.read_row.Goals as goal
 

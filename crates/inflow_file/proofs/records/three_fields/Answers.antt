@@ -1,4 +1,4 @@
-use Rattle.std.proofs.Common.{◌≡◌, rules, arith, length}
+use Rattle.std.proofs.Common.{rules, arith}
 use Rattle.csv.specs.Records.{fields_of}
 use Rattle.inflow_file.proofs.FieldLaws.{has_field, three_are}
 use Rattle.inflow_file.proofs.records.three_fields.Goals as goal
