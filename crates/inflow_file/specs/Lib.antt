@@ -1,0 +1,6 @@
+pub mod CsvRecords
+pub mod Entries
+pub mod GaugePlaces
+pub mod Given
+pub mod RecordsLeft
+pub mod SeriesFaults
