@@ -1,7 +1,4 @@
-pub mod RiverMonths
-pub mod Supplies
-pub mod Unbuilt
-pub mod WholeText
+pub mod Missing
 pub mod Names
-pub mod Writable
 pub mod Outcomes
+pub mod Reading

@@ -11,7 +11,7 @@ ghost use Rattle.basin_cli.specs.Outcome.{file_limit, series_told};
 ghost use Rattle.basin_cli.specs.Series.{FileEnds, BasinEnds, SeriesEnds, SeriesReadEnds, IsSeriesText};
 
 use crate::ending::{Ending, File, SeriesFinding};
-use basin_file::read::{BasinRefused, read_basin};
+use basin_file::{BasinRefused, read_basin};
 use basin_tree::walk::Finding;
 use inflow_file::{HEADER, SeriesRefused, read_inflows};
 use std::alloc::Global;
@@ -91,6 +91,18 @@ fn accept_series(alloc: Global, basin: &Basin, text: &[u8]) -> Result<Inflows, E
     }
 }
 
+/// The series of a basin without gauges, from the header alone, or how the call ends.
+#[tactic(auto, unfolding(crate::specs::Header::header))]
+fn header_alone(alloc: Global, basin: &Basin) -> Result<Inflows, Ending>
+    requires basin { IsValidBasin basin.now }
+    ensures fits { IfOk result (λ series. IsSeriesOf basin.now series) }
+    ensures text { IfOk result (λ series. IsSeriesText basin.now series header) }
+    ensures ends { IfErr result (λ e. SeriesEnds basin.now header e) }
+    ensures told { IfErr result CanBeTold }
+{
+    accept_series(alloc, basin, HEADER)
+}
+
 /// The series of a basin, from the file of this name or, without one, from the header alone; or how the call ends.
 pub fn read_series<S: Shelf>(
     alloc: Global,
@@ -102,13 +114,13 @@ pub fn read_series<S: Shelf>(
     requires serves { ServesSeries (S.serves shelf.old) (option_map (λ n. n.now) name) }
     ensures later { S.faults shelf.old ≤ S.faults shelf.new }
     ensures fits { IfOk result (λ series. IsSeriesOf basin.now series) }
-    ensures text { IfOk result (λ series. IfSome (series_told (S.told shelf.old) (option_map (λ n. n.now) name)) (IsSeriesText basin.now series)) }
-    ensures ends { IfErr result (λ e. SeriesReadEnds basin.now (series_told (S.told shelf.old) (option_map (λ n. n.now) name))
+    ensures text { IfOk result (λ series. IfSome (series_told (S.told shelf.old) (option_map (λ n. n.now) name.entry)) (IsSeriesText basin.now series)) }
+    ensures ends { IfErr result (λ e. SeriesReadEnds basin.now (series_told (S.told shelf.old) (option_map (λ n. n.now) name.entry))
         (Rose (S.faults shelf.old) (S.faults shelf.new)) e) }
     ensures told { IfErr result CanBeTold }
 {
     match name {
-        None => accept_series(alloc, basin, HEADER),
+        None => header_alone(alloc, basin),
         Some(name) => {
             let text = read_file(alloc, shelf, name, File::Series)?;
             accept_series(alloc, basin, &text)

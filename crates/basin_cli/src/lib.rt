@@ -6,8 +6,6 @@ mod ending;
 mod draft;
 mod files;
 mod status;
-#[cfg(test)]
-mod tests;
 mod top;
 mod writing;
 
