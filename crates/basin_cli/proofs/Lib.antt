@@ -1,3 +1,4 @@
+pub mod Drafting
 pub mod Missing
 pub mod Names
 pub mod Outcomes

@@ -1,11 +1,12 @@
 //! The result text of a run.
-ghost use Rattle.std.specs.Prelude.{ℕ, List, ◌≡◌, ◌+◌, ◌-◌, ◌*◌, ◌<◌, ◌≤◌, IfOk, OnOk};
+ghost use Rattle.std.specs.Prelude.{ℕ, List, [], ◌≡◌, ◌+◌, ◌-◌, ◌*◌, ◌<◌, ◌≤◌, IfOk, OnOk};
 ghost use Rattle.rights_roll.specs.Rolls.{IsRollOf};
 ghost use Rattle.water_model.specs.Text.{text_bytes};
 ghost use Rattle.water_model.specs.Valid.{IsValidBasin, IsSeriesOf};
 ghost use Rattle.water_model.specs.declared.types.MonthRecord.{MonthRecord};
-ghost use Rattle.basin_cli.specs.Drafts.{IsDraftOf};
-ghost use Rattle.basin_cli.specs.Headline.{KeepsPriority, most_pushes, run_pushes};
+ghost use Rattle.result_text.specs.Begun.{begun_bytes};
+ghost use Rattle.basin_cli.specs.Drafts.{IsDraftOf, IsTextOfRun};
+ghost use Rattle.basin_cli.specs.Headline.{most_pushes, run_pushes};
 
 use crate::draft::Draft;
 use month_fold::run::Run;
@@ -75,6 +76,29 @@ fn draft_months<L: Ledger>(
     Ok(())
 }
 
+/// A draft with the head of a basin's text.
+fn draft_head(alloc: Global, basin: &Basin) -> Result<Draft, AllocError>
+    requires { IsValidBasin basin.now }
+    ensures { IfOk result (λ draft. draft.bytes ≡ begun_bytes basin.now []) }
+{
+    let mut draft = Draft::new(alloc);
+    match put_head(&mut draft, basin) {
+        Ok(()) => Ok(draft),
+        Err(_) => Err(AllocError),
+    }
+}
+
+/// Appends the tail of a basin's text.
+fn draft_tail(draft: &mut Draft, basin: &Basin) -> Result<(), AllocError>
+    requires { IsValidBasin basin.now }
+    ensures { OnOk result ((records : List MonthRecord) → draft.old.bytes ≡ begun_bytes basin.now records → draft.new.bytes ≡ text_bytes basin.now records) }
+{
+    match put_tail(draft, basin) {
+        Ok(()) => Ok(()),
+        Err(_) => Err(AllocError),
+    }
+}
+
 /// The whole text of a run of a basin with a series, before any of it is written.
 pub fn text_of_run<L: Ledger>(
     alloc: Global,
@@ -84,18 +108,13 @@ pub fn text_of_run<L: Ledger>(
 ) -> Result<Draft, AllocError>
     requires basin { IsValidBasin basin.now }
     requires series { IsSeriesOf basin.now series.now }
-    ensures text { IfOk result (λ draft. (records : List MonthRecord) × KeepsPriority basin.now series.now records × (draft.bytes ≡ text_bytes basin.now records)) }
+    ensures text { IfOk result (λ draft. IsTextOfRun basin.now series.now draft.bytes) }
     ensures pushes { searches.new ≤ searches.old + run_pushes basin.now }
 {
     let roll = roll_of(alloc, basin)?;
     let mut run = Run::open(alloc, basin, series)?;
-    let mut draft = Draft::new(alloc);
-    if put_head(&mut draft, basin).is_err() {
-        return Err(AllocError);
-    }
+    let mut draft = draft_head(alloc, basin)?;
     draft_months(&mut draft, basin, &roll, &mut run, searches)?;
-    if put_tail(&mut draft, basin).is_err() {
-        return Err(AllocError);
-    }
+    draft_tail(&mut draft, basin)?;
     Ok(draft)
 }
