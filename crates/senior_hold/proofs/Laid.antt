@@ -4,7 +4,6 @@ use Rattle.std.proofs.lemmas.Bool.{cases_lt}
 use Rattle.std.proofs.lemmas.Option.{slice_get-map, get_or_from_slice_get}
 use Rattle.std.proofs.lemmas.List.{length-map}
 use Rattle.std.specs.Prelude.{All, slice_get, slice_index, Option, Some, None, is_some, option_map, if◌then◌else◌}
-use Rattle.place_sums.specs.Sums.{count_where}
 use Rattle.place_sums.proofs.Totals.{total_where_start}
 use Rattle.water_model.specs.Basin.{tail_of, head_of, is_outlet, taking_node}
 use Rattle.water_model.specs.Valid.{IsValidBasin}
@@ -14,21 +13,10 @@ use Rattle.circulation.specs.declared.Ends.{Ends}
 use Rattle.circulation.specs.Contents.{Contents, network}
 use Rattle.senior_hold.specs.MonthNetwork.{takes, take_arc, out_arc, HasBasinEnds}
 use Rattle.senior_hold.proofs.MonthArcs.{IsKind, on_link, at_node, right_kind, IsArc, is_link, is_take, is_out, arc_is}
-use Rattle.senior_hold.specs.Arcs.{AreEnds}
+use Rattle.senior_hold.specs.Arcs.{AreEnds, AreEndsOf}
 use Rattle.senior_hold.proofs.WayOut.{ranks}
 use Rattle.senior_hold.proofs.Lists.{get_before, get_last, pushed_count}
 use Rattle.senior_hold.proofs.RightKinds.{take_arc_more, out_arc_more}
-
--- the ends of the arcs of the first links, rights and nodes
-pub record AreLaid (b : Basin) (es : List Ends) (links rights nodes : ℕ) : Type 0 where
-  pub size : length es ≡ links + (count_where rights (λ r. takes b r) + count_where nodes (λ n. is_outlet b n))
-  pub link : (e : ℕ) → e < links → slice_get es e ≡ Some (record { from = tail_of b e; to = head_of b e })
-  pub take : (r v : ℕ) → r < rights → taking_node b r ≡ Some v → slice_get es (take_arc b r) ≡ Some (record { from = v; to = length b.nodes })
-  pub out : (n : ℕ) → n < nodes → is_outlet b n ≡ true → slice_get es (out_arc b n) ≡ Some (record { from = n; to = length b.nodes })
-
--- all of them
-pub laid_all : (b : Basin) (es : List Ends) → AreLaid b es (length b.links) (length b.rights) (length b.nodes) → AreEnds b es
-laid_all b es laid = record { count = laid.size; link = laid.link; take = laid.take; out = laid.out }
 
 abbrev pub froms : List Ends → List ℕ
 froms es = map (λ e. e.from) es
@@ -39,21 +27,21 @@ tos es = map (λ e. e.to) es
 abbrev end_at : ℕ → ℕ → Ends
 end_at from to = record { from = from; to = to }
 
-pub laid_start : (b : Basin) (es : List Ends) → es ≡ [] → AreLaid b es 0 0 0
+pub laid_start : (b : Basin) (es : List Ends) → es ≡ [] → AreEndsOf b es 0 0 0
 laid_start b es is = record {
-  size = omega (arith, ap length is, total_where_start (λ r. takes b r) (λ k. 1), total_where_start (λ n. is_outlet b n) (λ k. 1));
+  count = omega (arith, ap length is, total_where_start (λ r. takes b r) (λ k. 1), total_where_start (λ n. is_outlet b n) (λ k. 1));
   link = λ e l. absurd (omega arith);
   take = λ r v l at. absurd (omega arith);
   out = λ n l h. absurd (omega arith);
 }
 
-pub laid_link : (b : Basin) (es new : List Ends) (e from to : ℕ) → from ≡ tail_of b e → to ≡ head_of b e → new ≡ es ++ end_at from to ∷ [] → AreLaid b es e 0 0 → AreLaid b new (e + 1) 0 0
+pub laid_link : (b : Basin) (es new : List Ends) (e from to : ℕ) → from ≡ tail_of b e → to ≡ head_of b e → new ≡ es ++ end_at from to ∷ [] → AreEndsOf b es e 0 0 → AreEndsOf b new (e + 1) 0 0
 laid_link b es new e from to f t is now = record {
-  size = omega (arith, pushed_count es new (end_at from to) (length es) is refl, now.size);
+  count = omega (arith, pushed_count es new (end_at from to) (length es) is refl, now.count);
   link = λ k l. elim (cases_lt k e) [
     | inl below ↦ ap (λ (xs : List Ends). slice_get xs k) is ∙ get_before es (end_at from to ∷ []) k _ (now.link k below)
     | inr above ↦ (let same : k ≡ e = omega arith in
-        ap (λ (xs : List Ends). slice_get xs k) is ∙ get_last es k (end_at from to) (omega (arith, now.size, total_where_start (λ r. takes b r) (λ k. 1), total_where_start (λ n. is_outlet b n) (λ k. 1)))
+        ap (λ (xs : List Ends). slice_get xs k) is ∙ get_last es k (end_at from to) (omega (arith, now.count, total_where_start (λ r. takes b r) (λ k. 1), total_where_start (λ n. is_outlet b n) (λ k. 1)))
         ∙ ap Some (ap (λ x. end_at x to) (f ∙ sym (ap (tail_of b) same)) ∙ ap (λ x. end_at (tail_of b k) x) (t ∙ sym (ap (head_of b) same))))
   ];
   take = λ r v l at. absurd (omega arith);
@@ -61,14 +49,14 @@ laid_link b es new e from to f t is now = record {
 }
 
 pub laid_take : (b : Basin) (es new : List Ends) (r v to : ℕ) → taking_node b r ≡ Some v → to ≡ length b.nodes → new ≡ es ++ end_at v to ∷ [] →
-    AreLaid b es (length b.links) r 0 → AreLaid b new (length b.links) (r + 1) 0
+    AreEndsOf b es (length b.links) r 0 → AreEndsOf b new (length b.links) (r + 1) 0
 laid_take b es new r v to at t is now = record {
-  size = omega (arith, pushed_count es new (end_at v to) (length es) is refl, now.size, take_arc_more b r, one);
+  count = omega (arith, pushed_count es new (end_at v to) (length es) is refl, now.count, take_arc_more b r, one);
   link = λ k l. ap (λ (xs : List Ends). slice_get xs k) is ∙ get_before es (end_at v to ∷ []) k _ (now.link k l);
   take = λ s u l here. elim (cases_lt s r) [
     | inl below ↦ ap (λ (xs : List Ends). slice_get xs (take_arc b s)) is ∙ get_before es (end_at v to ∷ []) (take_arc b s) _ (now.take s u below here)
     | inr above ↦ (let same : s ≡ r = omega arith in
-        let places : take_arc b s ≡ length es = ap (take_arc b) same ∙ omega (arith, now.size, total_where_start (λ n. is_outlet b n) (λ k. 1)) in
+        let places : take_arc b s ≡ length es = ap (take_arc b) same ∙ omega (arith, now.count, total_where_start (λ n. is_outlet b n) (λ k. 1)) in
         let both : Some v ≡ Some u = sym at ∙ (sym (ap (taking_node b) same) ∙ here) in
         let one : v ≡ u = cc (both) in
         ap (λ (xs : List Ends). slice_get xs (take_arc b s)) is ∙ get_last es (take_arc b s) (end_at v to) places
@@ -80,9 +68,9 @@ laid_take b es new r v to at t is now = record {
     one : (if takes b r then 1 else 0) ≡ 0 + 1
     one = ap (λ o. if is_some o then 1 else 0) at
 
-pub laid_skip : (b : Basin) (es : List Ends) (r : ℕ) → taking_node b r ≡ None → AreLaid b es (length b.links) r 0 → AreLaid b es (length b.links) (r + 1) 0
+pub laid_skip : (b : Basin) (es : List Ends) (r : ℕ) → taking_node b r ≡ None → AreEndsOf b es (length b.links) r 0 → AreEndsOf b es (length b.links) (r + 1) 0
 laid_skip b es r at now = record {
-  size = omega (arith, now.size, take_arc_more b r, none);
+  count = omega (arith, now.count, take_arc_more b r, none);
   link = now.link;
   take = λ s u l here. elim (cases_lt s r) [
     | inl below ↦ now.take s u below here
@@ -95,15 +83,15 @@ laid_skip b es r at now = record {
     none = ap (λ o. if is_some o then 1 else 0) at
 
 pub laid_out : (b : Basin) (es new : List Ends) (n from to : ℕ) → is_outlet b n ≡ true → from ≡ n → to ≡ length b.nodes → new ≡ es ++ end_at from to ∷ [] →
-    AreLaid b es (length b.links) (length b.rights) n → AreLaid b new (length b.links) (length b.rights) (n + 1)
+    AreEndsOf b es (length b.links) (length b.rights) n → AreEndsOf b new (length b.links) (length b.rights) (n + 1)
 laid_out b es new n from to outlet f t is now = record {
-  size = omega (arith, pushed_count es new (end_at from to) (length es) is refl, now.size, out_arc_more b n, one);
+  count = omega (arith, pushed_count es new (end_at from to) (length es) is refl, now.count, out_arc_more b n, one);
   link = λ k l. ap (λ (xs : List Ends). slice_get xs k) is ∙ get_before es (end_at from to ∷ []) k _ (now.link k l);
   take = λ s u l here. ap (λ (xs : List Ends). slice_get xs (take_arc b s)) is ∙ get_before es (end_at from to ∷ []) (take_arc b s) _ (now.take s u l here);
   out = λ m l h. elim (cases_lt m n) [
     | inl below ↦ ap (λ (xs : List Ends). slice_get xs (out_arc b m)) is ∙ get_before es (end_at from to ∷ []) (out_arc b m) _ (now.out m below h)
     | inr above ↦ (let same : m ≡ n = omega arith in
-        let places : out_arc b m ≡ length es = ap (out_arc b) same ∙ omega (arith, now.size) in
+        let places : out_arc b m ≡ length es = ap (out_arc b) same ∙ omega (arith, now.count) in
         ap (λ (xs : List Ends). slice_get xs (out_arc b m)) is ∙ get_last es (out_arc b m) (end_at from to) places
         ∙ ap Some (ap (λ x. end_at x to) (f ∙ sym same) ∙ ap (λ x. end_at m x) t))
   ];
@@ -112,9 +100,9 @@ laid_out b es new n from to outlet f t is now = record {
     one : (if is_outlet b n then 1 else 0) ≡ 0 + 1
     one = ap (λ t. if t then 1 else 0) outlet
 
-pub laid_pass : (b : Basin) (es : List Ends) (n : ℕ) → is_outlet b n ≡ false → AreLaid b es (length b.links) (length b.rights) n → AreLaid b es (length b.links) (length b.rights) (n + 1)
+pub laid_pass : (b : Basin) (es : List Ends) (n : ℕ) → is_outlet b n ≡ false → AreEndsOf b es (length b.links) (length b.rights) n → AreEndsOf b es (length b.links) (length b.rights) (n + 1)
 laid_pass b es n inner now = record {
-  size = omega (arith, now.size, out_arc_more b n, none);
+  count = omega (arith, now.count, out_arc_more b n, none);
   link = now.link;
   take = now.take;
   out = λ m l h. elim (cases_lt m n) [

@@ -10,20 +10,10 @@ use Rattle.water_model.specs.Valid.{IsValidBasin}
 use Rattle.water_model.specs.declared.types.Basin.{Basin}
 use Rattle.water_model.specs.declared.types.Plan.{Plan}
 use Rattle.senior_hold.specs.MonthNetwork.{takes, take_arc, out_arc, right_arc, arc_by_link, arc_count, list_of}
-use Rattle.senior_hold.specs.Arcs.{AreArcs, AreAmounts}
+use Rattle.senior_hold.specs.Arcs.{AreArcs, AreAmountsOf}
 use Rattle.senior_hold.specs.declared.arcs.Arcs.{Arcs}
 use Rattle.senior_hold.proofs.MonthArcs.{IsKind, on_link, at_node, right_kind, take_arc_below, out_arc_below, take_arc_apart}
 use Rattle.senior_hold.proofs.Plans.{list_get, list_len}
-
--- the arcs of the first links, rights and nodes have the amounts of a plan
-pub record HasNumbers (b : Basin) (p : Plan) (g : ℕ → ℕ) (links rights nodes : ℕ) : Type 0 where
-  pub on_links : (e : ℕ) → e < links → g e ≡ slice_index p.flow e
-  pub on_takes : (r : ℕ) → r < rights → takes b r ≡ true → g (take_arc b r) ≡ slice_index p.take r
-  pub on_outs : (n : ℕ) → n < nodes → is_outlet b n ≡ true → g (out_arc b n) ≡ slice_index p.out n
-
--- all of them
-pub numbers_all : (b : Basin) (p : Plan) (g : ℕ → ℕ) → HasNumbers b p g (length b.links) (length b.rights) (length b.nodes) → AreAmounts b p g
-numbers_all b p g has = record { on_links = has.on_links; on_takes = has.on_takes; on_outs = has.on_outs }
 
 -- the arc of a right that takes
 pub takes_arc : (b : Basin) (r : ℕ) → IsValidBasin b → r < length b.rights → takes b r ≡ true → right_arc b r ≡ take_arc b r
@@ -48,8 +38,8 @@ pub outs_arc_in : (b : Basin) (n arc : ℕ) → n < length b.nodes → is_outlet
 outs_arc_in b n arc l h is = omega (arith, is, out_arc_below b n l h)
 
 pub numbers_take : (b : Basin) (p : Plan) (into into' : List ℕ) (r x arc : ℕ) → r < length b.rights → takes b r ≡ true → arc ≡ take_arc b r → arc < length into →
-    into' ≡ slice_set into arc x → x ≡ slice_index p.take r → HasNumbers b p (λ a. slice_index into a) (length b.links) r 0 →
-    HasNumbers b p (λ a. slice_index into' a) (length b.links) (r + 1) 0
+    into' ≡ slice_set into arc x → x ≡ slice_index p.take r → AreAmountsOf b p (λ a. slice_index into a) (length b.links) r 0 →
+    AreAmountsOf b p (λ a. slice_index into' a) (length b.links) (r + 1) 0
 numbers_take b p into into' r x arc l h is inside write value now = record {
   on_links = λ e k. there e (λ s. absurd (omega arith)) ∙ now.on_links e k;
   on_takes = λ s k t. elim (cases_eq s r) [
@@ -65,7 +55,7 @@ numbers_take b p into into' r x arc l h is inside write value now = record {
     there : (a : ℕ) → a ≢ arc → slice_index into' a ≡ slice_index into a
     there a ne = ap (λ (xs : List ℕ). slice_index xs a) write ∙ get_or-set_other into arc a x 0 ne
 
-pub numbers_skip : (b : Basin) (p : Plan) (g : ℕ → ℕ) (r : ℕ) → takes b r ≡ false → HasNumbers b p g (length b.links) r 0 → HasNumbers b p g (length b.links) (r + 1) 0
+pub numbers_skip : (b : Basin) (p : Plan) (g : ℕ → ℕ) (r : ℕ) → takes b r ≡ false → AreAmountsOf b p g (length b.links) r 0 → AreAmountsOf b p g (length b.links) (r + 1) 0
 numbers_skip b p g r h now = record {
   on_links = now.on_links;
   on_takes = λ s k t. elim (cases_eq s r) [
@@ -76,8 +66,8 @@ numbers_skip b p g r h now = record {
 }
 
 pub numbers_out : (b : Basin) (p : Plan) (into into' : List ℕ) (n x arc : ℕ) → n < length b.nodes → is_outlet b n ≡ true → arc ≡ out_arc b n → arc < length into →
-    into' ≡ slice_set into arc x → x ≡ slice_index p.out n → HasNumbers b p (λ a. slice_index into a) (length b.links) (length b.rights) n →
-    HasNumbers b p (λ a. slice_index into' a) (length b.links) (length b.rights) (n + 1)
+    into' ≡ slice_set into arc x → x ≡ slice_index p.out n → AreAmountsOf b p (λ a. slice_index into a) (length b.links) (length b.rights) n →
+    AreAmountsOf b p (λ a. slice_index into' a) (length b.links) (length b.rights) (n + 1)
 numbers_out b p into into' n x arc l h is inside write value now = record {
   on_links = λ e k. there e (λ s. absurd (omega arith)) ∙ now.on_links e k;
   on_takes = λ s k t. there (take_arc b s) (λ e. absurd (omega (arith, take_arc_below b s k t))) ∙ now.on_takes s k t;
@@ -94,8 +84,8 @@ numbers_out b p into into' n x arc l h is inside write value now = record {
     there : (a : ℕ) → a ≢ arc → slice_index into' a ≡ slice_index into a
     there a ne = ap (λ (xs : List ℕ). slice_index xs a) write ∙ get_or-set_other into arc a x 0 ne
 
-pub numbers_pass : (b : Basin) (p : Plan) (g : ℕ → ℕ) (n : ℕ) → is_outlet b n ≡ false → HasNumbers b p g (length b.links) (length b.rights) n →
-    HasNumbers b p g (length b.links) (length b.rights) (n + 1)
+pub numbers_pass : (b : Basin) (p : Plan) (g : ℕ → ℕ) (n : ℕ) → is_outlet b n ≡ false → AreAmountsOf b p g (length b.links) (length b.rights) n →
+    AreAmountsOf b p g (length b.links) (length b.rights) (n + 1)
 numbers_pass b p g n h now = record {
   on_links = now.on_links;
   on_takes = now.on_takes;

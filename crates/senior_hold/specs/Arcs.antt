@@ -1,12 +1,13 @@
 -- What lists have for the arcs of a month.
-use Rattle.std.specs.Prelude.{◌≡◌, ℕ, ◌<◌, ◌^◌, true, List, length, slice_index, slice_get, Some}
+use Rattle.std.specs.Prelude.{◌≡◌, ℕ, ◌+◌, ◌<◌, ◌^◌, true, List, length, slice_index, slice_get, Some}
+use Rattle.place_sums.specs.Sums.{count_where}
 use Rattle.water_model.specs.Basin.{tail_of, head_of, is_outlet, taking_node}
 use Rattle.water_model.specs.Plans.{carry_of}
 use Rattle.water_text.specs.declared.month.Month.{Month}
 use Rattle.water_model.specs.declared.types.Basin.{Basin}
 use Rattle.water_model.specs.declared.types.Plan.{Plan}
 use Rattle.circulation.specs.declared.Ends.{Ends}
-use Rattle.senior_hold.specs.MonthNetwork.{takes, take_arc, out_arc, right_arc, arc_count}
+use Rattle.senior_hold.specs.MonthNetwork.{takes, take_arc, out_arc, right_arc}
 use Rattle.senior_hold.specs.declared.arcs.Arcs.{Arcs}
 
 -- the arcs of rights and of outlets
@@ -16,20 +17,28 @@ pub record AreArcs (b : Basin) (arcs : Arcs) : Type 0 where
   pub out_count : length arcs.outs.items ≡ length b.nodes
   pub out : (n : ℕ) → n < length b.nodes → slice_index arcs.outs.items n ≡ out_arc b n
 
--- the ends of each arc
-pub record AreEnds (b : Basin) (ends : List Ends) : Type 0 where
-  pub count : length ends ≡ arc_count b
-  pub link : (e : ℕ) → e < length b.links → slice_get ends e ≡ Some (record { from = tail_of b e; to = head_of b e })
-  pub take : (r v : ℕ) → r < length b.rights → taking_node b r ≡ Some v →
+-- the ends of the arcs of so many links, rights and nodes, from the first on
+pub record AreEndsOf (b : Basin) (ends : List Ends) (links rights nodes : ℕ) : Type 0 where
+  pub count : length ends ≡ links + (count_where rights (λ r. takes b r) + count_where nodes (λ n. is_outlet b n))
+  pub link : (e : ℕ) → e < links → slice_get ends e ≡ Some (record { from = tail_of b e; to = head_of b e })
+  pub take : (r v : ℕ) → r < rights → taking_node b r ≡ Some v →
       slice_get ends (take_arc b r) ≡ Some (record { from = v; to = length b.nodes })
-  pub out : (n : ℕ) → n < length b.nodes → is_outlet b n ≡ true →
+  pub out : (n : ℕ) → n < nodes → is_outlet b n ≡ true →
       slice_get ends (out_arc b n) ≡ Some (record { from = n; to = length b.nodes })
 
+-- the ends of all arcs
+abbrev pub AreEnds : Basin → List Ends → Type 0
+AreEnds b ends = AreEndsOf b ends (length b.links) (length b.rights) (length b.nodes)
+
+-- the amounts of a plan on the arcs of so many links, rights and nodes, from the first on
+pub record AreAmountsOf (b : Basin) (p : Plan) (g : ℕ → ℕ) (links rights nodes : ℕ) : Type 0 where
+  pub on_links : (e : ℕ) → e < links → g e ≡ slice_index p.flow e
+  pub on_takes : (r : ℕ) → r < rights → takes b r ≡ true → g (take_arc b r) ≡ slice_index p.take r
+  pub on_outs : (n : ℕ) → n < nodes → is_outlet b n ≡ true → g (out_arc b n) ≡ slice_index p.out n
+
 -- the amounts of a plan by arc
-pub record AreAmounts (b : Basin) (p : Plan) (g : ℕ → ℕ) : Type 0 where
-  pub on_links : (e : ℕ) → e < length b.links → g e ≡ slice_index p.flow e
-  pub on_takes : (r : ℕ) → r < length b.rights → takes b r ≡ true → g (take_arc b r) ≡ slice_index p.take r
-  pub on_outs : (n : ℕ) → n < length b.nodes → is_outlet b n ≡ true → g (out_arc b n) ≡ slice_index p.out n
+abbrev pub AreAmounts : Basin → Plan → (ℕ → ℕ) → Type 0
+AreAmounts b p g = AreAmountsOf b p g (length b.links) (length b.rights) (length b.nodes)
 
 -- the carries of links, the wants of rights, and at outlets as much as a river carries
 pub record AreBounds (b : Basin) (month : Month) (want : List ℕ) (upper : ℕ → ℕ) : Type 0 where

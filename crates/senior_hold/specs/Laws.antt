@@ -3,7 +3,7 @@ use Rattle.std.specs.Prelude.{◌≡◌, ℕ, ◌<◌, ◌≤◌, Bool, List, le
 use Rattle.water_text.specs.Months.{IsMonth}
 use Rattle.water_text.specs.declared.month.Month.{Month}
 use Rattle.water_model.specs.Plans.{IsPlan}
-use Rattle.water_model.specs.Cuts.{IsTight}
+use Rattle.water_model.specs.Cuts.{IsTight, IsReach}
 use Rattle.water_model.specs.CutSets.{CutSets, set_of}
 use Rattle.water_model.specs.Hydrology.{want_in_month}
 use Rattle.water_model.specs.Laws.{AreDeliveries}
@@ -24,8 +24,10 @@ pub record HasPlanAndCuts (b : Basin) (month : Month) (supply want delivered : L
   pub short : (r : ℕ) → r < length b.rights → slice_index delivered r < slice_index want r →
       (cut : List Bool) × (set_of cuts r ≡ Some cut) × IsTight b month supply delivered r cut
   pub met : (r : ℕ) → r < length b.rights → slice_index want r ≤ slice_index delivered r → set_of cuts r ≡ None
+  pub reaches : (r : ℕ) (cut : List Bool) → r < length b.rights → set_of cuts r ≡ Some cut → IsReach b month supply delivered r cut
 
--- A solved month, with what its plan delivers, has a plan, a tight cut for each right that is short, and none for others.
+-- A solved month, with what its plan delivers, has a plan, a tight cut for each right that is short, and none for others;
+-- and each of the cuts is the reach of its right.
 abbrev pub SolvedMonthsFollow : Type 0
 SolvedMonthsFollow =
     (b : Basin) (month : Month) (supply want delivered : List ℕ) (p : Plan) (cuts : CutSets) →

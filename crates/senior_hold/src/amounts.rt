@@ -7,7 +7,7 @@ ghost use Rattle.water_model.specs.Plans.{carry_of};
 ghost use Rattle.water_model.specs.Valid.{IsValidBasin};
 ghost use Rattle.circulation.specs.Contents.{network, flow_of, arcs};
 ghost use Rattle.senior_hold.specs.MonthNetwork.{arc_count, take_arc, out_arc, takes, list_of, plan_of, HasBasinEnds};
-ghost use Rattle.senior_hold.specs.Arcs.{AreArcs, AreAmounts, AreBounds};
+ghost use Rattle.senior_hold.specs.Arcs.{AreArcs, AreAmounts, AreAmountsOf, AreBounds};
 ghost use Rattle.senior_hold.specs.Solved.{FitsPlan};
 
 use crate::arcs::{Arcs, taking_node};
@@ -15,6 +15,48 @@ use circulation::Circulation;
 use water_model::calls::carry_of;
 use water_model::types::{Basin, Plan};
 use water_text::month::Month;
+
+/// Writes the flows of a plan to the places of links.
+fn lay_flows(basin: &Basin, plan: &Plan, into: &mut [u64])
+    requires plan { FitsPlan basin.now plan.now }
+    requires into { length into.old ≡ arc_count basin.now }
+    ensures { AreAmountsOf basin.now plan.now (slice_index into.new) (length basin.now.links) 0 0 }
+{
+    for link in 0..basin.links.len() {
+        into[link] = plan.flow[link];
+    }
+}
+
+/// Writes the takes of a plan to the places of their arcs.
+fn lay_takes(basin: &Basin, arcs: &Arcs, plan: &Plan, into: &mut [u64])
+    requires valid { IsValidBasin basin.now }
+    requires arcs { AreArcs basin.now arcs.now }
+    requires plan { FitsPlan basin.now plan.now }
+    requires into { length into.old ≡ arc_count basin.now }
+    requires flows { AreAmountsOf basin.now plan.now (slice_index into.old) (length basin.now.links) 0 0 }
+    ensures { AreAmountsOf basin.now plan.now (slice_index into.new) (length basin.now.links) (length basin.now.rights) 0 }
+{
+    for right in 0..basin.rights.len() {
+        if taking_node(basin, right as u32).is_some() {
+            into[arcs.rights[right] as usize] = plan.take[right];
+        }
+    }
+}
+
+/// Writes the outflows of a plan to the places of their arcs.
+fn lay_outs(basin: &Basin, arcs: &Arcs, plan: &Plan, into: &mut [u64])
+    requires arcs { AreArcs basin.now arcs.now }
+    requires plan { FitsPlan basin.now plan.now }
+    requires into { length into.old ≡ arc_count basin.now }
+    requires takes { AreAmountsOf basin.now plan.now (slice_index into.old) (length basin.now.links) (length basin.now.rights) 0 }
+    ensures { AreAmounts basin.now plan.now (slice_index into.new) }
+{
+    for node in 0..basin.nodes.len() {
+        if basin.nodes[node].outlet {
+            into[arcs.outs[node] as usize] = plan.out[node];
+        }
+    }
+}
 
 /// Writes the amounts of a plan to the places of their arcs.
 pub fn lay(basin: &Basin, arcs: &Arcs, plan: &Plan, into: &mut [u64])
@@ -24,19 +66,9 @@ pub fn lay(basin: &Basin, arcs: &Arcs, plan: &Plan, into: &mut [u64])
     requires into { length into.old ≡ arc_count basin.now }
     ensures { AreAmounts basin.now plan.now (slice_index into.new) }
 {
-    for link in 0..basin.links.len() {
-        into[link] = plan.flow[link];
-    }
-    for right in 0..basin.rights.len() {
-        if taking_node(basin, right as u32).is_some() {
-            into[arcs.rights[right] as usize] = plan.take[right];
-        }
-    }
-    for node in 0..basin.nodes.len() {
-        if basin.nodes[node].outlet {
-            into[arcs.outs[node] as usize] = plan.out[node];
-        }
-    }
+    lay_flows(basin, plan, into);
+    lay_takes(basin, arcs, plan, into);
+    lay_outs(basin, arcs, plan, into);
 }
 
 /// The most that each link carries in a month.

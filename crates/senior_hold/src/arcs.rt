@@ -1,9 +1,9 @@
 //! The arcs of a basin's month.
-ghost use Rattle.std.specs.Prelude.{◌≡◌, ℕ, ◌+◌, ◌<◌, length, slice_index, IfOk};
+ghost use Rattle.std.specs.Prelude.{◌≡◌, ℕ, ◌+◌, ◌<◌, length, slice_index, IfOk, OnOk};
 ghost use Rattle.water_model.specs.Basin.{taking_node};
 ghost use Rattle.water_model.specs.Valid.{IsValidBasin};
 ghost use Rattle.senior_hold.specs.MonthNetwork.{taker_count, right_arc, out_arc};
-ghost use Rattle.senior_hold.specs.Arcs.{AreArcs, AreEnds};
+ghost use Rattle.senior_hold.specs.Arcs.{AreArcs, AreEnds, AreEndsOf};
 
 use circulation::Ends;
 use std::alloc::{AllocError, Global};
@@ -93,28 +93,58 @@ pub fn arcs_of(alloc: Global, basin: &Basin) -> Result<Arcs, AllocError>
     Ok(Arcs { rights, outs })
 }
 
-/// The ends of a month's arcs.
-pub fn ends_of_arcs(alloc: Global, basin: &Basin) -> Result<Vec<Ends>, AllocError>
+/// The ends of the links.
+fn link_ends(alloc: Global, basin: &Basin) -> Result<Vec<Ends>, AllocError>
     requires { IsValidBasin basin.now }
-    ensures { IfOk result (λ ends. AreEnds basin.now ends.items) }
+    ensures { IfOk result (λ ends. AreEndsOf basin.now ends.items (length basin.now.links) 0 0) }
 {
-    let outside = basin.nodes.len() as u32;
     let mut ends = Vec::new(alloc);
     for place in 0..basin.links.len() {
         let link = &basin.links[place];
         let (from, to) = (link.from, link.to);
         ends.push(Ends { from, to })?;
     }
+    Ok(ends)
+}
+
+/// Adds the ends of what rights take.
+fn add_takes(basin: &Basin, ends: &mut Vec<Ends>) -> Result<(), AllocError>
+    requires valid { IsValidBasin basin.now }
+    requires links { AreEndsOf basin.now ends.old.items (length basin.now.links) 0 0 }
+    ensures { OnOk result (AreEndsOf basin.now ends.new.items (length basin.now.links) (length basin.now.rights) 0) }
+{
+    let outside = basin.nodes.len() as u32;
     for right in 0..basin.rights.len() {
         if let Some(from) = taking_node(basin, right as u32) {
             ends.push(Ends { from, to: outside })?;
         }
     }
+    Ok(())
+}
+
+/// Adds the ends of what leaves the basin at outlets.
+fn add_outs(basin: &Basin, ends: &mut Vec<Ends>) -> Result<(), AllocError>
+    requires valid { IsValidBasin basin.now }
+    requires takes { AreEndsOf basin.now ends.old.items (length basin.now.links) (length basin.now.rights) 0 }
+    ensures { OnOk result (AreEnds basin.now ends.new.items) }
+{
+    let outside = basin.nodes.len() as u32;
     for node in 0..basin.nodes.len() {
         if basin.nodes[node].outlet {
             let from = node as u32;
             ends.push(Ends { from, to: outside })?;
         }
     }
+    Ok(())
+}
+
+/// The ends of a month's arcs.
+pub fn ends_of_arcs(alloc: Global, basin: &Basin) -> Result<Vec<Ends>, AllocError>
+    requires { IsValidBasin basin.now }
+    ensures { IfOk result (λ ends. AreEnds basin.now ends.items) }
+{
+    let mut ends = link_ends(alloc, basin)?;
+    add_takes(basin, &mut ends)?;
+    add_outs(basin, &mut ends)?;
     Ok(ends)
 }

@@ -118,13 +118,15 @@ fn solve<L: Ledger>(
     ensures pushes { searches.new ≤ searches.old + length basin.now.rights * (30 * (2 * arc_count basin.now + 2)) }
 {
     begin(basin, layout, room, circ, month, supply, want, plan);
-    for right in layout.roll.by_seniority() {
-        let place = *right as usize;
+    let order = layout.roll.by_seniority();
+    for turn in 0..order.len() {
+        let right = order[turn];
+        let place = right as usize;
         serve(
             circ,
             layout.arcs.rights[place],
             want[place],
-            *right,
+            right,
             cuts,
             searches,
         )?;

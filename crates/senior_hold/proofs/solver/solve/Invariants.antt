@@ -4,10 +4,10 @@ use Rattle.senior_hold.specs.MonthNetwork.{arc_count}
 use Rattle.senior_hold.proofs.Solves.{IsStanding}
 use Rattle.senior_hold.proofs.solver.solve.Given as goal
 
-abbrev pub invariant-loop-right : goal.invariant-loop-right
-invariant-loop-right g l = record {
-  standing : IsStanding l.basin l.fn.month l.fn.supply l.want l.fn.layout.roll.order l.right-index l.circ l.cuts;
-  first : l.right-index ≡ 0 → l.circ ≡ l.initial.circ;
+abbrev pub invariant-loop-turn : goal.invariant-loop-turn
+invariant-loop-turn g l = record {
+  standing : IsStanding l.basin l.fn.month l.fn.supply l.want l.fn.layout.roll.order l.turn l.circ l.cuts;
+  first : l.turn ≡ 0 → l.circ ≡ l.initial.circ;
   room : (r : ℕ) → has_room l.fn.cuts r ≡ true → has_room l.cuts r ≡ true;
-  cost : l.searches ≤ l.fn.searches + l.right-index * (30 * (2 * arc_count l.basin + 2));
+  cost : l.searches ≤ l.fn.searches + l.turn * (30 * (2 * arc_count l.basin + 2));
 }
