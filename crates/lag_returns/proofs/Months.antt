@@ -9,7 +9,7 @@ use Rattle.circular_buffer.specs.Buffer.{keep_last}
 use Rattle.circular_buffer.proofs.Places.{slice_get-append_left}
 use Rattle.place_sums.proofs.Totals.{total_same}
 use Rattle.water_model.specs.Hydrology.{delivered_in, delivered_before}
-use Rattle.lag_returns.specs.Flows.{due, after_month}
+use Rattle.lag_returns.specs.ReturnFlows.{due, after_month}
 use Rattle.lag_returns.specs.Lags.{OnTheWay, IsOnTheWay, StandsFor, IsLagged, rows_of, delivered_to}
 use Rattle.lag_returns.proofs.Arrivals.{IsDue, is_due, remainder}
 use Rattle.water_model.specs.declared.types.ReturnRow.{ReturnRow}

@@ -13,7 +13,7 @@ use Rattle.water_model.specs.Hydrology.{delivered_before, delivered_in, returned
 use Rattle.water_model.specs.Lookups.{of_entry}
 use Rattle.water_model.specs.declared.types.ReturnRow.{ReturnRow}
 use Rattle.water_model.proofs.Balance.{entry_holds}
-use Rattle.lag_returns.specs.Flows.{fresh, arriving, brought, brought_to}
+use Rattle.lag_returns.specs.ReturnFlows.{fresh, arriving, brought, brought_to}
 use Rattle.lag_returns.specs.Lags.{OnTheWay, IsOnTheWay, StandsFor, IsLagged, rows_of, arrivals_at}
 use Rattle.lag_returns.proofs.Arrivals.{arriving_is}
 

@@ -2,7 +2,7 @@ use Rattle.std.proofs.Common.{◌≡◌, ◌∙◌, ◌++◌, ◌∷◌, [], map
 use Rattle.std.specs.Prelude.{All}
 use Rattle.std.specs.Vec.{with_items}
 use Rattle.std.proofs.lemmas.List.{with_items_is, length-map}
-use Rattle.lag_returns.specs.Flows.{after_month}
+use Rattle.lag_returns.specs.ReturnFlows.{after_month}
 use Rattle.lag_returns.specs.Lags.{IsLagged, StandsFor, rows_of}
 use Rattle.lag_returns.proofs.Months.{lagged_after, rows_after, stands_after}
 use Rattle.lag_returns.proofs.Lags.month_done.Goals as goal
