@@ -3,7 +3,7 @@
 
 ghost use Rattle.std.specs.Prelude.{◌≡◌, ℕ, ◌+◌, ◌*◌, ◌^◌, ◌<◌, ◌≤◌, ◌++◌, ◌∷◌, [], List, length, slice_index, slice_set, map, All, IfOk};
 ghost use Rattle.lag_returns.specs.ReturnFlows.{after_month, arriving, brought, due, fresh, with_delivery};
-ghost use Rattle.lag_returns.specs.Lags.{IsLagged, StandsFor, rows_of, arrivals_at};
+ghost use Rattle.lag_returns.specs.Lags.{IsLagged, StandsFor, return_rows, arrivals_at};
 ghost use Rattle.water_model.specs.declared.types.ReturnRow.{ReturnRow};
 
 use circular_buffer::HeapCircularBuffer;
@@ -86,8 +86,8 @@ impl ReturnFlow {
 
 /// Adds what each row brings to its node's place.
 fn arrive_each(flows: &[ReturnFlow], into: &mut [u64])
-    requires nodes { All (λ row. row.node < length into.old) (rows_of flows.now) }
-    requires room { All (λ n. n + 10 ^ 9 * length (rows_of flows.now) ≤ 10 ^ 15) into.old }
+    requires nodes { All (λ row. row.node < length into.old) (return_rows flows.now) }
+    requires room { All (λ n. n + 10 ^ 9 * length (return_rows flows.now) ≤ 10 ^ 15) into.old }
     ensures length { length into.new ≡ length into.old }
     ensures adds { (node : ℕ) → node < length into.old →
         slice_index into.new node ≡ slice_index into.old node + brought flows.now node }
@@ -99,7 +99,7 @@ fn arrive_each(flows: &[ReturnFlow], into: &mut [u64])
 
 /// Takes each row's delivery out of the month's deliveries by right.
 fn take_each(flows: &mut [ReturnFlow], delivered: &[u64])
-    requires rights { All (λ row. row.right < length delivered.now) (rows_of flows.old) }
+    requires rights { All (λ row. row.right < length delivered.now) (return_rows flows.old) }
     requires small { All (λ n. n ≤ 10 ^ 9) delivered.now }
     ensures { flows.new ≡ map (after_month delivered.now) flows.old }
 {
@@ -147,8 +147,8 @@ impl Lags {
     /// Adds what each row brings this month to the place of its node, in units of 1,000 cubic metres. The list is indexed
     /// by node, and each place has room for 10^9 from each row. The cost is linear in the rows.
     pub fn arrive(&self, into: &mut [u64])
-        requires nodes { All (λ row. row.node < length into.old) (rows_of self.now) }
-        requires room { All (λ n. n + 10 ^ 9 * length (rows_of self.now) ≤ 10 ^ 15) into.old }
+        requires nodes { All (λ row. row.node < length into.old) (return_rows self.now) }
+        requires room { All (λ n. n + 10 ^ 9 * length (return_rows self.now) ≤ 10 ^ 15) into.old }
         ensures length { length into.new ≡ length into.old }
         ensures adds { (rows : List ReturnRow) (deliveries : List (List ℕ)) → StandsFor self.now rows deliveries →
             (node : ℕ) → node < length into.old →
@@ -160,9 +160,9 @@ impl Lags {
     /// Takes the month's deliveries, indexed by right and each at most 10^9, and moves to the next month. The cost is
     /// linear in the rows.
     pub fn month_done(&mut self, delivered: &[u64])
-        requires rights { All (λ row. row.right < length delivered.now) (rows_of self.old) }
+        requires rights { All (λ row. row.right < length delivered.now) (return_rows self.old) }
         requires small { All (λ n. n ≤ 10 ^ 9) delivered.now }
-        ensures rows { rows_of self.new ≡ rows_of self.old }
+        ensures rows { return_rows self.new ≡ return_rows self.old }
         ensures stands { (rows : List ReturnRow) (deliveries : List (List ℕ)) → StandsFor self.old rows deliveries →
             StandsFor self.new rows (deliveries ++ delivered.now ∷ []) }
     {
