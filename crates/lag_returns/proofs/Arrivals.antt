@@ -9,7 +9,7 @@ use Rattle.std.proofs.Math.Nat.{mul-add}
 use Rattle.circular_buffer.specs.Buffer.{keep_last}
 use Rattle.place_sums.proofs.Totals.{total_start, total_more}
 use Rattle.water_model.specs.Hydrology.{delivered_in, delivered_before, returned_by}
-use Rattle.lag_returns.specs.Flows.{due, arriving}
+use Rattle.lag_returns.specs.ReturnFlows.{due, arriving}
 use Rattle.lag_returns.specs.Lags.{OnTheWay, IsOnTheWay, delivered_to}
 
 delivered_at : (deliveries : List (List ℕ)) (right j : ℕ) → get_or (delivered_to deliveries right) j 0 ≡ delivered_in deliveries right j

@@ -9,8 +9,8 @@ use Rattle.circular_buffer.specs.Buffer.{keep_last}
 use Rattle.circular_buffer.proofs.Places.{slice_get-append_left}
 use Rattle.place_sums.proofs.Totals.{total_same}
 use Rattle.water_model.specs.Hydrology.{delivered_in, delivered_before}
-use Rattle.lag_returns.specs.Flows.{due, after_month}
-use Rattle.lag_returns.specs.Lags.{OnTheWay, IsOnTheWay, StandsFor, IsLagged, rows_of, delivered_to}
+use Rattle.lag_returns.specs.ReturnFlows.{due, after_month}
+use Rattle.lag_returns.specs.Lags.{OnTheWay, IsOnTheWay, StandsFor, IsLagged, return_rows, delivered_to}
 use Rattle.lag_returns.proofs.Arrivals.{IsDue, is_due, remainder}
 use Rattle.water_model.specs.declared.types.ReturnRow.{ReturnRow}
 
@@ -52,7 +52,7 @@ on_the_way_after deliveries delivered w lag h = record { waiting = waiting; rema
         ≡ (w.row.part * delivered_before (deliveries ++ delivered ∷ []) w.row.right (length (deliveries ++ delivered ∷ []) - w.row.lag)) % 10000
     by found = rw (before, found.1.parts, remainder, found.1.more, mul-add) refl
 
-pub rows_after : (delivered : List ℕ) (lags : List OnTheWay) → rows_of (map (after_month delivered) lags) ≡ rows_of lags
+pub rows_after : (delivered : List ℕ) (lags : List OnTheWay) → return_rows (map (after_month delivered) lags) ≡ return_rows lags
 rows_after delivered [] = refl
 rows_after delivered (w ∷ lags) = ap (λ rows. w.row ∷ rows) (rows_after delivered lags)
 

@@ -13,23 +13,23 @@ use Rattle.water_model.specs.Hydrology.{delivered_before, delivered_in, returned
 use Rattle.water_model.specs.Lookups.{of_entry}
 use Rattle.water_model.specs.declared.types.ReturnRow.{ReturnRow}
 use Rattle.water_model.proofs.Balance.{entry_holds}
-use Rattle.lag_returns.specs.Flows.{fresh, arriving, brought, brought_to}
-use Rattle.lag_returns.specs.Lags.{OnTheWay, IsOnTheWay, StandsFor, IsLagged, rows_of, arrivals_at}
+use Rattle.lag_returns.specs.ReturnFlows.{fresh, arriving, brought, brought_to}
+use Rattle.lag_returns.specs.Lags.{OnTheWay, IsOnTheWay, StandsFor, IsLagged, return_rows, arrivals_at}
 use Rattle.lag_returns.proofs.Arrivals.{arriving_is}
 
 -- what holds of each row
-pub of_row : (P : ReturnRow → Type 0) (lags : List OnTheWay) → All P (rows_of lags) → All (λ w. P w.row) lags
+pub of_row : (P : ReturnRow → Type 0) (lags : List OnTheWay) → All P (return_rows lags) → All (λ w. P w.row) lags
 of_row P lags h k d l =
     subst P (get_or-map (λ w. w.row) lags k d d.row l) (h k d.row (rw length-map l))
 
-pub row_at : (P : ReturnRow → Type 0) (lags : List OnTheWay) (i : ℕ) (w : OnTheWay) → All P (rows_of lags) → i < length lags →
+pub row_at : (P : ReturnRow → Type 0) (lags : List OnTheWay) (i : ℕ) (w : OnTheWay) → All P (return_rows lags) → i < length lags →
     w ≡ get_or lags i w → P w.row
 row_at P lags i w h l read = subst (λ x. P x.row) (sym read) (of_row P lags h i w l)
 
 pub lagged_fresh : (rows : List ReturnRow) → All IsLagged rows → All (λ w. IsLagged w.row) (map fresh rows)
 lagged_fresh rows h = All-map (λ w. IsLagged w.row) fresh rows h
 
-rows_of_fresh : (rows : List ReturnRow) → rows_of (map fresh rows) ≡ rows
+rows_of_fresh : (rows : List ReturnRow) → return_rows (map fresh rows) ≡ rows
 rows_of_fresh [] = refl
 rows_of_fresh (row ∷ rows) = ap (λ xs. row ∷ xs) (rows_of_fresh rows)
 
@@ -78,14 +78,14 @@ one_row_little w into n node little =
 pub arrivals : (lags : List OnTheWay) (rows : List ReturnRow) (deliveries : List (List ℕ)) (node : ℕ) → StandsFor lags rows deliveries →
     brought lags node ≡ arrivals_at rows deliveries node
 arrivals lags rows deliveries node h =
-    total_same (length lags) (λ k. of_entry lags k (brought_to node) 0) (λ k. of_entry (rows_of lags) k brings 0)
+    total_same (length lags) (λ k. of_entry lags k (brought_to node) 0) (λ k. of_entry (return_rows lags) k brings 0)
     (λ k l. entry k (entry_holds (IsOnTheWay deliveries) lags k h.each l))
-    ∙ ap (λ n. total n (λ k. of_entry (rows_of lags) k brings 0)) (sym (length-map lags (λ w. w.row)))
+    ∙ ap (λ n. total n (λ k. of_entry (return_rows lags) k brings 0)) (sym (length-map lags (λ w. w.row)))
     ∙ ap (λ xs. arrivals_at xs deliveries node) h.of_rows
   where
     brings : ReturnRow → ℕ
     brings row = if row.node == node then returned_by row deliveries (length deliveries) else 0
 
     entry : (k : ℕ) → (w : OnTheWay) × (slice_get lags k ≡ Some w) × IsOnTheWay deliveries w →
-        of_entry lags k (brought_to node) 0 ≡ of_entry (rows_of lags) k brings 0
+        of_entry lags k (brought_to node) 0 ≡ of_entry (return_rows lags) k brings 0
     entry k found = rw (slice_get-map (λ w. w.row) lags k, found.1) (ap (λ a. if found.0.row.node == node then a else 0) (arriving_is deliveries found.0 found.2))

@@ -13,8 +13,9 @@ pub record OnTheWay : Type 0 where
   pub waiting : List ℕ
   pub remainder : ℕ
 
-abbrev pub rows_of : List OnTheWay → List ReturnRow
-rows_of lags = map (λ w. w.row) lags
+-- the return rows alone
+abbrev pub return_rows : List OnTheWay → List ReturnRow
+return_rows lags = map (λ w. w.row) lags
 
 -- the numbers of a row's part and lag
 pub record IsLagged (row : ReturnRow) : Type 0 where
@@ -32,10 +33,10 @@ pub record IsOnTheWay (deliveries : List (List ℕ)) (w : OnTheWay) : Type 0 whe
 
 -- these rows, after months with these deliveries, each a list by right
 pub record StandsFor (lags : List OnTheWay) (rows : List ReturnRow) (deliveries : List (List ℕ)) : Type 0 where
-  pub of_rows : rows_of lags ≡ rows
+  pub of_rows : return_rows lags ≡ rows
   pub each : All (IsOnTheWay deliveries) lags
 
--- what return rows bring to a node in the month after these
+-- what return rows bring to a node in the month after these: the sum over the rows at the node
 abbrev pub arrivals_at : List ReturnRow → List (List ℕ) → ℕ → ℕ
 arrivals_at rows deliveries node =
     total (length rows) (λ k. of_entry rows k (λ row. if row.node == node then returned_by row deliveries (length deliveries) else 0) 0)

@@ -6,7 +6,7 @@ use Rattle.water_model.specs.Valid.{IsValidBasin}
 use Rattle.water_model.specs.declared.types.Basin.{Basin}
 use Rattle.lag_returns.specs.Lags.{IsLagged, arrivals_at}
 
--- A valid basin's rows bring what the basin's returns are.
+-- The return rows of a basin bring what the definition of a month's returns says.
 abbrev pub ArrivalsAreReturns : Type 0
 ArrivalsAreReturns =
     (b : Basin) (deliveries : List (List ℕ)) (node : ℕ) →

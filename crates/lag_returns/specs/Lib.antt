@@ -1,3 +1,3 @@
 pub mod Lags
-pub mod Flows
+pub mod ReturnFlows
 pub mod Laws

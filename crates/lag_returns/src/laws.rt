@@ -1,7 +1,7 @@
 //! Laws over the definitions. Each is the contract of a function that does nothing.
 ghost use Rattle.lag_returns.specs.Laws.{ArrivalsAreReturns, ReturnsAreSmall, ValidRowsAreLagged};
 
-/// What a valid basin's return rows bring is what the definition of a month's returns says.
+/// The return rows of a basin bring what the definition of a month's returns says.
 pub fn arrivals_are_returns()
     ensures { ArrivalsAreReturns }
 {}

@@ -1,5 +1,5 @@
 ghost use Rattle.std.specs.Prelude.{◌≡◌, ◌<◌, ◌≤◌, ◌^◌, length, All, IsTrue};
-ghost use Rattle.lag_returns.specs.Lags.{IsLagged, rows_of};
+ghost use Rattle.lag_returns.specs.Lags.{IsLagged, return_rows};
 
 use crate::Lags;
 use std::alloc::{AllocError, Global};
@@ -105,11 +105,11 @@ fn are_amounts(delivered: &[u64]) -> bool
 
 // What arrives at two nodes. Then the month ends with these deliveries to two rights.
 fn month(lags: &mut Lags, delivered: [u64; 2]) -> [u64; 2]
-    requires few { length (rows_of lags.old) ≤ 8 }
-    requires rights { All (λ row. row.right < 2) (rows_of lags.old) }
-    requires nodes { All (λ row. row.node < 2) (rows_of lags.old) }
+    requires few { length (return_rows lags.old) ≤ 8 }
+    requires rights { All (λ row. row.right < 2) (return_rows lags.old) }
+    requires nodes { All (λ row. row.node < 2) (return_rows lags.old) }
     requires small { All (λ n. n ≤ 10 ^ 9) delivered }
-    ensures { rows_of lags.new ≡ rows_of lags.old }
+    ensures { return_rows lags.new ≡ return_rows lags.old }
 {
     let mut arrived = [0; 2];
     lags.arrive(&mut arrived);

@@ -1,7 +1,7 @@
 use Rattle.std.proofs.Common.{◌∙◌, ◌<◌, length, get_or, ap, refl, arith}
 use Rattle.place_sums.proofs.Totals.{total_start}
 use Rattle.water_model.specs.Lookups.{of_entry}
-use Rattle.lag_returns.specs.Flows.{brought_to}
+use Rattle.lag_returns.specs.ReturnFlows.{brought_to}
 use Rattle.lag_returns.proofs.Places.{row_at, one_row_more, one_row_little}
 use Rattle.lag_returns.proofs.arrive_each.Goals as goal
 

@@ -1,7 +1,7 @@
 use Rattle.std.proofs.Common.{◌≡◌, ℕ, ◌+◌, ◌*◌, ◌^◌, ◌<◌, ◌≤◌, length, get_or}
 use Rattle.place_sums.specs.Sums.{total}
 use Rattle.water_model.specs.Lookups.{of_entry}
-use Rattle.lag_returns.specs.Flows.{brought_to}
+use Rattle.lag_returns.specs.ReturnFlows.{brought_to}
 use Rattle.lag_returns.proofs.arrive_each.Given as goal
 
 abbrev pub invariant-loop-flow : goal.invariant-loop-flow

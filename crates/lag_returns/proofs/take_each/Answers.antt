@@ -1,6 +1,6 @@
 use Rattle.std.proofs.Common.{◌≡◌, ◌∙◌, ◌++◌, ◌+◌, ◌<◌, map, take, drop, length, get_or, set, ap, sym, subst, arith}
 use Rattle.std.proofs.lemmas.List.Edits.{map_over_more}
-use Rattle.lag_returns.specs.Flows.{after_month, with_delivery}
+use Rattle.lag_returns.specs.ReturnFlows.{after_month, with_delivery}
 use Rattle.lag_returns.proofs.Months.{unchanged}
 use Rattle.lag_returns.proofs.Places.{of_row}
 use Rattle.lag_returns.proofs.take_each.Goals as goal

@@ -1,5 +1,5 @@
 use Rattle.std.proofs.Common.{◌≡◌, ◌++◌, map, take, drop}
-use Rattle.lag_returns.specs.Flows.{after_month}
+use Rattle.lag_returns.specs.ReturnFlows.{after_month}
 use Rattle.lag_returns.proofs.take_each.Given as goal
 
 abbrev pub invariant-loop-flow : goal.invariant-loop-flow

@@ -1,7 +1,7 @@
 use Rattle.std.proofs.Common.{◌≡◌, ◌∙◌, [], map, ap, sym, subst, arith}
 use Rattle.std.specs.Prelude.{All}
 use Rattle.std.proofs.lemmas.List.{take_all}
-use Rattle.lag_returns.specs.Flows.{fresh}
+use Rattle.lag_returns.specs.ReturnFlows.{fresh}
 use Rattle.lag_returns.specs.Lags.{IsLagged, StandsFor}
 use Rattle.lag_returns.proofs.Places.{lagged_fresh, stands_fresh}
 use Rattle.lag_returns.proofs.Lags.open.Goals as goal

@@ -1,5 +1,5 @@
 use Rattle.std.proofs.Common.{◌≡◌, map, take}
-use Rattle.lag_returns.specs.Flows.{fresh}
+use Rattle.lag_returns.specs.ReturnFlows.{fresh}
 use Rattle.lag_returns.proofs.Lags.open.Given as goal
 
 abbrev pub invariant-loop-row : goal.invariant-loop-row

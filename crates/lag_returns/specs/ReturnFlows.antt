@@ -8,7 +8,7 @@ use Rattle.lag_returns.specs.Lags.{OnTheWay, IsLagged}
 
 -- a ring of a row has room for as many deliveries as its lag has months, each at most 10^9, and the remainder is less
 -- than a whole unit
-pub record IsSoundFlow (row : ReturnRow) (ring : Buffer ℕ) (rest : ℕ) : Type 0 where
+pub record IsSoundReturn (row : ReturnRow) (ring : Buffer ℕ) (rest : ℕ) : Type 0 where
   pub lagged : IsLagged row
   pub capacity : ring.capacity ≡ row.lag
   pub small : All (λ n. n ≤ 10 ^ 9) ring.items
