@@ -2,5 +2,6 @@ pub mod CsvRecords
 pub mod Entries
 pub mod GaugePlaces
 pub mod Given
+pub mod Readable
 pub mod RecordsLeft
 pub mod SeriesFaults

@@ -3,9 +3,10 @@ ghost use Rattle.std.specs.Prelude.{◌≡◌, ◌++◌, ◌∷◌, [], ◌<◌,
 ghost use Rattle.csv.specs.Records.{fields_of};
 ghost use Rattle.water_text.specs.Months.{IsMonth};
 ghost use Rattle.water_model.specs.Hydrology.{run_month, place_in};
-ghost use Rattle.water_model.specs.Valid.{IsValidBasin, gauged_nodes, is_gauged};
+ghost use Rattle.water_model.specs.Valid.{gauged_nodes, is_gauged};
 ghost use Rattle.inflow_file.specs.Entries.{IsEntry};
 ghost use Rattle.inflow_file.specs.Given.{given, given_by, Completes};
+ghost use Rattle.inflow_file.specs.Readable.{IsReadable};
 ghost use Rattle.inflow_file.specs.SeriesFaults.{is_in_run, repeats, fault_after};
 ghost use Rattle.inflow_file.specs.declared.entry.Entry.{Entry};
 
@@ -19,7 +20,7 @@ use water_text::month::Month;
 
 /// The index of a month in the run, or `None` where the run hasn't it.
 fn index_in_run(basin: &Basin, month: Month) -> Option<u32>
-    requires basin { IsValidBasin basin.now }
+    requires basin { IsReadable basin.now }
     requires month { IsMonth month }
     ensures { MatchOption result (is_in_run basin.now month ≡ false) (λ i. (i < basin.now.months) × (month ≡ run_month basin.now i)) }
 {
@@ -36,7 +37,7 @@ fn index_in_run(basin: &Basin, month: Month) -> Option<u32>
 
 /// The place of a gauged node's amount in the month with this index.
 fn place_of(gauges: &Gauges, index: u32, node: u32) -> usize
-    requires basin { IsValidBasin gauges.now.basin.now }
+    requires basin { IsReadable gauges.now.basin.now }
     requires index { index < gauges.now.basin.now.months }
     requires node { node < length gauges.now.basin.now.nodes }
     requires gauged { is_gauged gauges.now.basin.now node ≡ true }
@@ -53,7 +54,7 @@ pub(crate) fn enter(
     amounts: &mut [Option<u64>],
     entry: &Entry,
 ) -> Result<(), SeriesFault>
-    requires basin { IsValidBasin gauges.now.basin.now }
+    requires basin { IsReadable gauges.now.basin.now }
     requires entry { IsEntry gauges.now.basin.now entry.now }
     requires count { length amounts.old ≡ gauges.now.basin.now.months * length (gauged_nodes gauges.now.basin.now) }
     ensures { (earlier : List Entry) → amounts.old ≡ given gauges.now.basin.now earlier → MatchResult result
@@ -87,7 +88,7 @@ fn first_gap(amounts: &[Option<u64>]) -> usize
 
 /// The month of the run with this index.
 fn month_at(basin: &Basin, index: u32) -> Month
-    requires basin { IsValidBasin basin.now }
+    requires basin { IsReadable basin.now }
     requires index { index < basin.now.months }
     ensures { result ≡ run_month basin.now index }
 {
@@ -99,7 +100,7 @@ fn month_at(basin: &Basin, index: u32) -> Month
 
 /// The month and the node for which the amount at a place isn't there.
 fn missing_at(gauges: &Gauges, place: usize) -> SeriesRefused
-    requires basin { IsValidBasin gauges.now.basin.now }
+    requires basin { IsReadable gauges.now.basin.now }
     requires place { place < gauges.now.basin.now.months * length (gauged_nodes gauges.now.basin.now) }
     ensures { result ≡ SeriesRefused.Missing (run_month gauges.now.basin.now (place / length (gauged_nodes gauges.now.basin.now)))
         (slice_index (gauged_nodes gauges.now.basin.now) (place % length (gauged_nodes gauges.now.basin.now))) }
@@ -128,7 +129,7 @@ pub(crate) fn complete(
     gauges: Gauges,
     amounts: &[Option<u64>],
 ) -> Result<Inflows, SeriesRefused>
-    requires basin { IsValidBasin gauges.basin.now }
+    requires basin { IsReadable gauges.basin.now }
     requires count { length amounts.now ≡ gauges.basin.now.months * length (gauged_nodes gauges.basin.now) }
     ensures { (rows : List (List (List ℕ))) → amounts.now ≡ given_by gauges.entry.basin.now rows → Completes gauges.entry.basin.now rows result }
 {

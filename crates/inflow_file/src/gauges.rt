@@ -2,8 +2,9 @@
 ghost use Rattle.std.specs.Prelude.{◌≡◌, ℕ, ◌<◌, ◌≤◌, ◌++◌, ◌∷◌, [], length, slice_index, true, if◌then◌else◌, IfOk, OnOk};
 ghost use Rattle.csv.specs.Records.{fields_of};
 ghost use Rattle.water_model.specs.Hydrology.{place_in};
-ghost use Rattle.water_model.specs.Valid.{IsValidBasin, is_gauged, gauged_nodes};
+ghost use Rattle.water_model.specs.Valid.{is_gauged, gauged_nodes};
 ghost use Rattle.inflow_file.specs.Entries.{IsEntry, node_named, read_record};
+ghost use Rattle.inflow_file.specs.Readable.{IsReadable};
 ghost use Rattle.inflow_file.specs.GaugePlaces.{AreNumbers, AddsNumber, ArePlaces};
 
 use crate::entry::Entry;
@@ -85,7 +86,7 @@ fn add_gauge(gauged: &mut Vec<u32>, basin: &Basin, node: u32) -> Result<(), Allo
 
 /// The gauges of a basin.
 fn places_of(alloc: Global, basin: &Basin) -> Result<Places, AllocError>
-    requires { IsValidBasin basin.now }
+    requires { IsReadable basin.now }
     ensures { IfOk result (λ places. ArePlaces basin.now places.gauged.items places.of_node.items) }
 {
     let mut gauged = Vec::new(alloc);
@@ -100,7 +101,7 @@ fn places_of(alloc: Global, basin: &Basin) -> Result<Places, AllocError>
 impl<'a> Gauges<'a> {
     /// The gauges of a basin.
     pub fn of(alloc: Global, basin: &'a Basin) -> Result<Gauges<'a>, AllocError>
-        requires { IsValidBasin basin.now }
+        requires { IsReadable basin.now }
         ensures { IfOk result (λ gauges. gauges.basin.now ≡ basin.now) }
     {
         let numbers = numbers_of(alloc, basin.nodes.as_slice())?;
