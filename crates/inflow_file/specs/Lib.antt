@@ -1,5 +1,6 @@
 pub mod CsvRecords
 pub mod Entries
+pub mod FaultNames
 pub mod GaugePlaces
 pub mod Given
 pub mod Readable

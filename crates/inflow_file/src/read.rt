@@ -100,7 +100,11 @@ fn read_amounts(
 }
 
 /// The same as `read_inflows`, of a basin that has what the reading needs.
-fn read_series(alloc: Global, basin: &Basin, text: &[u8]) -> Result<Inflows, SeriesRefused>
+pub(crate) fn read_series(
+    alloc: Global,
+    basin: &Basin,
+    text: &[u8],
+) -> Result<Inflows, SeriesRefused>
     requires { IsReadable basin.now }
     ensures spelled { IfOk result (SpellsSeries basin.now text.now) }
     ensures valid { IfOk result (IsSeriesOf basin.now) }
