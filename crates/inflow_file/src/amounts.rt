@@ -1,13 +1,12 @@
 //! The amounts that records give, gauge by gauge in each month of the run.
 ghost use Rattle.std.specs.Prelude.{◌≡◌, ◌++◌, ◌∷◌, [], ◌<◌, ◌≤◌, ◌+◌, ◌*◌, ◌/◌, ◌%◌, List, ℕ, length, map, slice_index, slice_index_or, is_some, unwrap_or, Some, None, MatchOption, MatchResult, IfOk, true, false};
-ghost use Rattle.csv.specs.Records.{fields_of};
 ghost use Rattle.water_text.specs.Months.{IsMonth};
 ghost use Rattle.water_model.specs.Hydrology.{run_month, place_in};
 ghost use Rattle.water_model.specs.Valid.{gauged_nodes, is_gauged};
 ghost use Rattle.inflow_file.specs.Entries.{IsEntry};
 ghost use Rattle.inflow_file.specs.Given.{given, given_by, Completes};
 ghost use Rattle.inflow_file.specs.Readable.{IsReadable};
-ghost use Rattle.inflow_file.specs.SeriesFaults.{is_in_run, repeats, fault_after};
+ghost use Rattle.inflow_file.specs.SeriesFaults.{is_in_run, repeats};
 ghost use Rattle.inflow_file.specs.declared.entry.Entry.{Entry};
 
 use crate::entry::Entry;
@@ -44,7 +43,7 @@ fn place_of(gauges: &Gauges, index: u32, node: u32) -> usize
     ensures place { result ≡ index * length (gauged_nodes gauges.now.basin.now) + place_in (gauged_nodes gauges.now.basin.now) node }
     ensures within { result < gauges.now.basin.now.months * length (gauged_nodes gauges.now.basin.now) }
 {
-    index as usize * gauges.gauged.len() + gauges.places[node as usize] as usize
+    index as usize * gauges.count() + gauges.place_of(node) as usize
 }
 
 /// Enters the amount of an entry, or refuses the entry where an earlier one has its month and node. An entry for a month
@@ -105,7 +104,7 @@ fn missing_at(gauges: &Gauges, place: usize) -> SeriesRefused
     ensures { result ≡ SeriesRefused.Missing (run_month gauges.now.basin.now (place / length (gauged_nodes gauges.now.basin.now)))
         (slice_index (gauged_nodes gauges.now.basin.now) (place % length (gauged_nodes gauges.now.basin.now))) }
 {
-    let count = gauges.gauged.len();
+    let count = gauges.count();
     SeriesRefused::Missing {
         month: month_at(gauges.basin, (place / count) as u32),
         node: gauges.gauged[place % count],

@@ -28,9 +28,9 @@ struct Places {
 #[derive(Drop)]
 pub(crate) struct Gauges<'a> {
     pub basin: &'a Basin,
-    pub numbers: IndexMap<&'a [u8], u32>,
+    numbers: IndexMap<&'a [u8], u32>,
     pub gauged: Vec<u32>,
-    pub places: Vec<u32>,
+    places: Vec<u32>,
     ghost numbered: { AreNumbers basin.now.nodes numbers },
     ghost nodes: { gauged.items ≡ gauged_nodes basin.now },
     ghost count: { length places.items ≡ length basin.now.nodes },
@@ -112,6 +112,22 @@ impl<'a> Gauges<'a> {
             gauged,
             places: of_node,
         })
+    }
+
+    /// How many nodes are gauged.
+    pub fn count(&self) -> usize
+        ensures { result ≡ length (gauged_nodes self.now.basin.now) }
+    {
+        self.gauged.len()
+    }
+
+    /// The place of a gauged node among the gauged nodes.
+    pub fn place_of(&self, node: u32) -> u32
+        requires node { node < length self.now.basin.now.nodes }
+        requires gauged { is_gauged self.now.basin.now node ≡ true }
+        ensures { result ≡ place_in (gauged_nodes self.now.basin.now) node }
+    {
+        self.places[node as usize]
     }
 
     /// The number of the first node of a name.

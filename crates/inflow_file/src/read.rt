@@ -80,7 +80,7 @@ fn no_amounts(alloc: Global, gauges: &Gauges) -> Result<Vec<Option<u64>>, AllocE
     requires { IsReadable gauges.now.basin.now }
     ensures { IfOk result (λ amounts. amounts.items ≡ given_by gauges.now.basin.now []) }
 {
-    let due = gauges.basin.months as usize * gauges.gauged.len();
+    let due = gauges.basin.months as usize * gauges.count();
     vec![in alloc; None; due]
 }
 
