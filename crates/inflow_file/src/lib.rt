@@ -2,7 +2,7 @@
 #![tactic(auto)]
 
 mod amounts;
-pub mod entry;
+mod entry;
 mod gauges;
 mod read;
 mod records;

@@ -116,11 +116,14 @@ pub(crate) fn read_series(
     complete(alloc, gauges, amounts.as_slice())
 }
 
-/// The table of the header alone.
+/// The bytes of a table of the header alone: the series of a basin without gauges.
 pub const HEADER: &[u8] = b"month,node,amount\n";
 
-/// The series of a basin that a table spells: an inflow of each gauged node, in units of 1,000 cubic metres, for each
-/// month of the run. Where the table is at fault, the first fault is told, and want of memory may come at any point.
+/// The series of a basin that a table spells: for each month of the run an inflow of each gauged node, in units of
+/// 1,000 cubic metres. Where the table is at fault, the first fault is told, and want of memory may come at any point.
+///
+/// A record takes the time of a look-up by name. The memory is that of the series and of a mark for each of its amounts:
+/// records aren't kept.
 pub fn read_inflows(alloc: Global, basin: &Basin, text: &[u8]) -> Result<Inflows, SeriesRefused>
     requires { IsValidBasin basin.now }
     ensures spelled { IfOk result (SpellsSeries basin.now text.now) }

@@ -24,4 +24,4 @@ few_nodes b first months nodes links rights = record {
 }
 
 pub returns : goal.returns
-returns c = few_nodes _ refl refl (omega (arith, c.new-nodes.ensures, ap length c.new-nodes.ensures, c.in_ok-push_node.ensures, c.in_ok-push_node-2.ensures, c.in_ok-push_node-3.ensures)) c.new.ensures c.new-3.ensures
+returns c = few_nodes _ refl refl (omega (arith, ap length c.new-nodes.ensures, c.in_ok-push_node.ensures, c.in_ok-push_node-2.ensures, c.in_ok-push_node-3.ensures)) c.new.ensures c.new-3.ensures
