@@ -24,6 +24,7 @@ use Rattle.water_text.proofs.AmountLaws.{amount_is_read}
 use Rattle.water_model.proofs.Gauges.{cell_within}
 use Rattle.inflow_file.specs.Entries.{need, node_named, read_record}
 use Rattle.inflow_file.specs.Given.{given, given_by}
+use Rattle.inflow_file.specs.Readable.{IsReadable}
 use Rattle.inflow_file.specs.SeriesFaults.{IsRefusalOf, SpellsAmounts, amount_for, due, entries_of, is_same_month, missing}
 use Rattle.inflow_file.specs.declared.entry.Entry.{Entry}
 use Rattle.inflow_file.specs.declared.refused.SeriesFault.{SeriesFault}
@@ -190,13 +191,13 @@ spelled b rows series amounts node i is filled gauged l g m =
     ∙ (filled_at amounts series.amount (i * gauges b + place_in (gauged_nodes b) node) filled within
     ∙ ap (λ n. Some n) (sym (inflow_gauged b series node i g ∙ ap (λ xs. table_at xs series.amount i node) gauged)))))
 
--- no right of a basin of format 1 stands in the series
+-- no right of a valid basin of format 1 stands in the series
 none_marked : (p : ℕ → Bool) (from count : ℕ) → ((k : ℕ) → k < from + count → p k ≡ false) → filter p (numbers_from from count) ≡ []
 unfolding numbers_from
 none_marked p from zero h = refl
 none_marked p from (suc count) h = rw (h from (omega arith)) (none_marked p (suc from) count (λ k l. h k (omega arith)))
 
-pub no_rights : (b : Basin) → All (λ r. IsValidRight b r) b.rights → rights_in_series b ≡ []
+no_rights : (b : Basin) → All (λ r. IsValidRight b r) b.rights → rights_in_series b ≡ []
 no_rights b valid = none_marked (λ r. of_entry b.rights r (λ right. right.series) false) 0 (length b.rights) (λ k l. by_entry k (slice_get b.rights k) refl)
   where
     by_entry : (k : ℕ) (o : Option Right) → slice_get b.rights k ≡ o → unwrap_or (option_map (λ (r : Right). r.series) o) false ≡ false
@@ -205,16 +206,16 @@ no_rights b valid = none_marked (λ r. of_entry b.rights r (λ right. right.seri
         ap (λ (x : Right). x.series) (sym (get_or_from_slice_get b.rights k r r e)) ∙ (valid k r (slice_get_within b.rights k r e)).no_series
 
 -- a filled table is the series of a faultless one
-pub complete_series : (b : Basin) (rows : List (List (List ℕ))) (amounts : List (Option ℕ)) (series : Inflows) → IsValidBasin b → amounts ≡ given_by b rows →
+pub complete_series : (b : Basin) (rows : List (List (List ℕ))) (amounts : List (Option ℕ)) (series : Inflows) → IsReadable b → amounts ≡ given_by b rows →
     IsFilled amounts series.amount → series.gauged ≡ gauged_nodes b → series.wanted ≡ [] → series.want ≡ [] →
     (missing b (entries_of b rows) ≡ None) × IsSeriesOf b series × SpellsAmounts b rows series
-complete_series b rows amounts series valid is filled gauged wanted want = (
+complete_series b rows amounts series readable is filled gauged wanted want = (
   none_missing b (entries_of b rows) amounts is filled.all,
   record {
     gauged = gauged;
     amounts = ap length filled.filled_is ∙ (length-map amounts (λ a. unwrap_or a 0) ∙ (ap length is ∙ (length-given b (entries_of b rows) ∙ ap (λ xs. b.months * length xs) (sym gauged))));
     small_amounts = small_filled b rows amounts series.amount is filled;
-    wanted = wanted ∙ sym (no_rights b valid.rights);
+    wanted = wanted ∙ sym readable.rights;
     wants = rw (want, wanted) (omega arith);
     small_wants = rw want (All-nil (λ n. n ≤ 10 ^ 9));
   },
@@ -225,3 +226,6 @@ pub missing_told : (b : Basin) (rows : List (List (List ℕ))) (amounts : List (
     ((j : ℕ) → j < k → is_some (get_or amounts j None) ≡ true) → is_some (get_or amounts k None) ≡ false →
     e ≡ refused.Missing (run_month b (k / gauges b)) (get_or (gauged_nodes b) (k % gauges b) 0) → IsRefusalOf (missing b (entries_of b rows)) e
 missing_told b rows amounts k e is l before here told = rw told (first_missing b (entries_of b rows) amounts k is l before here)
+
+pub valid_is_readable : (b : Basin) → IsValidBasin b → IsReadable b
+valid_is_readable b valid = record { run = valid.run; few = valid.few; rights = no_rights b valid.rights }

@@ -131,7 +131,8 @@ pub one_more : (s : State) (bytes : List ℕ) (r : Read) → ends_at_end s ≡ f
 unfolding records_from
 one_more s bytes r between e =
     let h = takes_bytes s bytes r between e in
-    rw (add-one, e) (ap (λ rows. r.0 ∷ rows) (enough (length bytes) (length r.2 + 1) r.1 r.2 h.between h.fewer (omega arith)))
+    let turns : length bytes + 1 ≡ suc (length bytes) = omega arith in
+    rw (turns, e) (ap (λ rows. r.0 ∷ rows) (enough (length bytes) (length r.2 + 1) r.1 r.2 h.between h.fewer (omega arith)))
 
 pub no_more : (s : State) (bytes : List ℕ) → next_record default_config s [] [] bytes ≡ None → records_in s (Some bytes) ≡ []
 unfolding records_from

@@ -1,5 +1,5 @@
 -- What a record of a series says.
-use Rattle.std.specs.Prelude.{◌≡◌, ℕ, ◌^◌, ◌<◌, ◌≤◌, true, length, List, [], ◌∷◌, Option, Some, None, Result, Ok, Err, position, if◌then◌else◌}
+use Rattle.std.specs.Prelude.{◌≡◌, ℕ, ◌^◌, ◌<◌, true, length, List, [], ◌∷◌, Option, Some, None, Result, Ok, Err, position, if◌then◌else◌}
 use Rattle.std.specs.Str.{bytes_eq}
 use Rattle.water_text.specs.Amounts.{read_amount}
 use Rattle.water_text.specs.Months.{IsMonth, read_month}
@@ -28,9 +28,8 @@ read_record b (month ∷ name ∷ amount ∷ []) =
     else Err fault.NotGauged))
 read_record b _ = Err fault.Csv
 
--- what holds of every entry that is read
+-- the month is one that there is, and the node is a gauged one: so it is with every entry that is read
 pub record IsEntry (b : Basin) (e : Entry) : Type 0 where
   pub month : IsMonth e.month
   pub node : e.node < length b.nodes
   pub gauged : is_gauged b e.node ≡ true
-  pub amount : e.amount ≤ 10 ^ 9

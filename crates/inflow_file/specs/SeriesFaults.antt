@@ -16,6 +16,7 @@ use Rattle.inflow_file.specs.declared.refused.SeriesFault.TheVariants as fault
 use Rattle.inflow_file.specs.declared.refused.SeriesRefused.{SeriesRefused}
 use Rattle.inflow_file.specs.declared.refused.SeriesRefused.TheVariants as refused
 
+-- months are told apart by year and month
 abbrev pub is_same_month : Month → Month → Bool
 is_same_month m n = m.year == n.year && m.month == n.month
 
@@ -31,7 +32,7 @@ abbrev pub amount_for : List Entry → Month → ℕ → Option ℕ
 amount_for entries month node =
     option_map (λ e. e.amount) (find (λ e. is_same_month month e.month && e.node == node) entries)
 
--- what the records that can be read say
+-- what records say, where they can be read
 abbrev pub entries_of : Basin → List (List (List ℕ)) → List Entry
 entries_of b rows = filter_map (λ row. result_ok (read_record b row)) rows
 
@@ -39,6 +40,7 @@ entries_of b rows = filter_map (λ row. result_ok (read_record b row)) rows
 abbrev pub repeats : Basin → List Entry → Entry → Bool
 repeats b earlier e = is_in_run b e.month && is_some (amount_for earlier e.month e.node)
 
+-- the fault of a record by itself, and else that earlier entries have its month and node
 abbrev pub fault_after : Basin → List Entry → Result Entry SeriesFault → Option SeriesFault
 fault_after b earlier (Err fault) = Some fault
 fault_after b earlier (Ok e) = if repeats b earlier e then Some fault.Repeated else None
@@ -47,7 +49,7 @@ fault_after b earlier (Ok e) = if repeats b earlier e then Some fault.Repeated e
 abbrev pub record_fault : Basin → List (List (List ℕ)) → List (List ℕ) → Option SeriesFault
 record_fault b before row = fault_after b (entries_of b before) (read_record b row)
 
--- the first of some records that is at fault. The first of them has the number
+-- the first of some records that is at fault, after those before. Records count on from the number
 unfoldable pub first_fault : Basin → List (List (List ℕ)) → ℕ → List (List (List ℕ)) → Option SeriesRefused
 first_fault b before number [] = None
 first_fault b before number (row ∷ rows) =
@@ -70,6 +72,7 @@ table_fault b (header ∷ rows) =
     if is_header header then option_or (first_fault b [] 2 rows) (missing b (entries_of b rows))
     else Some (refused.Record fault.Header 1)
 
+-- the first fault of bytes, as the series of a basin
 abbrev pub series_fault : Basin → List ℕ → Option SeriesRefused
 series_fault b text = table_fault b (records_of text)
 

@@ -1,12 +1,12 @@
 //! The amounts that records give, gauge by gauge in each month of the run.
 ghost use Rattle.std.specs.Prelude.{◌≡◌, ◌++◌, ◌∷◌, [], ◌<◌, ◌≤◌, ◌+◌, ◌*◌, ◌/◌, ◌%◌, List, ℕ, length, map, slice_index, slice_index_or, is_some, unwrap_or, Some, None, MatchOption, MatchResult, IfOk, true, false};
-ghost use Rattle.csv.specs.Records.{fields_of};
 ghost use Rattle.water_text.specs.Months.{IsMonth};
 ghost use Rattle.water_model.specs.Hydrology.{run_month, place_in};
-ghost use Rattle.water_model.specs.Valid.{IsValidBasin, gauged_nodes, is_gauged};
+ghost use Rattle.water_model.specs.Valid.{gauged_nodes, is_gauged};
 ghost use Rattle.inflow_file.specs.Entries.{IsEntry};
 ghost use Rattle.inflow_file.specs.Given.{given, given_by, Completes};
-ghost use Rattle.inflow_file.specs.SeriesFaults.{is_in_run, repeats, fault_after};
+ghost use Rattle.inflow_file.specs.Readable.{IsReadable};
+ghost use Rattle.inflow_file.specs.SeriesFaults.{is_in_run, repeats};
 ghost use Rattle.inflow_file.specs.declared.entry.Entry.{Entry};
 
 use crate::entry::Entry;
@@ -19,7 +19,7 @@ use water_text::month::Month;
 
 /// The index of a month in the run, or `None` where the run hasn't it.
 fn index_in_run(basin: &Basin, month: Month) -> Option<u32>
-    requires basin { IsValidBasin basin.now }
+    requires basin { IsReadable basin.now }
     requires month { IsMonth month }
     ensures { MatchOption result (is_in_run basin.now month ≡ false) (λ i. (i < basin.now.months) × (month ≡ run_month basin.now i)) }
 {
@@ -36,14 +36,14 @@ fn index_in_run(basin: &Basin, month: Month) -> Option<u32>
 
 /// The place of a gauged node's amount in the month with this index.
 fn place_of(gauges: &Gauges, index: u32, node: u32) -> usize
-    requires basin { IsValidBasin gauges.now.basin.now }
+    requires basin { IsReadable gauges.now.basin.now }
     requires index { index < gauges.now.basin.now.months }
     requires node { node < length gauges.now.basin.now.nodes }
     requires gauged { is_gauged gauges.now.basin.now node ≡ true }
     ensures place { result ≡ index * length (gauged_nodes gauges.now.basin.now) + place_in (gauged_nodes gauges.now.basin.now) node }
     ensures within { result < gauges.now.basin.now.months * length (gauged_nodes gauges.now.basin.now) }
 {
-    index as usize * gauges.gauged.len() + gauges.places[node as usize] as usize
+    index as usize * gauges.count() + gauges.place_of(node) as usize
 }
 
 /// Enters the amount of an entry, or refuses the entry where an earlier one has its month and node. An entry for a month
@@ -53,7 +53,7 @@ pub(crate) fn enter(
     amounts: &mut [Option<u64>],
     entry: &Entry,
 ) -> Result<(), SeriesFault>
-    requires basin { IsValidBasin gauges.now.basin.now }
+    requires basin { IsReadable gauges.now.basin.now }
     requires entry { IsEntry gauges.now.basin.now entry.now }
     requires count { length amounts.old ≡ gauges.now.basin.now.months * length (gauged_nodes gauges.now.basin.now) }
     ensures { (earlier : List Entry) → amounts.old ≡ given gauges.now.basin.now earlier → MatchResult result
@@ -87,7 +87,7 @@ fn first_gap(amounts: &[Option<u64>]) -> usize
 
 /// The month of the run with this index.
 fn month_at(basin: &Basin, index: u32) -> Month
-    requires basin { IsValidBasin basin.now }
+    requires basin { IsReadable basin.now }
     requires index { index < basin.now.months }
     ensures { result ≡ run_month basin.now index }
 {
@@ -99,12 +99,12 @@ fn month_at(basin: &Basin, index: u32) -> Month
 
 /// The month and the node for which the amount at a place isn't there.
 fn missing_at(gauges: &Gauges, place: usize) -> SeriesRefused
-    requires basin { IsValidBasin gauges.now.basin.now }
+    requires basin { IsReadable gauges.now.basin.now }
     requires place { place < gauges.now.basin.now.months * length (gauged_nodes gauges.now.basin.now) }
     ensures { result ≡ SeriesRefused.Missing (run_month gauges.now.basin.now (place / length (gauged_nodes gauges.now.basin.now)))
         (slice_index (gauged_nodes gauges.now.basin.now) (place % length (gauged_nodes gauges.now.basin.now))) }
 {
-    let count = gauges.gauged.len();
+    let count = gauges.count();
     SeriesRefused::Missing {
         month: month_at(gauges.basin, (place / count) as u32),
         node: gauges.gauged[place % count],
@@ -128,7 +128,7 @@ pub(crate) fn complete(
     gauges: Gauges,
     amounts: &[Option<u64>],
 ) -> Result<Inflows, SeriesRefused>
-    requires basin { IsValidBasin gauges.basin.now }
+    requires basin { IsReadable gauges.basin.now }
     requires count { length amounts.now ≡ gauges.basin.now.months * length (gauged_nodes gauges.basin.now) }
     ensures { (rows : List (List (List ℕ))) → amounts.now ≡ given_by gauges.entry.basin.now rows → Completes gauges.entry.basin.now rows result }
 {

@@ -3,7 +3,7 @@ use water_text::month::Month;
 
 /// An inflow: what comes in at a node in a month, in units of 1,000 cubic metres. Nodes are numbered from 0.
 #[derive(Clone, Copy, Debug, PartialEq, Eq)]
-pub struct Entry {
+pub(crate) struct Entry {
     pub month: Month,
     pub node: u32,
     pub amount: u64,

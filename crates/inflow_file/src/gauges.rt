@@ -2,8 +2,9 @@
 ghost use Rattle.std.specs.Prelude.{◌≡◌, ℕ, ◌<◌, ◌≤◌, ◌++◌, ◌∷◌, [], length, slice_index, true, if◌then◌else◌, IfOk, OnOk};
 ghost use Rattle.csv.specs.Records.{fields_of};
 ghost use Rattle.water_model.specs.Hydrology.{place_in};
-ghost use Rattle.water_model.specs.Valid.{IsValidBasin, is_gauged, gauged_nodes};
+ghost use Rattle.water_model.specs.Valid.{is_gauged, gauged_nodes};
 ghost use Rattle.inflow_file.specs.Entries.{IsEntry, node_named, read_record};
+ghost use Rattle.inflow_file.specs.Readable.{IsReadable};
 ghost use Rattle.inflow_file.specs.GaugePlaces.{AreNumbers, AddsNumber, ArePlaces};
 
 use crate::entry::Entry;
@@ -27,9 +28,9 @@ struct Places {
 #[derive(Drop)]
 pub(crate) struct Gauges<'a> {
     pub basin: &'a Basin,
-    pub numbers: IndexMap<&'a [u8], u32>,
+    numbers: IndexMap<&'a [u8], u32>,
     pub gauged: Vec<u32>,
-    pub places: Vec<u32>,
+    places: Vec<u32>,
     ghost numbered: { AreNumbers basin.now.nodes numbers },
     ghost nodes: { gauged.items ≡ gauged_nodes basin.now },
     ghost count: { length places.items ≡ length basin.now.nodes },
@@ -85,7 +86,7 @@ fn add_gauge(gauged: &mut Vec<u32>, basin: &Basin, node: u32) -> Result<(), Allo
 
 /// The gauges of a basin.
 fn places_of(alloc: Global, basin: &Basin) -> Result<Places, AllocError>
-    requires { IsValidBasin basin.now }
+    requires { IsReadable basin.now }
     ensures { IfOk result (λ places. ArePlaces basin.now places.gauged.items places.of_node.items) }
 {
     let mut gauged = Vec::new(alloc);
@@ -100,7 +101,7 @@ fn places_of(alloc: Global, basin: &Basin) -> Result<Places, AllocError>
 impl<'a> Gauges<'a> {
     /// The gauges of a basin.
     pub fn of(alloc: Global, basin: &'a Basin) -> Result<Gauges<'a>, AllocError>
-        requires { IsValidBasin basin.now }
+        requires { IsReadable basin.now }
         ensures { IfOk result (λ gauges. gauges.basin.now ≡ basin.now) }
     {
         let numbers = numbers_of(alloc, basin.nodes.as_slice())?;
@@ -111,6 +112,22 @@ impl<'a> Gauges<'a> {
             gauged,
             places: of_node,
         })
+    }
+
+    /// How many nodes are gauged.
+    pub fn count(&self) -> usize
+        ensures { result ≡ length (gauged_nodes self.now.basin.now) }
+    {
+        self.gauged.len()
+    }
+
+    /// The place of a gauged node among the gauged nodes.
+    pub fn place_of(&self, node: u32) -> u32
+        requires node { node < length self.now.basin.now.nodes }
+        requires gauged { is_gauged self.now.basin.now node ≡ true }
+        ensures { result ≡ place_in (gauged_nodes self.now.basin.now) node }
+    {
+        self.places[node as usize]
     }
 
     /// The number of the first node of a name.

@@ -2,11 +2,13 @@
 #![tactic(auto)]
 
 mod amounts;
-pub mod entry;
+mod entry;
 mod gauges;
 mod read;
 mod records;
 mod refused;
+#[cfg(test)]
+mod tests;
 
 pub use read::{HEADER, read_inflows};
 pub use refused::{SeriesFault, SeriesRefused};

@@ -5,6 +5,7 @@ ghost use Rattle.water_model.specs.Valid.{IsValidBasin, IsSeriesOf, gauged_nodes
 ghost use Rattle.inflow_file.specs.CsvRecords.{records_of};
 ghost use Rattle.inflow_file.specs.Given.{given_by, Takes, TakesAll, TakesTable, TookTable};
 ghost use Rattle.inflow_file.specs.RecordsLeft.{IsReading, records_left};
+ghost use Rattle.inflow_file.specs.Readable.{IsReadable};
 ghost use Rattle.inflow_file.specs.SeriesFaults.{IsSeriesRefusal, SpellsSeries, series_fault};
 
 use crate::amounts::{complete, enter};
@@ -17,7 +18,7 @@ use water_model::types::{Basin, Inflows};
 
 /// Takes a record behind the header, unless it is at fault.
 fn take(gauges: &Gauges, amounts: &mut [Option<u64>], row: &ByteRecord) -> Result<(), SeriesFault>
-    requires basin { IsValidBasin gauges.now.basin.now }
+    requires basin { IsReadable gauges.now.basin.now }
     requires count { length amounts.old ≡ gauges.now.basin.now.months * length (gauged_nodes gauges.now.basin.now) }
     ensures { (before : List (List (List ℕ))) → Takes gauges.now.basin.now before (fields_of row.now) amounts.old amounts.new result }
 {
@@ -37,7 +38,7 @@ fn take_all(
 ) -> Result<(), SeriesRefused>
     requires reader { IsReading reader.old }
     requires few { length (records_left reader.old) + 1 < 2 ^ 64 }
-    requires basin { IsValidBasin gauges.now.basin.now }
+    requires basin { IsReadable gauges.now.basin.now }
     requires empty { amounts.old ≡ given_by gauges.now.basin.now [] }
     ensures { TakesAll gauges.now.basin.now (records_left reader.old) amounts.new result }
 {
@@ -58,7 +59,7 @@ fn take_table(
     gauges: &Gauges,
     amounts: &mut [Option<u64>],
 ) -> Result<(), SeriesRefused>
-    requires basin { IsValidBasin gauges.now.basin.now }
+    requires basin { IsReadable gauges.now.basin.now }
     requires empty { amounts.old ≡ given_by gauges.now.basin.now [] }
     ensures { TakesTable gauges.now.basin.now (records_of text.now) amounts.new result }
 {
@@ -76,10 +77,10 @@ fn take_table(
 
 /// A place for each amount that is due, none of which is given.
 fn no_amounts(alloc: Global, gauges: &Gauges) -> Result<Vec<Option<u64>>, AllocError>
-    requires { IsValidBasin gauges.now.basin.now }
+    requires { IsReadable gauges.now.basin.now }
     ensures { IfOk result (λ amounts. amounts.items ≡ given_by gauges.now.basin.now []) }
 {
-    let due = gauges.basin.months as usize * gauges.gauged.len();
+    let due = gauges.basin.months as usize * gauges.count();
     vec![in alloc; None; due]
 }
 
@@ -89,7 +90,7 @@ fn read_amounts(
     gauges: &Gauges,
     text: &[u8],
 ) -> Result<Vec<Option<u64>>, SeriesRefused>
-    requires { IsValidBasin gauges.now.basin.now }
+    requires { IsReadable gauges.now.basin.now }
     ensures ok { IfOk result (λ amounts. TookTable gauges.now.basin.now (records_of text.now) amounts.items) }
     ensures refused { IfErr result (λ e. IsSeriesRefusal e gauges.now.basin.now text.now) }
 {
@@ -98,13 +99,13 @@ fn read_amounts(
     Ok(amounts)
 }
 
-/// The table of the header alone.
-pub const HEADER: &[u8] = b"month,node,amount\n";
-
-/// The series of a basin that a table spells: an inflow of each gauged node, in units of 1,000 cubic metres, for each
-/// month of the run. Where the table is at fault, the first fault is told, and want of memory may come at any point.
-pub fn read_inflows(alloc: Global, basin: &Basin, text: &[u8]) -> Result<Inflows, SeriesRefused>
-    requires { IsValidBasin basin.now }
+/// The same as `read_inflows`, of a basin that has what the reading needs.
+pub(crate) fn read_series(
+    alloc: Global,
+    basin: &Basin,
+    text: &[u8],
+) -> Result<Inflows, SeriesRefused>
+    requires { IsReadable basin.now }
     ensures spelled { IfOk result (SpellsSeries basin.now text.now) }
     ensures valid { IfOk result (IsSeriesOf basin.now) }
     ensures faultless { OnOk result (series_fault basin.now text.now ≡ None) }
@@ -113,4 +114,22 @@ pub fn read_inflows(alloc: Global, basin: &Basin, text: &[u8]) -> Result<Inflows
     let gauges = Gauges::of(alloc, basin)?;
     let amounts = read_amounts(alloc, &gauges, text)?;
     complete(alloc, gauges, amounts.as_slice())
+}
+
+/// The bytes of a table of the header alone: the series of a basin without gauges.
+pub const HEADER: &[u8] = b"month,node,amount\n";
+
+/// The series of a basin that a table spells: for each month of the run an inflow of each gauged node, in units of
+/// 1,000 cubic metres. Where the table is at fault, the first fault is told, and want of memory may come at any point.
+///
+/// A record takes the time of a look-up by name. The memory is that of the series and of a mark for each of its amounts:
+/// records aren't kept.
+pub fn read_inflows(alloc: Global, basin: &Basin, text: &[u8]) -> Result<Inflows, SeriesRefused>
+    requires { IsValidBasin basin.now }
+    ensures spelled { IfOk result (SpellsSeries basin.now text.now) }
+    ensures valid { IfOk result (IsSeriesOf basin.now) }
+    ensures faultless { OnOk result (series_fault basin.now text.now ≡ None) }
+    ensures refused { IfErr result (λ e. IsSeriesRefusal e basin.now text.now) }
+{
+    read_series(alloc, basin, text)
 }

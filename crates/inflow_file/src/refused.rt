@@ -1,5 +1,6 @@
 //! Why a series is refused.
 ghost use Rattle.std.specs.Prelude.{◌≡◌};
+ghost use Rattle.inflow_file.specs.FaultNames.{fault_name};
 ghost use Rattle.inflow_file.specs.declared.refused.SeriesRefused.TheVariants.{OutOfMemory};
 
 use std::alloc::{AllocError, AllocFailed};
@@ -23,6 +24,24 @@ pub enum SeriesFault {
     BadAmount,
     /// The month is in the run, and an earlier record has this month and node.
     Repeated,
+}
+
+impl SeriesFault {
+    /// The word for the fault, as lines of refusal write it.
+    #[tactic(auto, unfolding(crate::specs::FaultNames::fault_name))]
+    pub fn name(&self) -> &'static str
+        ensures { result.now ≡ fault_name self.now }
+    {
+        match self {
+            SeriesFault::Csv => "Csv",
+            SeriesFault::Header => "Header",
+            SeriesFault::BadMonth => "BadMonth",
+            SeriesFault::NoSuchNode => "NoSuchNode",
+            SeriesFault::NotGauged => "NotGauged",
+            SeriesFault::BadAmount => "BadAmount",
+            SeriesFault::Repeated => "Repeated",
+        }
+    }
 }
 
 /// Why bytes are no series of a basin, by the first fault in them.
