@@ -1,6 +1,6 @@
 //! One month more.
 ghost use Rattle.std.specs.Prelude.{ℕ, List, ◌≡◌, ◌+◌, ◌*◌, ◌^◌, ◌<◌, ◌≤◌, All, length, map, replicate, OnOk, OnErr};
-ghost use Rattle.lag_returns.specs.Lags.{OnTheWay, rows_of};
+ghost use Rattle.lag_returns.specs.Lags.{OnTheWay, return_rows};
 ghost use Rattle.lag_returns.specs.Lags as lag;
 ghost use Rattle.month_terms.specs.Terms.{FitsRecord, HasReturned};
 ghost use Rattle.senior_hold.specs.MonthNetwork.{arc_count};
@@ -20,7 +20,7 @@ use water_model::types::{Basin, Inflows, MonthRecord};
 /// Writes what arrives at each node this month.
 fn read_arrivals(basin: &Basin, lags: &Lags, returned: &mut [u64])
     requires basin { IsValidBasin basin.now }
-    requires rows { rows_of lags.now ≡ basin.now.returns }
+    requires rows { return_rows lags.now ≡ basin.now.returns }
     requires returned { length returned.old ≡ length basin.now.nodes }
     ensures length { length returned.new ≡ length returned.old }
     ensures each { (deliveries : List (List ℕ)) → lag.StandsFor lags.now basin.now.returns deliveries → HasReturned basin.now deliveries returned.new }
@@ -32,7 +32,7 @@ fn read_arrivals(basin: &Basin, lags: &Lags, returned: &mut [u64])
 /// Writes what comes back to each node this month into its record.
 fn bring_back(basin: &Basin, lags: &Lags, month: &mut MonthRecord)
     requires basin { IsValidBasin basin.now }
-    requires rows { rows_of lags.now ≡ basin.now.returns }
+    requires rows { return_rows lags.now ≡ basin.now.returns }
     requires returned { length month.old.returned ≡ length basin.now.nodes }
     ensures each { (deliveries : List (List ℕ)) → lag.StandsFor lags.now basin.now.returns deliveries → HasReturned basin.now deliveries month.new.returned }
     ensures rest { month.new ≡ record month.old { returned = month.new.returned } }
