@@ -4,6 +4,7 @@ use Rattle.std.specs.Prelude.{slice_get, IfOk}
 use Rattle.std.specs.Io.KnownBytes.{Appends}
 use Rattle.std.proofs.lemmas.List.{take-append-le}
 use Rattle.std.proofs.Math.Seq.{take-length}
+use Rattle.std.proofs.Math.Nat.{mul-le-mul_right}
 use Rattle.water_edge.specs.Edge.{Puts}
 use Rattle.water_model.specs.History.{Follows, IsPartialHistory}
 use Rattle.water_model.specs.Spelling.{whole_line}
@@ -20,7 +21,7 @@ use Rattle.result_text.specs.Begun.{begun_bytes}
 use Rattle.result_text.specs.Range.{FitsText}
 use Rattle.result_text.proofs.Whole.{FitsText-follows, Puts-head, Puts-month, Puts-tail}
 use Rattle.basin_cli.specs.Drafts.{IsDraftOf}
-use Rattle.basin_cli.specs.Headline.{KeepsPriority}
+use Rattle.basin_cli.specs.Headline.{KeepsPriority, most_pushes, run_pushes}
 use Rattle.month_fold.specs.Reaches.{HaveReaches}
 use Rattle.std.specs.List.{flat_map}
 
@@ -85,3 +86,8 @@ whole_run b series run records valid same fits stands done =
       no_more = λ i m at q plan right l serves. nobody_could_get_more b series records partial i m at q plan right l serves;
       balanced = balanced b series records valid partial;
     }
+
+-- the pushes of some months and of one more are within those of a run
+pub within_run : (b : Basin) (first before after i : ℕ) → before ≤ first + i * most_pushes b → after ≤ before + most_pushes b → i < b.months →
+    after ≤ first + run_pushes b
+within_run b first before after i sofar more l = let all : (i + 1) * most_pushes b ≤ b.months * most_pushes b = mul-le-mul_right (most_pushes b) (omega arith) in omega arith

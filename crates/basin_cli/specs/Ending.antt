@@ -4,8 +4,7 @@ use Rattle.std.specs.Fmt.{decimal}
 use Rattle.basin_tree.specs.declared.walk.Finding.{Finding}
 use Rattle.basin_tree.specs.Faults.{fault_name}
 use Rattle.basin_tree.specs.Tables.{table_name}
-use Rattle.inflow_file.specs.declared.refused.SeriesFault.{SeriesFault}
-use Rattle.inflow_file.specs.declared.refused.SeriesFault.TheVariants as series
+use Rattle.inflow_file.specs.FaultNames as series_fault
 use Rattle.inflow_file.specs.declared.refused.SeriesRefused.{SeriesRefused}
 use Rattle.inflow_file.specs.declared.refused.SeriesRefused.TheVariants as refused
 use Rattle.water_model.specs.Basin.{node_name}
@@ -40,15 +39,6 @@ unfoldable pub file_name : File → List ℕ
 file_name file.Basin = codes "BASIN"
 file_name file.Series = codes "SERIES"
 
-unfoldable pub series_fault_name : SeriesFault → List ℕ
-series_fault_name series.Csv = codes "Csv"
-series_fault_name series.Header = codes "Header"
-series_fault_name series.BadMonth = codes "BadMonth"
-series_fault_name series.NoSuchNode = codes "NoSuchNode"
-series_fault_name series.NotGauged = codes "NotGauged"
-series_fault_name series.BadAmount = codes "BadAmount"
-series_fault_name series.Repeated = codes "Repeated"
-
 -- FAULT TABLE ENTRY
 unfoldable pub refusal_line : Finding → List ℕ
 refusal_line finding =
@@ -56,7 +46,7 @@ refusal_line finding =
 
 -- FAULT RECORD, or Missing MONTH NODE
 unfoldable pub series_line : SeriesFinding → List ℕ
-series_line (finding.Record fault number) = codes "series: " ++ series_fault_name fault ++ codes " " ++ decimal number ++ codes "\n"
+series_line (finding.Record fault number) = codes "series: " ++ series_fault.fault_name fault ++ codes " " ++ decimal number ++ codes "\n"
 series_line (finding.Missing month node) = codes "series: Missing " ++ month_digits month ++ codes " " ++ node ++ codes "\n"
 
 unfoldable pub line_of : Ending → List ℕ

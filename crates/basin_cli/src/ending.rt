@@ -1,7 +1,7 @@
 //! How a call ends, and the line that tells it on err.
 ghost use Rattle.std.specs.Prelude.{◌≡◌, ◌↔◌, ◌≤◌, ◌++◌, IsTrue, [], codes, length};
 ghost use Rattle.water_text.specs.Months.{IsMonth};
-ghost use Rattle.basin_cli.specs.Ending.{status_of, line_of, refusal_line, series_line, file_name, series_fault_name, CanBeTold, CanBeSpelled};
+ghost use Rattle.basin_cli.specs.Ending.{status_of, line_of, refusal_line, series_line, file_name, CanBeTold, CanBeSpelled};
 ghost use Rattle.basin_cli.specs.Outcome.{IsQuiet, Tells};
 
 use crate::status::Status;
@@ -77,22 +77,6 @@ impl Ending {
     }
 }
 
-/// The word for a fault of a series.
-#[tactic(auto, unfolding(crate::specs::Ending::series_fault_name))]
-fn series_fault_name(fault: SeriesFault) -> &'static str
-    ensures { result.now ≡ series_fault_name fault }
-{
-    match fault {
-        SeriesFault::Csv => "Csv",
-        SeriesFault::Header => "Header",
-        SeriesFault::BadMonth => "BadMonth",
-        SeriesFault::NoSuchNode => "NoSuchNode",
-        SeriesFault::NotGauged => "NotGauged",
-        SeriesFault::BadAmount => "BadAmount",
-        SeriesFault::Repeated => "Repeated",
-    }
-}
-
 /// Makes the line of a refused basin.
 #[tactic(auto, unfolding(crate::specs::Ending::refusal_line))]
 fn put_refusal(line: &mut Line, finding: &Finding)
@@ -118,7 +102,7 @@ fn put_series_refusal(line: &mut Line, finding: &SeriesFinding)
     match finding {
         SeriesFinding::Record { fault, number } => {
             line.word(b"series: ");
-            line.word(series_fault_name(*fault).as_bytes());
+            line.word(fault.name().as_bytes());
             line.word(b" ");
             line.amount(*number);
         }

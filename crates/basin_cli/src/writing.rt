@@ -4,6 +4,7 @@ ghost use Rattle.rights_roll.specs.Rolls.{IsRollOf};
 ghost use Rattle.water_model.specs.Text.{text_bytes};
 ghost use Rattle.water_model.specs.Valid.{IsValidBasin, IsSeriesOf};
 ghost use Rattle.water_model.specs.declared.types.MonthRecord.{MonthRecord};
+ghost use Rattle.month_fold.specs.Runs.{StandsFor};
 ghost use Rattle.result_text.specs.Begun.{begun_bytes};
 ghost use Rattle.basin_cli.specs.Drafts.{IsDraftOf, IsTextOfRun};
 ghost use Rattle.basin_cli.specs.Headline.{most_pushes, run_pushes};
@@ -99,6 +100,45 @@ fn draft_tail(draft: &mut Draft, basin: &Basin) -> Result<(), AllocError>
     }
 }
 
+/// Solves all months of a run and drafts their text.
+fn draft_run<L: Ledger>(
+    alloc: Global,
+    basin: &Basin,
+    roll: &Roll,
+    run: &mut Run,
+    searches: &mut Steps<L>,
+) -> Result<Draft, AllocError>
+    requires basin { IsValidBasin basin.now }
+    requires roll { IsRollOf basin.now.rights roll.now }
+    requires run { run.old.basin ≡ basin.now }
+    requires first { StandsFor run.old [] }
+    ensures text { IfOk result (λ draft. IsTextOfRun basin.now run.old.series draft.bytes) }
+    ensures pushes { searches.new ≤ searches.old + run_pushes basin.now }
+{
+    let mut draft = draft_head(alloc, basin)?;
+    draft_months(&mut draft, basin, roll, run, searches)?;
+    draft_tail(&mut draft, basin)?;
+    Ok(draft)
+}
+
+/// The same with a roll of the basin.
+fn draft_by_roll<L: Ledger>(
+    alloc: Global,
+    basin: &Basin,
+    series: &Inflows,
+    roll: &Roll,
+    searches: &mut Steps<L>,
+) -> Result<Draft, AllocError>
+    requires basin { IsValidBasin basin.now }
+    requires series { IsSeriesOf basin.now series.now }
+    requires roll { IsRollOf basin.now.rights roll.now }
+    ensures text { IfOk result (λ draft. IsTextOfRun basin.now series.now draft.bytes) }
+    ensures pushes { searches.new ≤ searches.old + run_pushes basin.now }
+{
+    let mut run = Run::open(alloc, basin, series)?;
+    draft_run(alloc, basin, roll, &mut run, searches)
+}
+
 /// The whole text of a run of a basin with a series, before any of it is written.
 pub fn text_of_run<L: Ledger>(
     alloc: Global,
@@ -112,9 +152,5 @@ pub fn text_of_run<L: Ledger>(
     ensures pushes { searches.new ≤ searches.old + run_pushes basin.now }
 {
     let roll = roll_of(alloc, basin)?;
-    let mut run = Run::open(alloc, basin, series)?;
-    let mut draft = draft_head(alloc, basin)?;
-    draft_months(&mut draft, basin, &roll, &mut run, searches)?;
-    draft_tail(&mut draft, basin)?;
-    Ok(draft)
+    draft_by_roll(alloc, basin, series, &roll, searches)
 }
