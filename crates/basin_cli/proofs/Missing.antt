@@ -1,6 +1,6 @@
 -- A missing amount is one of a month of the run and of a node.
 use Rattle.std.proofs.Common.{◌≡◌, ℕ, zero, suc, ◌+◌, ◌*◌, ◌/◌, ◌%◌, ◌<◌, ◌≤◌, Bool, true, false, refl, sym, ◌∙◌, ap, subst, arith, List, [], ◌∷◌, ◌++◌, length, get_or, filter, Option, Some, None, if◌then◌else◌, option_map}
-use Rattle.std.specs.Prelude.{not, is_some, slice_get}
+use Rattle.std.specs.Prelude.{not, is_some, slice_get, ◌&&◌, nat_le}
 use Rattle.std.specs.List.{find}
 use Rattle.std.specs.Option.{option_or, option_and_then}
 use Rattle.water_text.specs.Months.{IsMonth}
@@ -10,12 +10,13 @@ use Rattle.water_model.specs.Places.{numbers_from, places_of}
 use Rattle.water_model.specs.Valid.{IsValidBasin, IsValidNode, gauged_nodes, is_gauged}
 use Rattle.water_model.specs.declared.types.Basin.{Basin}
 use Rattle.water_model.specs.declared.types.Node.{Node}
-use Rattle.water_text.specs.Names.{is_name}
+use Rattle.water_text.specs.Names.{is_name, is_name_byte}
+use Rattle.std.specs.List.{list_all}
+use Rattle.std.proofs.lemmas.Bool.Decides.{nat_tests}
 use Rattle.water_model.proofs.Balance.{entry_holds}
 use Rattle.std.proofs.lemmas.Option.{slice_get_within}
 use Rattle.inflow_file.specs.SeriesFaults.{series_fault, table_fault, first_fault, record_fault, missing, entries_of, due, amount_for}
 use Rattle.inflow_file.specs.CsvRecords.{records_of, is_header}
-use Rattle.inflow_file.specs.declared.entry.Entry.{Entry}
 use Rattle.inflow_file.specs.declared.refused.SeriesFault.{SeriesFault}
 use Rattle.inflow_file.specs.declared.refused.SeriesRefused.{SeriesRefused}
 use Rattle.inflow_file.specs.declared.refused.SeriesRefused.TheVariants as refused
@@ -70,15 +71,15 @@ found_within b p (x ∷ xs) d h e = by_test (p x) e (λ f. found_within b p xs d
     by_test true f rest = let same : x ≡ d = cc in subst (λ (c : Month × ℕ). IsWithin b c.0 c.1) same (h 0 x (omega arith))
     by_test false f rest = rest f
 
-missing_within : (b : Basin) (entries : List Entry) (month : Month) (node : ℕ) → IsValidBasin b →
-    missing b entries ≡ Some (refused.Missing month node) → IsWithin b month node
-missing_within b entries month node valid e = by_found (find (λ d. not (is_some (amount_for entries d.0 d.1))) (due b)) refl e
+missing_within : (b : Basin) (rows : List (List (List ℕ))) (month : Month) (node : ℕ) → IsValidBasin b →
+    missing b (entries_of b rows) ≡ Some (refused.Missing month node) → IsWithin b month node
+missing_within b rows month node valid e = by_found (find (λ d. not (is_some (amount_for (entries_of b rows) d.0 d.1))) (due b)) refl e
   where
-    by_found : (o : Option (Month × ℕ)) → find (λ d. not (is_some (amount_for entries d.0 d.1))) (due b) ≡ o →
+    by_found : (o : Option (Month × ℕ)) → find (λ d. not (is_some (amount_for (entries_of b rows) d.0 d.1))) (due b) ≡ o →
         option_map (λ (d : Month × ℕ). refused.Missing d.0 d.1) o ≡ Some (refused.Missing month node) → IsWithin b month node
     by_found None f h = cc
     by_found (Some d) f h =
-        let within = found_within b (λ c. not (is_some (amount_for entries c.0 c.1))) (due b) d (due_within b valid) f in
+        let within = found_within b (λ c. not (is_some (amount_for (entries_of b rows) c.0 c.1))) (due b) d (due_within b valid) f in
         let months : d.0 ≡ month = cc in
         let nodes : d.1 ≡ node = cc in
         subst (λ (m : Month). IsWithin b m node) months (subst (λ (n : ℕ). IsWithin b d.0 n) nodes within)
@@ -102,7 +103,7 @@ told_within b text month node valid e = by_rows (records_of text) e
   where
     by_first : (o : Option SeriesRefused) (rows : List (List (List ℕ))) → (o ≡ Some (refused.Missing month node) → ⊥) →
         option_or o (missing b (entries_of b rows)) ≡ Some (refused.Missing month node) → IsWithin b month node
-    by_first None rows never h = missing_within b (entries_of b rows) month node valid h
+    by_first None rows never h = missing_within b rows month node valid h
     by_first (Some f) rows never h = absurd (never h)
 
     by_header : (t : Bool) (rows : List (List (List ℕ))) →
@@ -132,4 +133,19 @@ never_none {text} {name} same named read =
   where
     by_test : (t : Bool) → t ≡ true → (if t then Some text else None) ≡ None → ⊥
     by_test true e h = cc
+    by_test false e h = cc
+
+-- and is short
+short : (text : List ℕ) → is_name text ≡ true → length text ≤ 32
+unfolding is_name
+short text h = within (nat_le 1 (length text)) (length text) (list_all is_name_byte text) h
+  where
+    within : (p : Bool) (n : ℕ) (q : Bool) → p && (nat_le n 32 && q) ≡ true → n ≤ 32
+    within p n q h = grind (arith, nat_tests)
+
+pub read_short : (text name : List ℕ) → (if is_name text then Some text else None) ≡ Some name → length name ≤ 32
+read_short text name read = by_test (is_name text) refl read
+  where
+    by_test : (t : Bool) → is_name text ≡ t → (if t then Some text else None) ≡ Some name → length name ≤ 32
+    by_test true e h = let same : text ≡ name = cc in subst (λ (x : List ℕ). length x ≤ 32) same (short text e)
     by_test false e h = cc

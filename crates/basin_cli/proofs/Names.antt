@@ -1,5 +1,11 @@
 -- The words of a refusal are short.
 use Rattle.std.proofs.Common.{◌≡◌, ℕ, ◌+◌, ◌≤◌, List, ◌++◌, length, ap, ◌∙◌, arith, length-append}
+use Rattle.inflow_file.specs.FaultNames as series
+use Rattle.inflow_file.specs.declared.refused.SeriesFault.{SeriesFault}
+use Rattle.inflow_file.specs.declared.refused.SeriesFault.TheVariants as fault_of
+use Rattle.basin_cli.specs.declared.ending.File.{File}
+use Rattle.basin_cli.specs.declared.ending.File.TheVariants as file
+use Rattle.basin_cli.specs.Ending.{file_name}
 use Rattle.basin_tree.specs.Faults.{fault_name}
 use Rattle.basin_tree.specs.Tables.{table_name}
 use Rattle.basin_tree.specs.declared.fault.BasinFault.{BasinFault}
@@ -46,3 +52,18 @@ table_name_short table.Return = omega arith
 -- a line that a word was put behind
 pub grown : (old new word : List ℕ) → new ≡ old ++ word → length new ≡ length old + length word
 grown old new word e = ap length e ∙ length-append old word
+
+pub file_name_short : (f : File) → length (file_name f) ≤ 6
+unfolding file_name
+file_name_short file.Basin = omega arith
+file_name_short file.Series = omega arith
+
+pub series_fault_short : (f : SeriesFault) → length (series.fault_name f) ≤ 16
+unfolding series.fault_name
+series_fault_short fault_of.Csv = omega arith
+series_fault_short fault_of.Header = omega arith
+series_fault_short fault_of.BadMonth = omega arith
+series_fault_short fault_of.NoSuchNode = omega arith
+series_fault_short fault_of.NotGauged = omega arith
+series_fault_short fault_of.BadAmount = omega arith
+series_fault_short fault_of.Repeated = omega arith

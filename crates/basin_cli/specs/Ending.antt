@@ -1,5 +1,5 @@
 -- How a call may end, and the line that it puts to err.
-use Rattle.std.specs.Prelude.{ℕ, List, [], ◌++◌, codes, Option, Some, None, ⊤}
+use Rattle.std.specs.Prelude.{ℕ, ◌≤◌, length, List, [], ◌++◌, codes, Option, Some, None, ⊤}
 use Rattle.std.specs.Fmt.{decimal}
 use Rattle.basin_tree.specs.declared.walk.Finding.{Finding}
 use Rattle.basin_tree.specs.Faults.{fault_name}
@@ -59,10 +59,10 @@ line_of ending.WriteFault = codes "write: failed\n"
 line_of ending.OutOfMemory = codes "out of memory\n"
 line_of (ending.InputTooLong file) = codes "too long: " ++ file_name file ++ codes "\n"
 
--- the month of a missing amount is one that can be spelled
+-- the month of a missing amount is one of the calendar, and the node's name has room in a line
 abbrev pub CanBeSpelled : SeriesFinding → Type 0
 CanBeSpelled (finding.Record fault number) = ⊤
-CanBeSpelled (finding.Missing month node) = IsMonth month
+CanBeSpelled (finding.Missing month node) = IsMonth month × (length node ≤ 32)
 
 abbrev pub CanBeTold : Ending → Type 0
 CanBeTold (ending.SeriesRefused finding) = CanBeSpelled finding

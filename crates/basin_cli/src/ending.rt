@@ -1,6 +1,8 @@
 //! How a call ends, and the line that tells it on err.
 ghost use Rattle.std.specs.Prelude.{◌≡◌, ◌↔◌, ◌≤◌, ◌++◌, IsTrue, [], codes, length};
-ghost use Rattle.water_text.specs.Months.{IsMonth};
+ghost use Rattle.std.specs.Fmt.{decimal};
+ghost use Rattle.water_text.specs.Months.{IsMonth, month_digits};
+ghost use Rattle.inflow_file.specs.FaultNames.{fault_name};
 ghost use Rattle.basin_cli.specs.Ending.{status_of, line_of, refusal_line, series_line, file_name, CanBeTold, CanBeSpelled};
 ghost use Rattle.basin_cli.specs.Outcome.{IsQuiet, Tells};
 
@@ -92,6 +94,32 @@ fn put_refusal(line: &mut Line, finding: &Finding)
     line.word(b"\n");
 }
 
+/// Makes the line of a record at fault.
+fn put_record(line: &mut Line, fault: SeriesFault, number: u64)
+    requires { line.old ≡ [] }
+    ensures { line.new ≡ codes "series: " ++ fault_name fault ++ codes " " ++ decimal number ++ codes "\n" }
+{
+    line.word(b"series: ");
+    line.word(fault.name().as_bytes());
+    line.word(b" ");
+    line.amount(number);
+    line.word(b"\n");
+}
+
+/// Makes the line of a missing amount.
+fn put_missing(line: &mut Line, month: Month, node: &Name)
+    requires empty { line.old ≡ [] }
+    requires month { IsMonth month }
+    requires short { length node.now ≤ 32 }
+    ensures { line.new ≡ codes "series: Missing " ++ month_digits month ++ codes " " ++ node.now ++ codes "\n" }
+{
+    line.word(b"series: Missing ");
+    month.put_into(line);
+    line.word(b" ");
+    line.word(node.bytes());
+    line.word(b"\n");
+}
+
 /// Makes the line of a refused series.
 #[tactic(auto, unfolding(crate::specs::Ending::series_line))]
 fn put_series_refusal(line: &mut Line, finding: &SeriesFinding)
@@ -100,20 +128,9 @@ fn put_series_refusal(line: &mut Line, finding: &SeriesFinding)
     ensures { line.new ≡ series_line finding.now }
 {
     match finding {
-        SeriesFinding::Record { fault, number } => {
-            line.word(b"series: ");
-            line.word(fault.name().as_bytes());
-            line.word(b" ");
-            line.amount(*number);
-        }
-        SeriesFinding::Missing { month, node } => {
-            line.word(b"series: Missing ");
-            month.put_into(line);
-            line.word(b" ");
-            line.word(node.bytes());
-        }
+        SeriesFinding::Record { fault, number } => put_record(line, *fault, *number),
+        SeriesFinding::Missing { month, node } => put_missing(line, *month, node),
     }
-    line.word(b"\n");
 }
 
 /// Makes a line of a word and a file's name.
