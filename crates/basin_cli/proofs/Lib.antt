@@ -3,3 +3,4 @@ pub mod Missing
 pub mod Names
 pub mod Outcomes
 pub mod Reading
+pub mod Written

@@ -1,11 +1,14 @@
-//! The top call of the program: it reads BASIN, solves its months and writes their result, or says why not.
+//! The top call of the program: it reads BASIN and SERIES, solves the months of the basin and writes their result, or says
+//! why not.
 #![tactic(auto)]
 
 mod command;
-mod ending;
 mod draft;
+mod ending;
 mod files;
 mod status;
+#[cfg(test)]
+mod tests;
 mod top;
 mod writing;
 

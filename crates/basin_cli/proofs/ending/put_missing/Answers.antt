@@ -37,4 +37,3 @@ word-requires-4 c = omega (
   ap length c.bytes.ensures,
   c.requires.short,
 )
-

@@ -50,4 +50,3 @@ word-requires-4 c = omega (
   grown c.word-3.new.self c.amount.new.self (decimal c.args.number) c.amount.ensures,
   decimal_short c.args.number (omega arith),
 )
-

@@ -16,6 +16,6 @@ unreachable-requires c =
 pub returns-in-Some-clause-told : goal.returns-in-Some-clause-told
 returns-in-Some-clause-told c = (
   (told_within c.args.basin.now c.args.text.now c.in-Err-Missing.month c.in-Err-Missing.node c.requires.basin
-  (subst (λ e. IsSeriesRefusal e c.args.basin.now c.args.text.now) c.in-Err-Missing.field-0-is c.in-Err-Missing.ensures.refused)).calendar,
-  read_short c.bytes.result.now c.in-Some.node (sym c.read.ensures ∙ c.in-Some.is)
+      (subst (λ e. IsSeriesRefusal e c.args.basin.now c.args.text.now) c.in-Err-Missing.field-0-is c.in-Err-Missing.ensures.refused)).calendar,
+  read_short c.bytes.result.now c.in-Some.node (sym c.read.ensures ∙ c.in-Some.is),
 )

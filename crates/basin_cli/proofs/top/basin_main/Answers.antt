@@ -1,4 +1,4 @@
-use Rattle.basin_cli.proofs.Outcomes.{quiet, told_not}
+use Rattle.basin_cli.proofs.Outcomes.{quiet, told_not, completes}
 use Rattle.basin_cli.proofs.top.basin_main.Goals as goal
 use Rattle.basin_cli.proofs.top.basin_main.Goals.{then-is_told, else-is_told}
 
@@ -12,3 +12,7 @@ returns-clause-ends g c = record {
     | else-is_told w ↦ rw w.err-is (quiet c.decide-ending.result (g.E.Sink.taken c.args.err.now) (g.E.Sink.faults c.args.err.now) (λ told. told_not w.if-is_told.false (c.is_told.ensures.1 told)))
   ];
 }
+
+pub returns-clause-complete : goal.returns-clause-complete
+returns-clause-complete g c =
+    rw c.status.ensures (completes _ c.decide-ending.result (g.S.Shelf.told c.args.shelf.now) _ _ c.decide-ending.ensures.cause)
