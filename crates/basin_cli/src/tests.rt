@@ -10,6 +10,7 @@ use steps::Steps;
 use water_edge::{MemoryShelf, MemorySink};
 
 /// The bytes of the files BASIN and SERIES, and the numbers of the calls of the shelf and of out that fail.
+#[derive(Drop)]
 struct Set {
     basin: Vec<u8>,
     series: Vec<u8>,
