@@ -1,14 +1,18 @@
-//! Area tables of reservoirs.
+//! Area tables of reservoirs: their areas, what evaporates, and what a reservoir closes with.
 #![tactic(auto)]
 
-ghost use Rattle.std.specs.Prelude.{◌≡◌, ◌≤◌, length, None, IfNone, IfOk, OnOk, IfErr};
-ghost use Rattle.water_model.specs.Valid.{IsAreaTable};
+ghost use Rattle.std.specs.Prelude.{◌≡◌, ◌+◌, ◌-◌, ◌*◌, ◌/◌, ◌^◌, ◌<◌, ◌≤◌, length, sum, All, None, IfNone, IfOk, OnOk, IfErr};
+ghost use Rattle.water_model.specs.Hydrology.{area_at, area_from, evaporation};
+ghost use Rattle.water_model.specs.Valid.{IsAreaTable, RisesFrom};
 ghost use Rattle.reservoirs.specs.AreaFaults.{table_fault, fault_behind, IsTableRefusal};
 
 use std::alloc::Global;
 use std::marker::Model;
 use thiserror::Error;
 use water_model::types::AreaPoint;
+
+#[cfg(test)]
+mod tests;
 
 /// Why a list of points is no area table. Points are numbered from 0.
 #[derive(Clone, Copy, Debug, PartialEq, Eq, Error)]
@@ -25,8 +29,8 @@ pub enum TableRefused {
     OutOfMemory,
 }
 
-/// The surface of a reservoir, in hectares, at rising storages in units of 1,000 cubic metres. Contracts see it as the
-/// list of its points.
+/// The surface of a reservoir, in hectares, at rising storages in units of 1,000 cubic metres. It begins at storage 0,
+/// and no area is below the one before. Contracts see it as the list of its points.
 #[derive(Drop)]
 pub struct AreaTable {
     points: Vec<AreaPoint>,
@@ -39,6 +43,10 @@ impl Model for AreaTable {
     ghost Value = { List AreaPoint };
 
     ghost view = { λ t. t.points.items };
+
+    ghost use Rattle.water_model.specs.Valid.{IsAreaTable};
+
+    ghost invariant = { λ t. IsAreaTable t.points.items };
 }
 
 /// The first fault of the points behind one.
@@ -89,6 +97,49 @@ pub fn table_fault(points: &[AreaPoint]) -> Option<TableRefused>
     first_fault(points)
 }
 
+/// The area at a storage between two points, rounded down.
+fn area_between(before: AreaPoint, after: AreaPoint, storage: u64) -> u64
+    requires from { before.storage ≤ storage }
+    requires below { storage < after.storage }
+    requires rises { before.area ≤ after.area }
+    ensures { result ≡ before.area + (storage - before.storage) * (after.area - before.area) / (after.storage - before.storage) }
+{
+    let filled = u128::from(storage - before.storage);
+    let rise = u128::from(after.area - before.area);
+    let width = u128::from(after.storage - before.storage);
+    before.area + (filled * rise / width) as u64
+}
+
+/// The area at a storage that isn't below the first point.
+fn area_behind(first: AreaPoint, rest: &[AreaPoint], storage: u64) -> u64
+    requires rises { RisesFrom first rest.now }
+    requires from { first.storage ≤ storage }
+    ensures { result ≡ area_from first rest.now storage }
+{
+    let mut last = first;
+    for point in rest {
+        if storage < point.storage {
+            return area_between(last, *point, storage);
+        }
+        last = *point;
+    }
+    last.area
+}
+
+/// What a reservoir holds when the month ends, in units of 1,000 cubic metres: the sum of what its zones took. It has
+/// at most 16 zones.
+pub fn close(fills: &[u64]) -> u64
+    requires few { length fills.now ≤ 16 }
+    requires each { All (λ n. n ≤ 10 ^ 9) fills.now }
+    ensures { result ≡ sum fills.now }
+{
+    let mut closing = 0;
+    for fill in fills {
+        closing += *fill;
+    }
+    closing
+}
+
 impl AreaTable {
     /// The table with these points, at most 64, or their first fault.
     pub fn build(alloc: Global, points: &[AreaPoint]) -> Result<AreaTable, TableRefused>
@@ -105,5 +156,25 @@ impl AreaTable {
             Ok(points) => Ok(AreaTable { points }),
             Err(_) => Err(TableRefused::OutOfMemory),
         }
+    }
+
+    /// The area at a storage, in hectares, interpolated between the points beside it and rounded down. Beyond the last
+    /// point it is the area of that point. The cost is linear in the points.
+    pub fn area(&self, storage: u64) -> u64
+        ensures { result ≡ area_at self.now storage }
+    {
+        match self.points.as_slice() {
+            [] => 0,
+            [first, rest @ ..] => area_behind(*first, rest, storage),
+        }
+    }
+
+    /// What evaporates in a month from a reservoir that holds this storage, in units of 1,000 cubic metres: the rate,
+    /// in millimetres a month, times the area, rounded down, and at most the storage.
+    pub fn evaporation(&self, storage: u64, rate: u64) -> u64
+        ensures { result ≡ evaporation self.now storage rate }
+    {
+        let lost = u128::from(rate) * u128::from(self.area(storage)) / 100;
+        lost.min(u128::from(storage)) as u64
     }
 }

@@ -1,0 +1,4 @@
+pub mod Arrivals
+pub mod Months
+pub mod Places
+pub mod ValidRows

@@ -1,0 +1,171 @@
+//! What comes back to the river, months later, of what diversions take.
+#![tactic(auto)]
+
+ghost use Rattle.std.specs.Prelude.{◌≡◌, ℕ, ◌+◌, ◌*◌, ◌^◌, ◌<◌, ◌≤◌, ◌++◌, ◌∷◌, [], List, length, slice_index, slice_set, map, All, IfOk};
+ghost use Rattle.lag_returns.specs.ReturnFlows.{after_month, arriving, brought, due, fresh, with_delivery};
+ghost use Rattle.lag_returns.specs.Lags.{IsLagged, StandsFor, return_rows, arrivals_at};
+ghost use Rattle.water_model.specs.declared.types.ReturnRow.{ReturnRow};
+
+use circular_buffer::HeapCircularBuffer;
+use std::alloc::{AllocError, Global};
+use std::marker::Model;
+use water_model::types::ReturnRow;
+
+pub mod laws;
+#[cfg(test)]
+mod tests;
+
+/// A return row, the deliveries of its diversion that are on their way, and the remainder, in parts of 10,000, of those
+/// that came back.
+#[derive(Drop)]
+struct ReturnFlow {
+    row: ReturnRow,
+    waiting: HeapCircularBuffer<u64>,
+    remainder: u64,
+}
+
+impl Model for ReturnFlow {
+    ghost use Rattle.lag_returns.specs.Lags.{OnTheWay};
+
+    ghost Value = { OnTheWay };
+
+    ghost view = { λ f. record { row = f.row; waiting = f.waiting.items; remainder = f.remainder } };
+
+    ghost use Rattle.lag_returns.specs.ReturnFlows.{IsSoundReturn};
+
+    ghost invariant = { λ f. IsSoundReturn f.row f.waiting f.remainder };
+}
+
+impl ReturnFlow {
+    /// A row with nothing on its way.
+    fn open(alloc: Global, row: ReturnRow) -> Result<ReturnFlow, AllocError>
+        requires { IsLagged row }
+        ensures { IfOk result (λ flow. flow ≡ fresh row) }
+    {
+        let waiting = HeapCircularBuffer::with_capacity(alloc, row.lag as usize)?;
+        Ok(ReturnFlow {
+            row,
+            waiting,
+            remainder: 0,
+        })
+    }
+
+    /// The parts of 10,000 that are due this month.
+    fn due(&self) -> u64
+        ensures due { result ≡ due self.now }
+        ensures small { result < 10 ^ 13 + 10 ^ 4 }
+    {
+        if self.waiting.len() < self.row.lag as usize {
+            return 0;
+        }
+        match self.waiting.front() {
+            Some(oldest) => self.remainder + u64::from(self.row.part) * *oldest,
+            None => 0,
+        }
+    }
+
+    /// Adds what the row brings this month to its node's place.
+    fn arrive(&self, into: &mut [u64])
+        requires node { self.now.row.node < length into.old }
+        requires room { slice_index into.old self.now.row.node + 10 ^ 9 ≤ 10 ^ 15 }
+        ensures adds { into.new ≡ slice_set into.old self.now.row.node (slice_index into.old self.now.row.node + arriving self.now) }
+        ensures small { arriving self.now ≤ 10 ^ 9 }
+    {
+        into[self.row.node as usize] += self.due() / 10_000;
+    }
+
+    /// Takes the month's delivery to the diversion.
+    fn take(&mut self, amount: u64)
+        requires { amount ≤ 10 ^ 9 }
+        ensures { self.new ≡ with_delivery amount self.old }
+    {
+        self.remainder = self.due() % 10_000;
+        self.waiting.push_back(amount);
+    }
+}
+
+/// Adds what each row brings to its node's place.
+fn arrive_each(flows: &[ReturnFlow], into: &mut [u64])
+    requires nodes { All (λ row. row.node < length into.old) (return_rows flows.now) }
+    requires room { All (λ n. n + 10 ^ 9 * length (return_rows flows.now) ≤ 10 ^ 15) into.old }
+    ensures length { length into.new ≡ length into.old }
+    ensures adds { (node : ℕ) → node < length into.old →
+        slice_index into.new node ≡ slice_index into.old node + brought flows.now node }
+{
+    for flow in flows {
+        flow.arrive(into);
+    }
+}
+
+/// Takes each row's delivery out of the month's deliveries by right.
+fn take_each(flows: &mut [ReturnFlow], delivered: &[u64])
+    requires rights { All (λ row. row.right < length delivered.now) (return_rows flows.old) }
+    requires small { All (λ n. n ≤ 10 ^ 9) delivered.now }
+    ensures { flows.new ≡ map (after_month delivered.now) flows.old }
+{
+    for flow in flows.iter_mut() {
+        let right = flow.row.right as usize;
+        flow.take(delivered[right]);
+    }
+}
+
+/// Return rows, and the deliveries of their diversions that are on their way.
+///
+/// Deliveries that came back aren't kept. A value stands for the rows and for the deliveries of all months so far, a
+/// list by right for each month; contracts say what holds for each such list that it stands for. They see a value as the
+/// list of its rows, each with what is on its way and with the remainder.
+#[derive(Drop)]
+pub struct Lags {
+    flows: Vec<ReturnFlow>,
+}
+
+impl Model for Lags {
+    ghost use Rattle.std.specs.Prelude.{List, All};
+    ghost use Rattle.lag_returns.specs.Lags.{OnTheWay, IsLagged};
+
+    ghost Value = { List OnTheWay };
+
+    ghost view = { λ l. l.flows.items };
+
+    ghost invariant = { λ l. All (λ w. IsLagged w.row) l.flows.items };
+}
+
+impl Lags {
+    /// Nothing is on its way. A row's part is 1 to 10,000, of 10,000, and its lag 1 to 120 months. Refused only where
+    /// memory runs out. No other call takes memory.
+    pub fn open(alloc: Global, rows: &[ReturnRow]) -> Result<Lags, AllocError>
+        requires { All IsLagged rows.now }
+        ensures { IfOk result (λ lags. StandsFor lags rows.now []) }
+    {
+        let mut flows = Vec::with_capacity(alloc, rows.len())?;
+        for row in rows {
+            flows.push(ReturnFlow::open(alloc, *row)?)?;
+        }
+        Ok(Lags { flows })
+    }
+
+    /// Adds what each row brings this month to the place of its node, in units of 1,000 cubic metres. The list is indexed
+    /// by node, and each place has room for 10^9 from each row. The cost is linear in the rows.
+    pub fn arrive(&self, into: &mut [u64])
+        requires nodes { All (λ row. row.node < length into.old) (return_rows self.now) }
+        requires room { All (λ n. n + 10 ^ 9 * length (return_rows self.now) ≤ 10 ^ 15) into.old }
+        ensures length { length into.new ≡ length into.old }
+        ensures adds { (rows : List ReturnRow) (deliveries : List (List ℕ)) → StandsFor self.now rows deliveries →
+            (node : ℕ) → node < length into.old →
+            slice_index into.new node ≡ slice_index into.old node + arrivals_at rows deliveries node }
+    {
+        arrive_each(&self.flows, into);
+    }
+
+    /// Takes the month's deliveries, indexed by right and each at most 10^9, and moves to the next month. The cost is
+    /// linear in the rows.
+    pub fn month_done(&mut self, delivered: &[u64])
+        requires rights { All (λ row. row.right < length delivered.now) (return_rows self.old) }
+        requires small { All (λ n. n ≤ 10 ^ 9) delivered.now }
+        ensures rows { return_rows self.new ≡ return_rows self.old }
+        ensures stands { (rows : List ReturnRow) (deliveries : List (List ℕ)) → StandsFor self.old rows deliveries →
+            StandsFor self.new rows (deliveries ++ delivered.now ∷ []) }
+    {
+        take_each(&mut self.flows, delivered);
+    }
+}

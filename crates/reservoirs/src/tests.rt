@@ -1,0 +1,100 @@
+ghost use Rattle.std.specs.Prelude.{◌≤◌, ◌^◌, All, IsTrue};
+
+use crate::{AreaTable, close};
+use std::alloc::{AllocError, Global};
+use std::test::Fail;
+use water_model::types::AreaPoint;
+
+// The points of a table, from storages and areas.
+fn points_of(alloc: Global, rows: &[(u64, u64)]) -> Result<Vec<AreaPoint>, AllocError> {
+    let mut points = Vec::new(alloc);
+    for (storage, area) in rows {
+        points.push(AreaPoint {
+            storage: *storage,
+            area: *area,
+        })?;
+    }
+    Ok(points)
+}
+
+const LEVEL: [(u64, u64); 1] = [(0, 7)];
+
+const SLOPE: [(u64, u64); 2] = [(0, 0), (100, 50)];
+
+const STEEP: [(u64, u64); 2] = [(0, 0), (3, 1_000)];
+
+const BENT: [(u64, u64); 3] = [(0, 5), (10, 5), (13, 11)];
+
+const GREATEST: [(u64, u64); 2] = [(0, 0), (16_000_000_000, 1_000_000_000)];
+
+// A table, a storage, the area there, a rate, and what evaporates.
+const ROWS: [(&[(u64, u64)], u64, u64, u64, u64); 25] = [
+    (&LEVEL, 0, 7, 100, 0),
+    (&LEVEL, 1_000, 7, 100, 7),
+    (&SLOPE, 0, 0, 120, 0),
+    (&SLOPE, 1, 0, 10_000, 0),
+    (&SLOPE, 20, 10, 40, 4),
+    (&SLOPE, 60, 30, 0, 0),
+    (&SLOPE, 60, 30, 40, 12),
+    (&SLOPE, 60, 30, 120, 36),
+    (&SLOPE, 99, 49, 120, 58),
+    (&SLOPE, 100, 50, 120, 60),
+    (&SLOPE, 101, 50, 120, 60),
+    (&STEEP, 1, 333, 10, 1),
+    (&STEEP, 2, 666, 10_000, 2),
+    (&STEEP, 3, 1_000, 10_000, 3),
+    (&BENT, 9, 5, 100, 5),
+    (&BENT, 10, 5, 100, 5),
+    (&BENT, 11, 7, 100, 7),
+    (&BENT, 12, 9, 100, 9),
+    (&BENT, 13, 11, 100, 11),
+    (&BENT, 14, 11, 100, 11),
+    (&GREATEST, 8_000_000_000, 500_000_000, 100, 500_000_000),
+    (&GREATEST, 15_999_999_999, 999_999_999, 1, 9_999_999),
+    (&GREATEST, 16_000_000_000, 1_000_000_000, 100, 1_000_000_000),
+    (
+        &GREATEST,
+        16_000_000_000,
+        1_000_000_000,
+        10_000,
+        16_000_000_000,
+    ),
+    (&GREATEST, u64::MAX, 1_000_000_000, u64::MAX, u64::MAX),
+];
+
+#[test]
+fn areas_and_evaporation(rt: HostRuntime) -> Result<(), Fail> {
+    for (rows, storage, area, rate, lost) in ROWS {
+        let points = points_of(rt.alloc(), rows)?;
+        assert!(rt; points.len() <= 64);
+        let table = AreaTable::build(rt.alloc(), &points)?;
+        assert_eq!(rt; table.area(storage), area, "the area at {storage}");
+        assert_eq!(rt;
+            table.evaporation(storage, rate),
+            lost,
+            "at {storage} by {rate}"
+        );
+    }
+    Ok(())
+}
+
+fn are_amounts(fills: &[u64]) -> bool
+    ensures { IsTrue result → All (λ n. n ≤ 10 ^ 9) fills.now }
+{
+    fills.iter().all(|fill| *fill <= 1_000_000_000)
+}
+
+#[test]
+fn closes_with_what_the_zones_took(rt: HostRuntime) {
+    let table: [(&[u64], u64); 4] = [
+        (&[], 0),
+        (&[5], 5),
+        (&[3, 0, 4], 7),
+        (&[1_000_000_000; 16], 16_000_000_000),
+    ];
+    for (fills, closing) in table {
+        assert!(rt; fills.len() <= 16);
+        assert!(rt; are_amounts(fills));
+        assert_eq!(rt; close(fills), closing);
+    }
+}
