@@ -1,0 +1,264 @@
+-- What is due, and the amounts that are given for it.
+use Rattle.std.proofs.Common.{◌≡◌, ◌≢◌, ◌⊎◌, ℕ, zero, suc, ◌+◌, ◌*◌, ◌/◌, ◌%◌, ◌<◌, ◌≤◌, Bool, true, false, refl, sym, ap, ◌∙◌, arith, List, [], ◌∷◌, ◌++◌, length, get_or, set, map, replicate, inl, inr, Option, Some, None, if◌then◌else◌, is_some, option_map}
+use Rattle.std.specs.Prelude.{◌==◌, ◌&&◌}
+use Rattle.std.specs.List.{find, flat_map}
+use Rattle.std.specs.Option.{option_or}
+use Rattle.std.proofs.lemmas.Bool.{cases_Bool, cases_eq, false≢true}
+use Rattle.std.proofs.lemmas.List.{ext_get_or, length-map, length-append, length-set, get_or_append_left, get_or-append-add, get_or-map, get_or-set_same, get_or-set_other}
+use Rattle.std.proofs.lemmas.Nat.{div-add-mod', div_below, mod_below, mul-le}
+use Rattle.water_text.specs.Months.{IsMonth}
+use Rattle.water_text.specs.declared.month.Month.{Month}
+use Rattle.water_model.specs.Hydrology.{run_month, place_in}
+use Rattle.water_model.specs.Valid.{gauged_nodes, is_gauged}
+use Rattle.water_model.specs.declared.types.Basin.{Basin}
+use Rattle.water_model.proofs.Gauges.{cell_within}
+use Rattle.inflow_file.specs.Entries.{IsEntry}
+use Rattle.inflow_file.specs.Given.{given}
+use Rattle.inflow_file.specs.SeriesFaults.{amount_for, due, is_same_month, months_of, repeats, is_in_run}
+use Rattle.inflow_file.specs.declared.entry.Entry.{Entry}
+use Rattle.inflow_file.proofs.NodeLaws.{passed_most, place_holds, place_of_passing}
+use Rattle.inflow_file.proofs.RunLaws.{both, same_number, same_itself, length-months, month_there, month_in_run, same_index, same_month_is, same_month_itself}
+
+or_none : {X : Type 0} (r : Option X) → option_or r None ≡ r
+or_none None = refl
+or_none (Some n) = refl
+
+-- a table of months and nodes, row by row
+abbrev row_of : List ℕ → Month → List (Month × ℕ)
+row_of nodes month = map (λ node. (month, node)) nodes
+
+abbrev grid : List Month → List ℕ → List (Month × ℕ)
+grid months nodes = flat_map (row_of nodes) months
+
+length-row : (nodes : List ℕ) (m : Month) → length (row_of nodes m) ≡ length nodes
+length-row [] m = refl
+length-row (n ∷ nodes) m = ap suc (length-row nodes m)
+
+row_at : (nodes : List ℕ) (m other : Month) (g n : ℕ) → g < length nodes → get_or (row_of nodes m) g (other, n) ≡ (m, get_or nodes g n)
+row_at [] m other g n l = absurd (omega arith)
+row_at (x ∷ nodes) m other zero n l = refl
+row_at (x ∷ nodes) m other (suc g) n l = row_at nodes m other g n (omega arith)
+
+length-grid : (months : List Month) (nodes : List ℕ) → length (grid months nodes) ≡ length months * length nodes
+length-grid [] nodes = omega arith
+length-grid (m ∷ months) nodes =
+    length-append (row_of nodes m) (grid months nodes) ∙ omega (arith, length-row nodes m, length-grid months nodes)
+
+grid_at : (months : List Month) (nodes : List ℕ) (i g : ℕ) (m : Month) (n : ℕ) → i < length months → g < length nodes →
+    get_or (grid months nodes) (i * length nodes + g) (m, n) ≡ (get_or months i m, get_or nodes g n)
+grid_at [] nodes i g m n l k = absurd (omega arith)
+grid_at (first ∷ months) nodes zero g m n l k =
+    let at : zero * length nodes + g ≡ g = omega arith in
+    let len = length-row nodes first in
+    ap (λ j. get_or (grid (first ∷ months) nodes) j (m, n)) at
+    ∙ (get_or_append_left (row_of nodes first) (grid months nodes) (m, n) g (omega (arith, len))
+    ∙ row_at nodes first m g n k)
+grid_at (first ∷ months) nodes (suc i) g m n l k =
+    let len = length-row nodes first in
+    let at : suc i * length nodes + g ≡ length (row_of nodes first) + (i * length nodes + g) = omega (arith, len) in
+    ap (λ j. get_or (grid (first ∷ months) nodes) j (m, n)) at
+    ∙ (get_or-append-add (row_of nodes first) (grid months nodes) (i * length nodes + g) (m, n)
+    ∙ grid_at months nodes i g m n (omega arith) k)
+
+abbrev pub gauges : Basin → ℕ
+gauges b = length (gauged_nodes b)
+
+pub length-due : (b : Basin) → length (due b) ≡ b.months * gauges b
+length-due b = length-grid (months_of b) (gauged_nodes b) ∙ ap (λ k. k * gauges b) (length-months b)
+
+-- what stands in a month's row at a gauge
+pub due_at : (b : Basin) (i g : ℕ) (m : Month) → i < b.months → g < gauges b →
+    get_or (due b) (i * gauges b + g) (m, 0) ≡ (run_month b i, get_or (gauged_nodes b) g 0)
+due_at b i g m l k =
+    grid_at (months_of b) (gauged_nodes b) i g m 0 (omega (arith, length-months b)) k
+    ∙ ap (λ (month : Month). (month, get_or (gauged_nodes b) g 0)) (month_there b i m l)
+
+pub few_gauges : (b : Basin) → length b.nodes ≤ 2000 → gauges b ≤ 2000
+few_gauges b few = omega (arith, few, passed_most (λ n. is_gauged b n) (length b.nodes))
+
+-- the table is small enough for numbers of the machine
+pub small_table : (b : Basin) → b.months ≤ 1200 → length b.nodes ≤ 2000 → b.months * gauges b ≤ 2400000
+small_table b months few = small b.months (gauges b) months (few_gauges b few)
+  where
+    small : (m g : ℕ) → m ≤ 1200 → g ≤ 2000 → m * g ≤ 2400000
+    small m g h k = mul-le m g 1200 2000 h k
+
+-- the gauge of a gauged node
+pub node_there : (b : Basin) (node : ℕ) → node < length b.nodes → is_gauged b node ≡ true →
+    (place_in (gauged_nodes b) node < gauges b) × (get_or (gauged_nodes b) (place_in (gauged_nodes b) node) 0 ≡ node)
+node_there b node l h = place_holds (λ n. is_gauged b n) 0 (length b.nodes) node node l (omega arith) h
+
+pub small_place : (b : Basin) (i node : ℕ) → b.months ≤ 1200 → length b.nodes ≤ 2000 → i < b.months → node < length b.nodes → is_gauged b node ≡ true →
+    (i * gauges b ≤ 2400000) × (i * gauges b + place_in (gauged_nodes b) node < b.months * gauges b)
+small_place b i node months few l k h =
+    let within = cell_within i b.months (gauges b) (place_in (gauged_nodes b) node) l (node_there b node k h).0 in
+    (omega (arith, within, small_table b months few), within)
+
+-- the row and the gauge of a place
+pub record IsSplit (b : Basin) (k : ℕ) : Type 0 where
+  pub row : k / gauges b < b.months
+  pub gauge : k % gauges b < gauges b
+  pub place : k / gauges b * gauges b + k % gauges b ≡ k
+
+pub split : (b : Basin) (k : ℕ) → k < b.months * gauges b → IsSplit b k
+split b k l =
+    let some : 0 < gauges b = some_gauge b.months (gauges b) l in
+    record { row = div_below k (gauges b) b.months some l; gauge = mod_below k (gauges b) some; place = div-add-mod' k (gauges b) }
+  where
+    some_gauge : (m g : ℕ) → k < m * g → 0 < g
+    some_gauge m zero h = absurd (omega arith)
+    some_gauge m (suc g) h = omega arith
+
+pub length-given : (b : Basin) (entries : List Entry) → length (given b entries) ≡ b.months * gauges b
+unfolding given
+length-given b entries = length-map (due b) (λ d. amount_for entries d.0 d.1) ∙ length-due b
+
+pub given_at : (b : Basin) (entries : List Entry) (i g : ℕ) → i < b.months → g < gauges b →
+    get_or (given b entries) (i * gauges b + g) None ≡ amount_for entries (run_month b i) (get_or (gauged_nodes b) g 0)
+unfolding given
+given_at b entries i g l k =
+    let within : i * gauges b + g < length (due b) = rw (length-due b) (cell_within i b.months (gauges b) g l k) in
+    get_or-map (λ d. amount_for entries d.0 d.1) (due b) (i * gauges b + g) (run_month b i, 0) None within
+    ∙ ap (λ (d : Month × ℕ). amount_for entries d.0 d.1) (due_at b i g (run_month b i) l k)
+
+-- one entry more
+abbrev is_for : Month → ℕ → Entry → Bool
+is_for month node e = is_same_month month e.month && e.node == node
+
+pub one_entry_more : (entries : List Entry) (e : Entry) (month : Month) (node : ℕ) →
+    amount_for (entries ++ e ∷ []) month node ≡ option_or (amount_for entries month node) (if is_for month node e then Some e.amount else None)
+one_entry_more [] e month node = by_test (is_for month node e)
+  where
+    by_test : (t : Bool) → option_map (λ (x : Entry). x.amount) (if t then Some e else None) ≡ (if t then Some e.amount else None)
+    by_test true = refl
+    by_test false = refl
+one_entry_more (x ∷ entries) e month node = by_test (is_for month node x) (one_entry_more entries e month node)
+  where
+    by_test : (t : Bool) → amount_for (entries ++ e ∷ []) month node ≡ option_or (amount_for entries month node) (if is_for month node e then Some e.amount else None) →
+        option_map (λ (y : Entry). y.amount) (if t then Some x else find (is_for month node) (entries ++ e ∷ []))
+        ≡ option_or (option_map (λ (y : Entry). y.amount) (if t then Some x else find (is_for month node) entries)) (if is_for month node e then Some e.amount else None)
+    by_test true h = refl
+    by_test false h = h
+
+-- each gauge has its own node
+pub own_gauge : (b : Basin) (g node : ℕ) → g < gauges b → get_or (gauged_nodes b) g 0 ≡ node → place_in (gauged_nodes b) node ≡ g
+own_gauge b g node l e = ap (place_in (gauged_nodes b)) (sym e) ∙ place_of_passing (λ n. is_gauged b n) 0 (length b.nodes) g l
+
+abbrev pub place_for : Basin → ℕ → ℕ → ℕ
+place_for b i node = i * gauges b + place_in (gauged_nodes b) node
+
+-- an entry that is for a place of the table has this place
+same_place : (b : Basin) (e : Entry) (i k g : ℕ) → IsMonth b.first → k < b.months → g < gauges b → e.month ≡ run_month b i →
+    is_for (run_month b k) (get_or (gauged_nodes b) g 0) e ≡ true → k * gauges b + g ≡ place_for b i e.node
+same_place b e i k g first l m month h =
+    let tests = both (is_same_month (run_month b k) e.month) (e.node == get_or (gauged_nodes b) g 0) h in
+    let index : k ≡ i = same_index b k i first (same_month_is (run_month b k) e.month tests.0 ∙ month) in
+    let gauge : place_in (gauged_nodes b) e.node ≡ g = own_gauge b g e.node m (sym (same_number e.node (get_or (gauged_nodes b) g 0) tests.1)) in
+    rw (index, gauge) refl
+
+-- an entry for a month of the run adds its amount, where there was none
+added_here : (b : Basin) (earlier : List Entry) (e : Entry) (i : ℕ) → IsEntry b e → i < b.months → e.month ≡ run_month b i →
+    amount_for earlier (run_month b i) e.node ≡ None → get_or (given b (earlier ++ e ∷ [])) (place_for b i e.node) None ≡ Some e.amount
+added_here b earlier e i entry l month absent =
+    let there = node_there b e.node entry.node entry.gauged in
+    let for_it : is_for (run_month b i) e.node e ≡ true = rw (month, same_month_itself (run_month b i), same_itself e.node) refl in
+    given_at b (earlier ++ e ∷ []) i (place_in (gauged_nodes b) e.node) l there.0
+    ∙ (ap (amount_for (earlier ++ e ∷ []) (run_month b i)) there.1
+    ∙ (one_entry_more earlier e (run_month b i) e.node ∙ rw (absent, for_it) refl))
+
+kept_elsewhere : (b : Basin) (earlier : List Entry) (e : Entry) (i k n g : ℕ) → IsMonth b.first → e.month ≡ run_month b i →
+    n < b.months → g < gauges b → n * gauges b + g ≡ k → k ≢ place_for b i e.node → get_or (given b (earlier ++ e ∷ [])) k None ≡ get_or (given b earlier) k None
+kept_elsewhere b earlier e i k n g first month row gauge place other =
+    let apart : is_for (run_month b n) (get_or (gauged_nodes b) g 0) e ≡ false = elim (cases_Bool (is_for (run_month b n) (get_or (gauged_nodes b) g 0) e)) [
+      | inl here ↦ absurd (other (sym place ∙ same_place b e i n g first row gauge month here))
+      | inr off ↦ off
+    ] in
+    rw (← place) (given_at b (earlier ++ e ∷ []) n g row gauge
+    ∙ (one_entry_more earlier e (run_month b n) (get_or (gauged_nodes b) g 0)
+    ∙ (rw apart (or_none (amount_for earlier (run_month b n) (get_or (gauged_nodes b) g 0)))
+    ∙ sym (given_at b earlier n g row gauge))))
+
+pub enters : (b : Basin) (earlier : List Entry) (e : Entry) (i : ℕ) → IsMonth b.first → IsEntry b e → i < b.months → e.month ≡ run_month b i →
+    amount_for earlier (run_month b i) e.node ≡ None → given b (earlier ++ e ∷ []) ≡ set (given b earlier) (place_for b i e.node) (Some e.amount)
+enters b earlier e i first entry l month absent =
+    ext_get_or None (given b (earlier ++ e ∷ [])) (set (given b earlier) (place_for b i e.node) (Some e.amount))
+    (length-given b (earlier ++ e ∷ []) ∙ sym (length-set (given b earlier) (place_for b i e.node) (Some e.amount) ∙ length-given b earlier))
+    (λ k below. at k (split b k (omega (arith, length-given b (earlier ++ e ∷ [])))) (cases_eq k (place_for b i e.node)))
+  where
+    within : place_for b i e.node < length (given b earlier)
+    within = rw (length-given b earlier) (cell_within i b.months (gauges b) (place_in (gauged_nodes b) e.node) l (node_there b e.node entry.node entry.gauged).0)
+
+    at : (k : ℕ) → IsSplit b k → (k ≡ place_for b i e.node) ⊎ (k ≡ place_for b i e.node → ⊥) →
+        get_or (given b (earlier ++ e ∷ [])) k None ≡ get_or (set (given b earlier) (place_for b i e.node) (Some e.amount)) k None
+    at k s (inl here) =
+        ap (λ j. get_or (given b (earlier ++ e ∷ [])) j None) here
+        ∙ (added_here b earlier e i entry l month absent
+        ∙ (sym (get_or-set_same (given b earlier) (place_for b i e.node) (Some e.amount) None within)
+        ∙ ap (λ j. get_or (set (given b earlier) (place_for b i e.node) (Some e.amount)) j None) (sym here)))
+    at k s (inr other) =
+        kept_elsewhere b earlier e i k (k / gauges b) (k % gauges b) first month s.row s.gauge s.place other
+        ∙ sym (get_or-set_other (given b earlier) (place_for b i e.node) k (Some e.amount) None other)
+
+-- an entry for a month outside the run adds nothing
+pub passes_by : (b : Basin) (earlier : List Entry) (e : Entry) → is_in_run b e.month ≡ false → given b (earlier ++ e ∷ []) ≡ given b earlier
+passes_by b earlier e outside =
+    ext_get_or None (given b (earlier ++ e ∷ [])) (given b earlier) (length-given b (earlier ++ e ∷ []) ∙ sym (length-given b earlier))
+    (λ k below. at k (split b k (omega (arith, length-given b (earlier ++ e ∷ [])))))
+  where
+    never : (n g : ℕ) → n < b.months → is_for (run_month b n) g e ≡ false
+    never n g row = elim (cases_Bool (is_for (run_month b n) g e)) [
+      | inl here ↦ (let same : run_month b n ≡ e.month = same_month_is (run_month b n) e.month (both (is_same_month (run_month b n) e.month) (e.node == g) here).0 in
+          let inside : is_in_run b e.month ≡ true = ap (is_in_run b) (sym same) ∙ month_in_run b n row in
+          absurd (false≢true (sym outside ∙ inside)))
+      | inr off ↦ off
+    ]
+
+    at : (k : ℕ) → IsSplit b k → get_or (given b (earlier ++ e ∷ [])) k None ≡ get_or (given b earlier) k None
+    at k s =
+        rw (← s.place) (given_at b (earlier ++ e ∷ []) (k / gauges b) (k % gauges b) s.row s.gauge
+        ∙ (one_entry_more earlier e (run_month b (k / gauges b)) (get_or (gauged_nodes b) (k % gauges b) 0)
+        ∙ (rw (never (k / gauges b) (get_or (gauged_nodes b) (k % gauges b) 0) s.row) (or_none (amount_for earlier (run_month b (k / gauges b)) (get_or (gauged_nodes b) (k % gauges b) 0)))
+        ∙ sym (given_at b earlier (k / gauges b) (k % gauges b) s.row s.gauge))))
+
+-- what entering an entry does, where its month is outside the run
+pub outside_is : (b : Basin) (earlier : List Entry) (e : Entry) (amounts : List (Option ℕ)) → is_in_run b e.month ≡ false → amounts ≡ given b earlier →
+    (repeats b earlier e ≡ false) × (amounts ≡ given b (earlier ++ e ∷ []))
+outside_is b earlier e amounts outside is = (rw outside refl, is ∙ sym (passes_by b earlier e outside))
+
+-- where it has a place in the table, what stands there
+pub stands_there : (b : Basin) (earlier : List Entry) (e : Entry) (i : ℕ) (amounts : List (Option ℕ)) → IsEntry b e → i < b.months → e.month ≡ run_month b i → amounts ≡ given b earlier →
+    get_or amounts (place_for b i e.node) None ≡ amount_for earlier e.month e.node
+stands_there b earlier e i amounts entry l month is =
+    let there = node_there b e.node entry.node entry.gauged in
+    ap (λ xs. get_or xs (place_for b i e.node) None) is
+    ∙ (given_at b earlier i (place_in (gauged_nodes b) e.node) l there.0
+    ∙ (ap (amount_for earlier (run_month b i)) there.1 ∙ ap (λ m. amount_for earlier m e.node) (sym month)))
+
+pub repeated_is : (b : Basin) (earlier : List Entry) (e : Entry) (i : ℕ) (amounts : List (Option ℕ)) → IsEntry b e → i < b.months → e.month ≡ run_month b i → amounts ≡ given b earlier →
+    is_some (get_or amounts (place_for b i e.node) None) ≡ repeats b earlier e
+repeated_is b earlier e i amounts entry l month is =
+    let inside : is_in_run b e.month ≡ true = ap (is_in_run b) month ∙ month_in_run b i l in
+    rw (inside, stands_there b earlier e i amounts entry l month is) refl
+
+pub entered_is : (b : Basin) (earlier : List Entry) (e : Entry) (i : ℕ) (amounts : List (Option ℕ)) → IsMonth b.first → IsEntry b e → i < b.months → e.month ≡ run_month b i →
+    amounts ≡ given b earlier → is_some (get_or amounts (place_for b i e.node) None) ≡ false →
+    (repeats b earlier e ≡ false) × (set amounts (place_for b i e.node) (Some e.amount) ≡ given b (earlier ++ e ∷ []))
+entered_is b earlier e i amounts first entry l month is free =
+    let absent : amount_for earlier (run_month b i) e.node ≡ None =
+    ap (λ m. amount_for earlier m e.node) (sym month) ∙ (sym (stands_there b earlier e i amounts entry l month is) ∙ none_there _ free) in (
+      sym (repeated_is b earlier e i amounts entry l month is) ∙ free,
+      ap (λ xs. set xs (place_for b i e.node) (Some e.amount)) is ∙ sym (enters b earlier e i first entry l month absent),
+    )
+  where
+    none_there : (r : Option ℕ) → is_some r ≡ false → r ≡ None
+    none_there None h = refl
+    none_there (Some n) h = cc
+
+-- no entry gives an amount
+none_of : (ds : List (Month × ℕ)) → map (λ d. amount_for [] d.0 d.1) ds ≡ replicate (length ds) None
+none_of [] = refl
+none_of (d ∷ ds) = ap (λ xs. None ∷ xs) (none_of ds)
+
+pub none_given : (b : Basin) → given b [] ≡ replicate (b.months * gauges b) None
+unfolding given
+none_given b = none_of (due b) ∙ ap (λ n. replicate n None) (length-due b)

@@ -1,0 +1,18 @@
+use Rattle.std.proofs.Common.{◌≡◌, ℕ, ◌+◌, ◌++◌, [], List, length}
+use Rattle.inflow_file.specs.Given.{given_by}
+use Rattle.inflow_file.specs.RecordsLeft.{IsReading, records_left}
+use Rattle.inflow_file.specs.SeriesFaults.{first_fault}
+use Rattle.inflow_file.proofs.read.take_all.Given as goal
+
+abbrev pub invariant-rows : goal.invariant-rows
+invariant-rows l = record {
+  reading : IsReading l.reader;
+  before : List (List (List ℕ));
+  all : before ++ records_left l.reader ≡ records_left l.initial.reader;
+  amounts : l.amounts ≡ given_by l.gauges.basin.now before;
+  faults : first_fault l.gauges.basin.now before (l.number + 1) (records_left l.reader) ≡ first_fault l.gauges.basin.now [] 2 (records_left l.initial.reader);
+  numbered : l.number + length (records_left l.reader) ≡ 1 + length (records_left l.initial.reader);
+}
+
+abbrev pub decreases-rows : goal.decreases-rows
+decreases-rows l = length (records_left l.reader)

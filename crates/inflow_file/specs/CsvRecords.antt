@@ -1,0 +1,21 @@
+-- The records of a table of text.
+use Rattle.std.specs.Prelude.{◌≡◌, ◌≢◌, ℕ, List, [], ◌∷◌, length, Bool, false, ◌&&◌, codes, Option, Some, None}
+use Rattle.std.specs.Borrow.{Bor}
+use Rattle.std.specs.Str.{bytes_eq}
+use Rattle.csv.specs.Reading.{default_config, records, strip_bom}
+
+-- every record of a table by the settings that csv begins with, each as the list of its fields. One byte order mark in
+-- front is skipped
+unfoldable pub records_of : List ℕ → List (List (List ℕ))
+records_of text = records default_config (strip_bom text)
+
+-- the record has exactly the fields `month`, `node` and `amount`
+abbrev pub is_header : List (List ℕ) → Bool
+is_header (month ∷ node ∷ amount ∷ []) =
+    bytes_eq month (codes "month") && (bytes_eq node (codes "node") && bytes_eq amount (codes "amount"))
+is_header _ = false
+
+-- the three fields of a record, or none where it has another number of fields
+abbrev pub IsThree : List (List ℕ) → Option (Bor (List ℕ) × Bor (List ℕ) × Bor (List ℕ)) → Type 0
+IsThree row None = length row ≢ 3
+IsThree row (Some f) = row ≡ f.0.now ∷ f.1.now ∷ f.2.now ∷ []

@@ -1,0 +1,63 @@
+//! The records of a table, read one after the other.
+ghost use Rattle.std.specs.Prelude.{◌≡◌, true, IfOk};
+ghost use Rattle.csv.specs.Records.{fields_of};
+ghost use Rattle.inflow_file.specs.CsvRecords.{records_of, is_header, IsThree};
+ghost use Rattle.inflow_file.specs.RecordsLeft.{records_left, IsReading, TakesFirst};
+
+use csv::{ByteRecord, Reader, ReaderBuilder};
+use std::alloc::{AllocError, Global};
+
+/// A reader of the records of a table. It takes none as a header, and they may have any number of fields.
+pub(crate) fn reader_of(alloc: Global, text: &[u8]) -> Reader<&[u8]>
+    ensures reading { IsReading result }
+    ensures all { records_left result ≡ records_of text.now }
+{
+    ReaderBuilder::new()
+        .has_headers(false)
+        .flexible(true)
+        .from_reader(alloc, text)
+}
+
+/// Reads the next record into `row`, and says whether there was one. It takes an error of the reader underneath for want of memory:
+/// one over bytes in memory has no other.
+pub(crate) fn read_row(reader: &mut Reader<&[u8]>, row: &mut ByteRecord) -> Result<bool, AllocError>
+    requires { IsReading reader.old }
+    ensures reading { IfOk result (λ found. found ≡ true → IsReading reader.new) }
+    ensures takes { IfOk result (λ found. TakesFirst found (fields_of row.new) (records_left reader.old) (records_left reader.new)) }
+{
+    let Ok(found) = reader.read_byte_record(row) else {
+        return Err(AllocError);
+    };
+    Ok(found)
+}
+
+/// The three fields of a record, or `None` where it has another number of fields.
+pub(crate) fn three_fields(row: &ByteRecord) -> Option<(&[u8], &[u8], &[u8])>
+    ensures { IsThree (fields_of row.now) result }
+{
+    if row.len() != 3 {
+        return None;
+    }
+    let Some(first) = row.get(0) else {
+        return None;
+    };
+    let Some(second) = row.get(1) else {
+        return None;
+    };
+    let Some(third) = row.get(2) else {
+        return None;
+    };
+    Some((first, second, third))
+}
+
+/// Whether a record is the header.
+pub(crate) fn is_header(row: &ByteRecord) -> bool
+    ensures { result ≡ is_header (fields_of row.now) }
+{
+    match three_fields(row) {
+        Some((first, second, third)) => first == b"month".as_slice()
+            && second == b"node".as_slice()
+            && third == b"amount".as_slice(),
+        None => false,
+    }
+}

@@ -1,0 +1,277 @@
+ghost use Rattle.std.specs.Prelude.{◌≡◌, ◌+◌, length, IfOk, OnOk};
+ghost use Rattle.inflow_file.specs.Readable.{IsReadable};
+
+use crate::read::{HEADER, read_series};
+use crate::refused::{SeriesFault, SeriesRefused};
+use std::alloc::{AllocError, Global};
+use std::process::Abort;
+use std::test::Fail;
+use water_model::rows::Rows;
+use water_model::types::{Basin, Inflow, Node};
+use water_text::month::Month;
+use water_text::name::Name;
+
+fn named(text: &[u8]) -> Name {
+    match Name::read(text) {
+        Some(name) => name,
+        None => Name::dash(),
+    }
+}
+
+fn push_node(nodes: &mut Rows<Node>, name: &[u8], inflow: Inflow) -> Result<(), AllocError>
+    ensures { OnOk result (length nodes.new ≡ length nodes.old + 1) }
+{
+    nodes.push(Node {
+        name: named(name),
+        outlet: false,
+        inflow,
+    })
+}
+
+/// Two months from 1900-01. The nodes `top` and `hill` are gauged, and `mouth` isn't.
+fn basin(alloc: Global) -> Result<Basin, AllocError>
+    ensures { IfOk result IsReadable }
+{
+    let mut nodes = Rows::new(alloc);
+    push_node(&mut nodes, b"top", Inflow::Gauged)?;
+    push_node(&mut nodes, b"mouth", Inflow::Monthly([0; 12]))?;
+    push_node(&mut nodes, b"hill", Inflow::Gauged)?;
+    Ok(Basin {
+        format: 1,
+        first: JANUARY,
+        months: 2,
+        year_start: 10,
+        nodes,
+        links: Rows::new(alloc),
+        reservoirs: Rows::new(alloc),
+        rights: Rows::new(alloc),
+        returns: Rows::new(alloc),
+    })
+}
+
+const JANUARY: Month = Month {
+    year: 1900,
+    month: 1,
+};
+
+const FEBRUARY: Month = Month {
+    year: 1900,
+    month: 2,
+};
+
+/// A table, and the number of the first record at fault with the fault.
+const FAULTS: [(&[u8], SeriesFault, u64); 27] = [
+    (b"", SeriesFault::Header, 1),
+    (b"\xef\xbb\xbf", SeriesFault::Header, 1),
+    (b"\n\n", SeriesFault::Header, 1),
+    (b"month,node,amounts\n", SeriesFault::Header, 1),
+    (b"Month,node,amount\n", SeriesFault::Header, 1),
+    (b"month,node\n", SeriesFault::Header, 1),
+    (b"month,kind,name,amount\n", SeriesFault::Header, 1),
+    (b"month, node,amount\n", SeriesFault::Header, 1),
+    (
+        b"\xef\xbb\xbf\xef\xbb\xbfmonth,node,amount\n",
+        SeriesFault::Header,
+        1,
+    ),
+    (b"month,node,amount\n1900-01,top", SeriesFault::Csv, 2),
+    (b"month,node,amount\n1900-01,top,1,2\n", SeriesFault::Csv, 2),
+    (b"month,node,amount\n1900-01,\"top,1\n", SeriesFault::Csv, 2),
+    (
+        b"month,node,amount\n1900-1,top,1\n",
+        SeriesFault::BadMonth,
+        2,
+    ),
+    (
+        b"month,node,amount\n1900-13,top,1\n",
+        SeriesFault::BadMonth,
+        2,
+    ),
+    (
+        b"month,node,amount\n1799-12,top,1\n",
+        SeriesFault::BadMonth,
+        2,
+    ),
+    (
+        b"month,node,amount\n\xff,nowhere,x\n",
+        SeriesFault::BadMonth,
+        2,
+    ),
+    (
+        b"month,node,amount\n1899-12,nowhere,5\n",
+        SeriesFault::NoSuchNode,
+        2,
+    ),
+    (
+        b"month,node,amount\n1900-01,Top,x\n",
+        SeriesFault::NoSuchNode,
+        2,
+    ),
+    (
+        b"month,node,amount\n1900-01,\"t\"\"op\",1\n",
+        SeriesFault::NoSuchNode,
+        2,
+    ),
+    (
+        b"month,node,amount\n1900-01,mouth,1\n",
+        SeriesFault::NotGauged,
+        2,
+    ),
+    (
+        b"month,node,amount\n1900-01,top,1000000001\n",
+        SeriesFault::BadAmount,
+        2,
+    ),
+    (
+        b"month,node,amount\n1900-01,top,\n",
+        SeriesFault::BadAmount,
+        2,
+    ),
+    (
+        b"month,node,amount\n1900-01,top,-1\n",
+        SeriesFault::BadAmount,
+        2,
+    ),
+    (
+        b"month,node,amount\n1900-01,top, 1\n",
+        SeriesFault::BadAmount,
+        2,
+    ),
+    (
+        b"month,node,amount\n1900-01,top,00000000000000000001\n",
+        SeriesFault::BadAmount,
+        2,
+    ),
+    (
+        b"month,node,amount\n1900-01,top,1\n1900-01,top,1\n1900-01,mouth,1\n",
+        SeriesFault::Repeated,
+        3,
+    ),
+    (
+        b"month,node,amount\n1900-02,hill,1\n\n\n1900-01,hill,2\n1900-01,top,3\n1900-02,hill,1\n",
+        SeriesFault::Repeated,
+        5,
+    ),
+];
+
+/// A table, and the first month with the first node for which it gives no amount.
+const GAPS: [(&[u8], Month, u32); 5] = [
+    (HEADER, JANUARY, 0),
+    (b"month,node,amount", JANUARY, 0),
+    (
+        b"month,node,amount\n1900-01,top,1\n1900-02,top,1\n",
+        JANUARY,
+        2,
+    ),
+    (
+        b"month,node,amount\n1900-01,hill,1\n1900-02,hill,1\n1900-01,top,1\n",
+        FEBRUARY,
+        0,
+    ),
+    (
+        b"month,node,amount\n1900-02,top,1\n1900-01,hill,1\n1900-01,top,1\n1900-03,hill,1\n",
+        FEBRUARY,
+        2,
+    ),
+];
+
+/// A table, and the amounts of `top` and `hill` in the first month, and in the second.
+const SPELLED: [(&[u8], [u64; 4]); 5] = [
+    (
+        b"month,node,amount\n1900-01,top,1\n1900-01,hill,2\n1900-02,top,3\n1900-02,hill,4\n",
+        [1, 2, 3, 4],
+    ),
+    (
+        b"\xef\xbb\xbfmonth,node,amount\r\n1900-02,hill,4\r\n1900-01,hill,2\r\n1900-02,top,3\r\n1900-01,top,1\r\n",
+        [1, 2, 3, 4],
+    ),
+    (
+        b"month,node,amount\r1900-02,hill,0\r\r1900-01,hill,1000000000\r1900-02,top,007\r1900-01,top,0000000000000000001",
+        [1, 1_000_000_000, 7, 0],
+    ),
+    (
+        b"\"month\",\"node\",\"amount\"\n\"1900-01\",\"top\",\"1\"\n1900-01,\"hill\",2\n1900-02,top,\"3\"\n\n\n1900-02,hill,4",
+        [1, 2, 3, 4],
+    ),
+    (
+        b"month,node,amount\n1899-12,top,9\n1899-12,top,9\n1900-01,top,1\n1900-01,hill,2\n2999-12,hill,9\n1900-03,top,9\n1900-02,top,3\n1900-02,hill,4\n1900-03,top,9\n",
+        [1, 2, 3, 4],
+    ),
+];
+
+fn expect_refused<R: Abort + AllocGlobal>(
+    rt: &R,
+    text: &[u8],
+    want: SeriesRefused,
+) -> Result<(), Fail> {
+    let basin = basin(rt.alloc())?;
+    match read_series(rt.alloc(), &basin, text) {
+        Ok(_) => assert!(rt; false, "a table with a fault is a series"),
+        Err(e) => assert_eq!(rt; e, want),
+    }
+    Ok(())
+}
+
+#[test]
+fn names_the_first_fault(rt: HostRuntime) -> Result<(), Fail> {
+    for (text, fault, number) in &FAULTS {
+        expect_refused(
+            &rt,
+            text,
+            SeriesRefused::Record {
+                fault: *fault,
+                number: *number,
+            },
+        )?;
+    }
+    Ok(())
+}
+
+#[test]
+fn names_the_first_gap(rt: HostRuntime) -> Result<(), Fail> {
+    for (text, month, node) in &GAPS {
+        expect_refused(
+            &rt,
+            text,
+            SeriesRefused::Missing {
+                month: *month,
+                node: *node,
+            },
+        )?;
+    }
+    Ok(())
+}
+
+#[test]
+fn reads_the_amounts(rt: HostRuntime) -> Result<(), Fail> {
+    let basin = basin(rt.alloc())?;
+    for (text, want) in &SPELLED {
+        match read_series(rt.alloc(), &basin, text) {
+            Ok(series) => {
+                assert_eq!(rt; series.gauged.as_slice(), [0, 2].as_slice());
+                assert_eq!(rt; series.amount.as_slice(), want.as_slice());
+            }
+            Err(e) => assert!(rt; false, "a series is refused: {e:?}"),
+        }
+    }
+    Ok(())
+}
+
+/// A record, many records for months outside the run, and the first record again.
+#[test]
+fn finds_a_record_far_apart(rt: HostRuntime) -> Result<(), Fail> {
+    let mut text = Vec::new(rt.alloc());
+    text.extend_from_slice(b"month,node,amount\n1900-02,hill,1\n")?;
+    for _ in 0..3000 {
+        text.extend_from_slice(b"1900-03,hill,1\n")?;
+    }
+    text.extend_from_slice(b"1900-02,hill,1\n1900-02,hill,1\n")?;
+    expect_refused(
+        &rt,
+        text.as_slice(),
+        SeriesRefused::Record {
+            fault: SeriesFault::Repeated,
+            number: 3003,
+        },
+    )
+}
