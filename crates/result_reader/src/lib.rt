@@ -1,0 +1,4 @@
+//! The result text of a run, read line by line.
+#![tactic(auto)]
+
+mod shape;
