@@ -1,2 +1,4 @@
 pub mod Grammar
 pub mod Fronts
+pub mod Placing
+pub mod Members

@@ -1,4 +1,6 @@
 //! The result text of a run, read line by line.
 #![tactic(auto)]
 
+mod place;
+mod progress;
 mod shape;
