@@ -2,3 +2,4 @@ pub mod Grammar
 pub mod Fronts
 pub mod Placing
 pub mod Members
+pub mod MonthDues

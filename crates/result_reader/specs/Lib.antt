@@ -1,3 +1,4 @@
 pub mod Form
 pub mod Due
 pub mod Progress
+pub mod Sections

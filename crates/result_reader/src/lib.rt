@@ -1,6 +1,7 @@
 //! The result text of a run, read line by line.
 #![tactic(auto)]
 
+mod dues;
 mod place;
 mod progress;
 mod shape;
