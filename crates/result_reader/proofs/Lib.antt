@@ -3,3 +3,4 @@ pub mod Fronts
 pub mod Placing
 pub mod Members
 pub mod MonthDues
+pub mod NameLaws

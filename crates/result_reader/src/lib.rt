@@ -2,6 +2,7 @@
 #![tactic(auto)]
 
 mod dues;
+mod names;
 mod place;
 mod progress;
 mod shape;
