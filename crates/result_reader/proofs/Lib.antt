@@ -4,3 +4,5 @@ pub mod Placing
 pub mod Members
 pub mod MonthDues
 pub mod NameLaws
+pub mod Pieces
+pub mod WordLaws

@@ -1,6 +1,8 @@
 pub mod Form
 pub mod Due
-pub mod Progress
 pub mod Sections
+pub mod Progress
 pub mod Names
 pub mod NamePlaces
+pub mod Words
+pub mod Reading
