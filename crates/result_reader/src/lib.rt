@@ -7,5 +7,6 @@ mod fields;
 mod names;
 mod place;
 mod progress;
+mod reading;
 mod shape;
 mod words;
