@@ -6,3 +6,4 @@ pub mod MonthDues
 pub mod NameLaws
 pub mod Pieces
 pub mod WordLaws
+pub mod Sayings

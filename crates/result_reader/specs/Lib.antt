@@ -6,3 +6,4 @@ pub mod Names
 pub mod NamePlaces
 pub mod Words
 pub mod Reading
+pub mod OfText
