@@ -7,3 +7,5 @@ pub mod NameLaws
 pub mod Pieces
 pub mod WordLaws
 pub mod Sayings
+pub mod StandingLaws
+pub mod LinesLeft

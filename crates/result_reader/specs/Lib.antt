@@ -7,3 +7,4 @@ pub mod NamePlaces
 pub mod Words
 pub mod Reading
 pub mod OfText
+pub mod Standing
