@@ -9,3 +9,4 @@ pub mod WordLaws
 pub mod Sayings
 pub mod StandingLaws
 pub mod LinesLeft
+pub mod Spelled
