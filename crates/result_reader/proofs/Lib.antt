@@ -10,3 +10,4 @@ pub mod Sayings
 pub mod StandingLaws
 pub mod LinesLeft
 pub mod Spelled
+pub mod Accepting

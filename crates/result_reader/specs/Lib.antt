@@ -8,3 +8,4 @@ pub mod Words
 pub mod Reading
 pub mod OfText
 pub mod Standing
+pub mod Laws

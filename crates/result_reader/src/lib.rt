@@ -9,6 +9,7 @@
 mod bad_line;
 mod dues;
 mod fields;
+pub mod laws;
 mod names;
 mod place;
 mod progress;
