@@ -11,3 +11,6 @@ pub mod StandingLaws
 pub mod LinesLeft
 pub mod Spelled
 pub mod Accepting
+pub mod Telling
+pub mod MonthTold
+pub mod WholeMonth

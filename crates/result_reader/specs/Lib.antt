@@ -8,4 +8,5 @@ pub mod Words
 pub mod Reading
 pub mod OfText
 pub mod Standing
+pub mod Telling
 pub mod Laws
