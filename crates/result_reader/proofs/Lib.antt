@@ -14,3 +14,4 @@ pub mod Accepting
 pub mod Telling
 pub mod MonthTold
 pub mod WholeMonth
+pub mod AllTold

@@ -143,10 +143,10 @@ slice_set-behind : (front rest : List Bool) (x y : Bool) → slice_set (front ++
 slice_set-behind [] rest x y = refl
 slice_set-behind (z ∷ front) rest x y = ap (λ xs. z ∷ xs) (slice_set-behind front rest x y)
 
-abbrev Sets : Type 0
+abbrev pub Sets : Type 0
 Sets = List (Option (List Bool))
 
-entry_set : (xs : Sets) (k : ℕ) (v : Option (List Bool)) → k < length xs → of_entry (slice_set xs k v) k (λ s. s) None ≡ v
+pub entry_set : (xs : Sets) (k : ℕ) (v : Option (List Bool)) → k < length xs → of_entry (slice_set xs k v) k (λ s. s) None ≡ v
 entry_set [] k v l = absurd (omega arith)
 entry_set (x ∷ xs) zero v l = refl
 entry_set (x ∷ xs) (suc k) v l = entry_set xs k v (omega arith)

@@ -9,15 +9,12 @@ use Rattle.water_model.specs.declared.types.Inflows.{Inflows}
 use Rattle.water_model.specs.declared.types.MonthRecord.{MonthRecord}
 use Rattle.water_model.specs.Places.{places_of, seniors_first, return_nodes, outlets, rights_with_volume}
 use Rattle.water_model.specs.Text.{call_items, called_items, month_sections, items_of_month, items_of, calling_right}
+use Rattle.result_reader.specs.Records.{without_room}
 use Rattle.result_reader.specs.Telling.{Told, tell, told_by, nothing_told, blank_month, with_supply}
 use Rattle.water_model.specs.declared.item.Item.{Item}
 use Rattle.water_model.specs.declared.item.Item.TheVariants as line
 use Rattle.result_reader.proofs.Telling.{set_all, fold-both}
 use Rattle.result_reader.proofs.MonthTold.{Tells, makes_front, makes_called, makes_closings, tells_calls, put_sets, take_of, with_sets}
-
--- the same record with no room for sets, of which lines tell nothing
-abbrev pub without_room : MonthRecord → MonthRecord
-without_room m = record m { cuts = record m.cuts { room = [] } }
 
 -- the numbers of the record are all told, and what is not told is 0
 pub record IsAllTold (b : Basin) (series : Inflows) (m : MonthRecord) : Type 0 where

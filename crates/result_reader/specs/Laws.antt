@@ -1,13 +1,17 @@
 -- Laws over what is read, and over the form of a text.
-use Rattle.std.specs.Prelude.{◌≡◌, ℕ, List, [], ◌∷◌, ◌++◌, Some, Ok, Err, ◌↔◌}
+use Rattle.std.specs.Prelude.{◌≡◌, ℕ, List, [], ◌∷◌, ◌++◌, map, Some, Ok, Err, ◌↔◌}
 use Rattle.water_model.specs.Spelling.{line_of}
+use Rattle.water_model.specs.Text.{text_bytes}
 use Rattle.water_model.specs.Valid.{IsValidBasin}
 use Rattle.water_model.specs.declared.item.Item.{Item}
 use Rattle.water_model.specs.declared.types.Basin.{Basin}
+use Rattle.water_model.specs.declared.types.Inflows.{Inflows}
+use Rattle.water_model.specs.declared.types.MonthRecord.{MonthRecord}
 use Rattle.result_reader.specs.Due.{Due, all_due, due_after}
 use Rattle.result_reader.specs.Form.{IsFront}
 use Rattle.result_reader.specs.OfText.{IsOfText}
 use Rattle.result_reader.specs.Reading.{item_of, read_line}
+use Rattle.result_reader.specs.Records.{AreTextMonths, without_room}
 use Rattle.result_reader.specs.declared.bad_line.BadLine.TheVariants as bad
 
 -- What is read is what the line says. A line says an item exactly where it is that item's spelling, and the item one that
@@ -35,3 +39,10 @@ abbrev pub OthersAreOutOfPlace : Type 0
 OthersAreOutOfPlace =
     (b : Basin) (before : List Item) (bytes : List ℕ) (item : Item) → IsValidBasin b → item_of b bytes ≡ Ok item →
     (read_line b before bytes ≡ Err bad.OutOfPlace) ↔ (IsFront b (before ++ item ∷ []) → ⊥)
+
+-- One spelling. Records of one basin and one series whose texts have the same bytes are the same, but for the room for sets.
+abbrev pub TextsHaveOneReading : Type 0
+TextsHaveOneReading =
+    (b : Basin) (series : Inflows) (records others : List MonthRecord) → IsValidBasin b →
+    AreTextMonths b series records → AreTextMonths b series others → text_bytes b records ≡ text_bytes b others →
+    map without_room records ≡ map without_room others

@@ -9,4 +9,5 @@ pub mod Reading
 pub mod OfText
 pub mod Standing
 pub mod Telling
+pub mod Records
 pub mod Laws
