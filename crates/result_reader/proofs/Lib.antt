@@ -15,3 +15,5 @@ pub mod Telling
 pub mod MonthTold
 pub mod WholeMonth
 pub mod AllTold
+pub mod OfTexts
+pub mod OneReading

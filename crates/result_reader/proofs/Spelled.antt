@@ -27,105 +27,124 @@ use Rattle.result_reader.specs.declared.names.Space.{Space}
 use Rattle.result_reader.specs.declared.names.Space.TheVariants as space
 use Rattle.result_reader.proofs.NameLaws.{name_is, named-at}
 
--- bytes without a space
-abbrev pub no_space : List ℕ → Bool
-no_space bytes = list_all (λ c. not (c == 32)) bytes
+-- bytes without a byte: a space, or a line feed
+abbrev pub lacks : ℕ → List ℕ → Bool
+lacks byte bytes = list_all (λ c. not (c == byte)) bytes
 
 both : (p q : Bool) → p && q ≡ true → (p ≡ true) × (q ≡ true)
 both true q h = (refl, h)
 both false q h = cc
 
-pieces-one : (x : List ℕ) → no_space x ≡ true → pieces_of x ≡ x ∷ []
-pieces-one [] h = refl
-pieces-one (c ∷ cs) h = by_test (c == 32) refl (both (not (c == 32)) (no_space cs) h) (pieces-one cs)
+-- what stands between the bytes at which a list is cut
+abbrev pub cut_at : ℕ → List ℕ → List (List ℕ)
+cut_at byte bytes = slice_split (λ c. c == byte) bytes
+
+cut-one : (byte : ℕ) (x : List ℕ) → lacks byte x ≡ true → cut_at byte x ≡ x ∷ []
+cut-one byte [] h = refl
+cut-one byte (c ∷ cs) h = by_test (c == byte) refl (both (not (c == byte)) (lacks byte cs) h) (cut-one byte cs)
   where
-    by_test : (t : Bool) → (c == 32) ≡ t → (not (c == 32) ≡ true) × (no_space cs ≡ true) → (no_space cs ≡ true → pieces_of cs ≡ cs ∷ []) →
-        cond (c == 32) ([] ∷ pieces_of cs) (onto_first c (pieces_of cs)) ≡ (c ∷ cs) ∷ []
+    by_test : (t : Bool) → (c == byte) ≡ t → (not (c == byte) ≡ true) × (lacks byte cs ≡ true) → (lacks byte cs ≡ true → cut_at byte cs ≡ cs ∷ []) →
+        cond (c == byte) ([] ∷ cut_at byte cs) (onto_first c (cut_at byte cs)) ≡ (c ∷ cs) ∷ []
     by_test true e h further = let never : false ≡ true = sym (ap not e) ∙ h.0 in cc
     by_test false e h further = rw e (ap (onto_first c) (further h.1))
 
-pieces-first : (x rest : List ℕ) → no_space x ≡ true → pieces_of (x ++ (32 ∷ rest)) ≡ x ∷ pieces_of rest
-pieces-first [] rest h = refl
-pieces-first (c ∷ cs) rest h = by_test (c == 32) refl (both (not (c == 32)) (no_space cs) h) (pieces-first cs rest)
+pub cut-first : (byte : ℕ) (x rest : List ℕ) → lacks byte x ≡ true → cut_at byte (x ++ (byte ∷ rest)) ≡ x ∷ cut_at byte rest
+cut-first byte [] rest h = let here : (byte == byte) ≡ true = same byte in rw here refl
   where
-    by_test : (t : Bool) → (c == 32) ≡ t → (not (c == 32) ≡ true) × (no_space cs ≡ true) → (no_space cs ≡ true → pieces_of (cs ++ (32 ∷ rest)) ≡ cs ∷ pieces_of rest) →
-        cond (c == 32) ([] ∷ pieces_of (cs ++ (32 ∷ rest))) (onto_first c (pieces_of (cs ++ (32 ∷ rest)))) ≡ (c ∷ cs) ∷ pieces_of rest
+    same : (n : ℕ) → (n == n) ≡ true
+    same n = grind (arith, nat_tests)
+cut-first byte (c ∷ cs) rest h = by_test (c == byte) refl (both (not (c == byte)) (lacks byte cs) h) (cut-first byte cs rest)
+  where
+    by_test : (t : Bool) → (c == byte) ≡ t → (not (c == byte) ≡ true) × (lacks byte cs ≡ true) →
+        (lacks byte cs ≡ true → cut_at byte (cs ++ (byte ∷ rest)) ≡ cs ∷ cut_at byte rest) →
+        cond (c == byte) ([] ∷ cut_at byte (cs ++ (byte ∷ rest))) (onto_first c (cut_at byte (cs ++ (byte ∷ rest)))) ≡ (c ∷ cs) ∷ cut_at byte rest
     by_test true e h further = let never : false ≡ true = sym (ap not e) ∙ h.0 in cc
     by_test false e h further = rw e (ap (onto_first c) (further h.1))
 
 -- the pieces of joined fields are the fields
-pieces-join : (x : List ℕ) (xs : List (List ℕ)) → list_all no_space (x ∷ xs) ≡ true → pieces_of (join_with_byte 32 (x ∷ xs)) ≡ x ∷ xs
-pieces-join x [] h = pieces-one x (both (no_space x) true h).0
+pieces-join : (x : List ℕ) (xs : List (List ℕ)) → list_all (lacks 32) (x ∷ xs) ≡ true → pieces_of (join_with_byte 32 (x ∷ xs)) ≡ x ∷ xs
+pieces-join x [] h = cut-one 32 x (both (lacks 32 x) true h).0
 pieces-join x (y ∷ ys) h =
-    let two = both (no_space x) (list_all no_space (y ∷ ys)) h in
-    pieces-first x (join_with_byte 32 (y ∷ ys)) two.0 ∙ ap (λ t. x ∷ t) (pieces-join y ys two.1)
+    let two = both (lacks 32 x) (list_all (lacks 32) (y ∷ ys)) h in
+    cut-first 32 x (join_with_byte 32 (y ∷ ys)) two.0 ∙ ap (λ t. x ∷ t) (pieces-join y ys two.1)
 
--- No field has a space.
+-- No field has a byte below `-` (45), and so neither a space nor a line feed.
 
-decimal_no_space : (n : ℕ) → n < 2 ^ 64 → no_space (decimal n) ≡ true
-decimal_no_space n h = decimal_by_steps (λ m ds. no_space ds ≡ true) one more n h
+abbrev is_plain : List ℕ → Bool
+is_plain bytes = list_all (λ c. nat_le 45 c) bytes
+
+plain-lacks : (byte : ℕ) → byte < 45 → (bytes : List ℕ) → is_plain bytes ≡ true → lacks byte bytes ≡ true
+plain-lacks byte low [] h = refl
+plain-lacks byte low (c ∷ cs) h =
+    let two = both (nat_le 45 c) (is_plain cs) h in
+    rw (apart c two.0) (plain-lacks byte low cs two.1)
   where
-    digit : (d : ℕ) → not (48 + d == 32) ≡ true
+    apart : (c : ℕ) → nat_le 45 c ≡ true → not (c == byte) ≡ true
+    apart c e = grind (arith, nat_tests)
+
+plain-all : (byte : ℕ) → byte < 45 → (xs : List (List ℕ)) → list_all is_plain xs ≡ true → list_all (lacks byte) xs ≡ true
+plain-all byte low [] h = refl
+plain-all byte low (x ∷ xs) h =
+    let two = both (is_plain x) (list_all is_plain xs) h in
+    rw (plain-lacks byte low x two.0) (plain-all byte low xs two.1)
+
+decimal_plain : (n : ℕ) → n < 2 ^ 64 → is_plain (decimal n) ≡ true
+decimal_plain n h = decimal_by_steps (λ m ds. is_plain ds ≡ true) one more n h
+  where
+    digit : (d : ℕ) → nat_le 45 (48 + d) ≡ true
     digit d = grind (arith, nat_tests)
 
-    one : (m : ℕ) → m < 10 → no_space ((48 + m) ∷ []) ≡ true
+    one : (m : ℕ) → m < 10 → is_plain ((48 + m) ∷ []) ≡ true
     one m l = rw (digit m) refl
 
-    more : (m : ℕ) (ds : List ℕ) → 10 ≤ m → no_space ds ≡ true → no_space (ds ++ ((48 + m % 10) ∷ [])) ≡ true
-    more m ds l k = list_all-append (λ c. not (c == 32)) ds ((48 + m % 10) ∷ []) ∙ rw (k, digit (m % 10)) refl
+    more : (m : ℕ) (ds : List ℕ) → 10 ≤ m → is_plain ds ≡ true → is_plain (ds ++ ((48 + m % 10) ∷ [])) ≡ true
+    more m ds l k = list_all-append (λ c. nat_le 45 c) ds ((48 + m % 10) ∷ []) ∙ rw (k, digit (m % 10)) refl
 
-month_no_space : (m : Month) → IsMonth m → no_space (month_digits m) ≡ true
-month_no_space m h =
-    list_all-append (λ c. not (c == 32)) (decimal m.year) (45 ∷ (48 + m.month / 10) ∷ (48 + m.month % 10) ∷ [])
-    ∙ rw (decimal_no_space m.year (omega (arith, h.year)), digit (m.month / 10), digit (m.month % 10)) refl
+month_plain : (m : Month) → IsMonth m → is_plain (month_digits m) ≡ true
+month_plain m h =
+    list_all-append (λ c. nat_le 45 c) (decimal m.year) (45 ∷ (48 + m.month / 10) ∷ (48 + m.month % 10) ∷ [])
+    ∙ rw (decimal_plain m.year (omega (arith, h.year)), digit (m.month / 10), digit (m.month % 10)) refl
   where
-    digit : (d : ℕ) → not (48 + d == 32) ≡ true
+    digit : (d : ℕ) → nat_le 45 (48 + d) ≡ true
     digit d = grind (arith, nat_tests)
 
-name_byte_no_space : (c : ℕ) → is_name_byte c ≡ true → not (c == 32) ≡ true
-name_byte_no_space c h = by_test (c == 32) refl
-  where
-    is : (c : ℕ) → (c == 32) ≡ true → c ≡ 32
-    is c e = grind (arith, nat_tests)
+name_byte_plain : (c : ℕ) → is_name_byte c ≡ true → nat_le 45 c ≡ true
+name_byte_plain c h = grind (arith, nat_tests)
 
-    by_test : (t : Bool) → (c == 32) ≡ t → not (c == 32) ≡ true
-    by_test false e = rw e refl
-    by_test true e = let never : false ≡ true = sym (ap is_name_byte (is c e)) ∙ h in cc
-
-bytes_no_space : (bytes : List ℕ) → list_all is_name_byte bytes ≡ true → no_space bytes ≡ true
-bytes_no_space [] h = refl
-bytes_no_space (c ∷ cs) h =
+bytes_plain : (bytes : List ℕ) → list_all is_name_byte bytes ≡ true → is_plain bytes ≡ true
+bytes_plain [] h = refl
+bytes_plain (c ∷ cs) h =
     let two = both (is_name_byte c) (list_all is_name_byte cs) h in
-    rw (name_byte_no_space c two.0) (bytes_no_space cs two.1)
+    rw (name_byte_plain c two.0) (bytes_plain cs two.1)
 
-name_no_space : (bytes : List ℕ) → is_name bytes ≡ true → no_space bytes ≡ true
+name_plain : (bytes : List ℕ) → is_name bytes ≡ true → is_plain bytes ≡ true
 unfolding is_name
-name_no_space bytes h =
+name_plain bytes h =
     let two = both (nat_le 1 (length bytes)) _ h in
-    bytes_no_space bytes (both (nat_le (length bytes) 32) (list_all is_name_byte bytes) two.1).1
+    bytes_plain bytes (both (nat_le (length bytes) 32) (list_all is_name_byte bytes) two.1).1
 
-entry_no_space : (b : Basin) → IsValidBasin b → (s : Space) (at : ℕ) → at < count_in s b → no_space (name_in s b at) ≡ true
-entry_no_space b valid s at l = name_no_space (name_in s b at) (name_is b valid s at l)
+entry_plain : (b : Basin) → IsValidBasin b → (s : Space) (at : ℕ) → at < count_in s b → is_plain (name_in s b at) ≡ true
+entry_plain b valid s at l = name_plain (name_in s b at) (name_is b valid s at l)
 
-fields_no_space : (b : Basin) → IsValidBasin b → (i : Item) → IsOfText b i → list_all no_space (fields_of b i) ≡ true
+fields_plain : (b : Basin) → IsValidBasin b → (i : Item) → IsOfText b i → list_all is_plain (fields_of b i) ≡ true
 unfolding fields_of
-fields_no_space b valid line.Title o = refl
-fields_no_space b valid (line.Run first months) o = rw (month_no_space first o.of_basin, decimal_no_space months (omega (arith, o.numbers))) refl
-fields_no_space b valid (line.Month month) o = rw (month_no_space month o.of_basin) refl
-fields_no_space b valid (line.Opening v amount) o = rw (entry_no_space b valid space.Reservoirs v o.of_basin, decimal_no_space amount (omega (arith, o.numbers))) refl
-fields_no_space b valid (line.Evaporated v amount) o = rw (entry_no_space b valid space.Reservoirs v o.of_basin, decimal_no_space amount (omega (arith, o.numbers))) refl
-fields_no_space b valid (line.Returned node amount) o = rw (entry_no_space b valid space.Nodes node o.of_basin, decimal_no_space amount (omega (arith, o.numbers))) refl
-fields_no_space b valid (line.Used right amount) o = rw (entry_no_space b valid space.Rights right o.of_basin, decimal_no_space amount (omega (arith, o.numbers))) refl
-fields_no_space b valid (line.Flow link amount) o = rw (entry_no_space b valid space.Links link o.of_basin, decimal_no_space amount (omega (arith, o.numbers))) refl
-fields_no_space b valid (line.Deliver right amount want) o =
-    rw (entry_no_space b valid space.Rights right o.of_basin, decimal_no_space amount (omega (arith, o.numbers.0)), decimal_no_space want (omega (arith, o.numbers.1))) refl
-fields_no_space b valid (line.Outflow node amount) o = rw (entry_no_space b valid space.Nodes node o.of_basin, decimal_no_space amount (omega (arith, o.numbers))) refl
-fields_no_space b valid (line.Call right) o = rw (entry_no_space b valid space.Rights right o.of_basin) refl
-fields_no_space b valid (line.Member node) o = rw (entry_no_space b valid space.Nodes node o.of_basin) refl
-fields_no_space b valid (line.Called right by') o = rw (entry_no_space b valid space.Rights right o.of_basin.0, entry_no_space b valid space.Rights by' o.of_basin.1) refl
-fields_no_space b valid (line.Closing v amount) o = rw (entry_no_space b valid space.Reservoirs v o.of_basin, decimal_no_space amount (omega (arith, o.numbers))) refl
-fields_no_space b valid line.End o = refl
-fields_no_space b valid (line.Done months) o = rw (decimal_no_space months (omega (arith, o.numbers))) refl
+fields_plain b valid line.Title o = refl
+fields_plain b valid (line.Run first months) o = rw (month_plain first o.of_basin, decimal_plain months (omega (arith, o.numbers))) refl
+fields_plain b valid (line.Month month) o = rw (month_plain month o.of_basin) refl
+fields_plain b valid (line.Opening v amount) o = rw (entry_plain b valid space.Reservoirs v o.of_basin, decimal_plain amount (omega (arith, o.numbers))) refl
+fields_plain b valid (line.Evaporated v amount) o = rw (entry_plain b valid space.Reservoirs v o.of_basin, decimal_plain amount (omega (arith, o.numbers))) refl
+fields_plain b valid (line.Returned node amount) o = rw (entry_plain b valid space.Nodes node o.of_basin, decimal_plain amount (omega (arith, o.numbers))) refl
+fields_plain b valid (line.Used right amount) o = rw (entry_plain b valid space.Rights right o.of_basin, decimal_plain amount (omega (arith, o.numbers))) refl
+fields_plain b valid (line.Flow link amount) o = rw (entry_plain b valid space.Links link o.of_basin, decimal_plain amount (omega (arith, o.numbers))) refl
+fields_plain b valid (line.Deliver right amount want) o =
+    rw (entry_plain b valid space.Rights right o.of_basin, decimal_plain amount (omega (arith, o.numbers.0)), decimal_plain want (omega (arith, o.numbers.1))) refl
+fields_plain b valid (line.Outflow node amount) o = rw (entry_plain b valid space.Nodes node o.of_basin, decimal_plain amount (omega (arith, o.numbers))) refl
+fields_plain b valid (line.Call right) o = rw (entry_plain b valid space.Rights right o.of_basin) refl
+fields_plain b valid (line.Member node) o = rw (entry_plain b valid space.Nodes node o.of_basin) refl
+fields_plain b valid (line.Called right by') o = rw (entry_plain b valid space.Rights right o.of_basin.0, entry_plain b valid space.Rights by' o.of_basin.1) refl
+fields_plain b valid (line.Closing v amount) o = rw (entry_plain b valid space.Reservoirs v o.of_basin, decimal_plain amount (omega (arith, o.numbers))) refl
+fields_plain b valid line.End o = refl
+fields_plain b valid (line.Done months) o = rw (decimal_plain months (omega (arith, o.numbers))) refl
 
 some_fields : (b : Basin) (i : Item) → 0 < length (fields_of b i)
 unfolding fields_of
@@ -146,11 +165,11 @@ some_fields b (line.Closing v amount) = omega arith
 some_fields b line.End = omega arith
 some_fields b (line.Done months) = omega arith
 
-line_pieces : (b : Basin) (i : Item) → list_all no_space (fields_of b i) ≡ true → pieces_of (line_of b i) ≡ fields_of b i
+line_pieces : (b : Basin) (i : Item) → list_all (lacks 32) (fields_of b i) ≡ true → pieces_of (line_of b i) ≡ fields_of b i
 unfolding line_of
 line_pieces b i h = by_fields (fields_of b i) h (some_fields b i)
   where
-    by_fields : (xs : List (List ℕ)) → list_all no_space xs ≡ true → 0 < length xs → pieces_of (join_with_byte 32 xs) ≡ xs
+    by_fields : (xs : List (List ℕ)) → list_all (lacks 32) xs ≡ true → 0 < length xs → pieces_of (join_with_byte 32 xs) ≡ xs
     by_fields [] h l = absurd (omega arith)
     by_fields (x ∷ xs) h l = pieces-join x xs h
 
@@ -232,7 +251,19 @@ item_in-fields b valid (line.Done months) o = rw (count_read months o.numbers.0 
 pub item-line : (b : Basin) → IsValidBasin b → (i : Item) → IsOfText b i → item_of b (line_of b i) ≡ Ok i
 unfolding item_of
 item-line b valid i o =
-    rw (not_long (length (line_of b i)) (line_short b valid i o), line_pieces b i (fields_no_space b valid i o)) (item_in-fields b valid i o)
+    rw (not_long (length (line_of b i)) (line_short b valid i o), line_pieces b i (plain-all 32 (omega arith) (fields_of b i) (fields_plain b valid i o))) (item_in-fields b valid i o)
   where
     not_long : (n : ℕ) → n ≤ 128 → nat_lt 128 n ≡ false
     not_long n h = grind (arith, nat_tests)
+
+-- A line has no line feed.
+pub line_lacks_feed : (b : Basin) → IsValidBasin b → (i : Item) → IsOfText b i → lacks 10 (line_of b i) ≡ true
+unfolding line_of
+line_lacks_feed b valid i o = joined (fields_of b i) (plain-all 10 (omega arith) (fields_of b i) (fields_plain b valid i o))
+  where
+    joined : (xs : List (List ℕ)) → list_all (lacks 10) xs ≡ true → lacks 10 (join_with_byte 32 xs) ≡ true
+    joined [] h = refl
+    joined (x ∷ []) h = (both (lacks 10 x) true h).0
+    joined (x ∷ y ∷ ys) h =
+        let two = both (lacks 10 x) (list_all (lacks 10) (y ∷ ys)) h in
+        list_all-append (λ c. not (c == 10)) x (32 ∷ join_with_byte 32 (y ∷ ys)) ∙ rw (two.0, joined (y ∷ ys) two.1) refl

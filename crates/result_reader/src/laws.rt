@@ -1,5 +1,5 @@
 //! Laws over what is read, and over the form of a text. Each is the contract of a function that does nothing.
-ghost use Rattle.result_reader.specs.Laws.{LineSaysItsItem, FrontsAreDue, FrontsAreAccepted, OthersAreOutOfPlace};
+ghost use Rattle.result_reader.specs.Laws.{LineSaysItsItem, FrontsAreDue, FrontsAreAccepted, OthersAreOutOfPlace, TextsHaveOneReading};
 
 /// What is read is what the line says, and nothing else is.
 pub fn line_says_its_item()
@@ -19,4 +19,9 @@ pub fn fronts_are_accepted()
 /// Every other line that says something is out of place.
 pub fn others_are_out_of_place()
     ensures { OthersAreOutOfPlace }
+{}
+
+/// A text is that of one list of records.
+pub fn texts_have_one_reading()
+    ensures { TextsHaveOneReading }
 {}
