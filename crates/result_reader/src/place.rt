@@ -22,7 +22,7 @@ pub enum Found {
 
 /// Where a reader stands: before a line of the head, or behind so many `month` lines and at a place in that month's
 /// lines, or at the end.
-#[derive(Clone, Copy, Debug, PartialEq, Eq)]
+#[derive(Clone, Copy)]
 pub enum Place {
     Title,
     Run,

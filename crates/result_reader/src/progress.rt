@@ -14,7 +14,7 @@ use water_model::types::Basin;
 
 /// The place among the lines that are due, and behind a `call` the first node whose `in` line may come, and whether one
 /// must.
-#[derive(Clone, Copy, Debug, PartialEq, Eq)]
+#[derive(Clone, Copy)]
 pub struct Progress {
     pub place: Place,
     pub next_member: Option<u32>,
@@ -34,19 +34,15 @@ fn next_member(
     requires node { node < length basin.now.nodes }
     ensures { IsNextProgress basin.now dues.now progress (line.Member node) result }
 {
-    match progress.next_member {
-        Some(next) => {
-            if next <= node {
-                Some(Progress {
-                    place: progress.place,
-                    next_member: Some(node + 1),
-                    must: false,
-                })
-            } else {
-                None
-            }
-        }
-        None => None,
+    let next = progress.next_member?;
+    if next <= node {
+        Some(Progress {
+            place: progress.place,
+            next_member: Some(node + 1),
+            must: false,
+        })
+    } else {
+        None
     }
 }
 
@@ -67,23 +63,19 @@ fn next_other(
     if progress.must {
         return None;
     }
-    match next_place(basin, dues, progress.place, item) {
-        Some(place) => {
-            if is_call(item) {
-                Some(Progress {
-                    place,
-                    next_member: Some(0),
-                    must: true,
-                })
-            } else {
-                Some(Progress {
-                    place,
-                    next_member: None,
-                    must: false,
-                })
-            }
-        }
-        None => None,
+    let place = next_place(basin, dues, progress.place, item)?;
+    if is_call(item) {
+        Some(Progress {
+            place,
+            next_member: Some(0),
+            must: true,
+        })
+    } else {
+        Some(Progress {
+            place,
+            next_member: None,
+            must: false,
+        })
     }
 }
 

@@ -7,7 +7,7 @@ use water_model::item::Item;
 use water_text::month::Month;
 
 /// A line that is due: its word, with its month, its number of months or its first name.
-#[derive(Clone, Copy, Debug, PartialEq, Eq)]
+#[derive(Clone, Copy, PartialEq, Eq)]
 pub enum Shape {
     Title,
     Run,
