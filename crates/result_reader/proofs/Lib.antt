@@ -17,3 +17,4 @@ pub mod WholeMonth
 pub mod AllTold
 pub mod OfTexts
 pub mod OneReading
+mod Examples

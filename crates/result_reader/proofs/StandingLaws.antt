@@ -2,12 +2,14 @@
 use Rattle.std.proofs.Common.{◌≡◌, ℕ, ◌+◌, ◌-◌, ◌≤◌, true, false, refl, sym, ap, subst, ◌∙◌, arith, List, [], ◌∷◌, ◌++◌, length}
 use Rattle.std.specs.Prelude.{Option, Some, None, Result, Ok, Err, is_some, if◌then◌else◌}
 use Rattle.std.specs.Option.{option_and_then}
+use Rattle.water_model.specs.Spelling.{line_of}
 use Rattle.water_model.specs.Valid.{IsValidBasin}
 use Rattle.water_model.specs.declared.item.Item.{Item}
 use Rattle.water_model.specs.declared.types.Basin.{Basin}
 use Rattle.result_reader.specs.Due.{Due, is_call, step, all_due, due_after}
 use Rattle.result_reader.specs.Form.{due, due_from, due_in_month}
 use Rattle.result_reader.specs.Progress.{dues_of, due_of, IsNextProgress}
+use Rattle.result_reader.specs.OfText.{IsOfText}
 use Rattle.result_reader.specs.Reading.{item_of, read_line}
 use Rattle.result_reader.specs.Standing.{ReaderSeen, StandsFor, most_lines, IsReader}
 use Rattle.result_reader.specs.declared.bad_line.BadLine.{BadLine}
@@ -18,6 +20,7 @@ use Rattle.result_reader.specs.declared.shape.Shape.{Shape}
 use Rattle.result_reader.specs.declared.shape.Shape.TheVariants as shape
 use Rattle.result_reader.proofs.Fronts.{due_more}
 use Rattle.result_reader.proofs.LinesLeft.{step-fewer}
+use Rattle.result_reader.proofs.Sayings.{item_is_said}
 
 -- what contracts see of a reader's fields
 abbrev pub seen : Basin → List Shape → Progress → ℕ → ReaderSeen
@@ -101,3 +104,10 @@ reader_first b c dues left is valid are most =
       progress = record { place = tt; member = tt; must = λ no. cc };
       left_is = rw (← ap (λ (d : Due). d.dues) (all_due_first b dues)) most;
     })
+
+-- what is said is spelled
+pub said_along : (b : Basin) (dues : List Shape) (p : Progress) (left : ℕ) (r : ReaderSeen) (bytes : List ℕ) (i : Item) → seen b dues p left ≡ r →
+    item_of b bytes ≡ Ok i → (bytes ≡ line_of r.basin i) × IsOfText r.basin i
+said_along b dues p left r bytes i is h =
+    let s = item_is_said b bytes i h in
+    subst (λ (x : ReaderSeen). (bytes ≡ line_of x.basin i) × IsOfText x.basin i) is (s.spelled, s.of_text)

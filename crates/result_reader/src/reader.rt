@@ -1,9 +1,11 @@
 //! The reader of a result text.
 ghost use Rattle.std.specs.Prelude.{◌≡◌, ◌+◌, ◌≤◌, ◌++◌, ◌∷◌, [], List, IfOk, OnOk, OnErr};
 ghost use Rattle.rights_roll.specs.Rolls.{IsRollOf};
+ghost use Rattle.water_model.specs.Spelling.{line_of};
 ghost use Rattle.water_model.specs.Valid.{IsValidBasin};
 ghost use Rattle.water_model.specs.declared.item.Item.{Item};
 ghost use Rattle.result_reader.specs.Form.{due, due_in_month};
+ghost use Rattle.result_reader.specs.OfText.{IsOfText};
 ghost use Rattle.result_reader.specs.Reading.{read_line};
 ghost use Rattle.result_reader.specs.Standing.{StandsFor, most_lines};
 
@@ -80,14 +82,18 @@ impl<'b> ResultReader<'b> {
         })
     }
 
-    /// Reads the next line, without its line feed, and answers what it says, or why it is refused. A line that is
-    /// refused changes nothing.
+    /// Takes the next line, without its line feed, and answers what it says by the numbers of the basin. Amounts are in
+    /// units of 1,000 cubic metres.
     ///
-    /// A line is accepted exactly where it is one of at most 128 bytes that spells an item of the basin, and the lines
-    /// accepted so far and this one are the front of a whole text. No memory is taken.
+    /// A line is refused as `OverLong` where it has more than 128 bytes; else as `UnknownWord` where its first word is
+    /// none of a text's; else as `BadField` where its fields aren't those of its word, spelled as names, months, amounts
+    /// up to 10^15 or numbers of months from 1 to 1,200; and else as `OutOfPlace` exactly where it names what the basin
+    /// doesn't have, or the lines accepted so far and this one aren't the front of a whole text. A refused line changes
+    /// nothing. No memory is taken.
     pub fn line(&mut self, text: &[u8]) -> Result<Item, BadLine>
         ensures answer { (items : List Item) → StandsFor self.old items → result ≡ read_line self.old.basin items text.now }
         ensures accepted { IfOk result (λ item. (items : List Item) → StandsFor self.old items → StandsFor self.new (items ++ item ∷ [])) }
+        ensures spelled { IfOk result (λ item. (text.now ≡ line_of self.old.basin item) × IsOfText self.old.basin item) }
         ensures refused { OnErr result (self.new ≡ self.old) }
         ensures basin { self.new.basin ≡ self.old.basin }
         ensures left { OnOk result (self.new.left + 1 ≡ self.old.left) }
@@ -103,7 +109,8 @@ impl<'b> ResultReader<'b> {
         }
     }
 
-    /// An upper bound on the lines that may still be accepted. It falls by one with each.
+    /// An upper bound on the lines that may still be accepted: for each line that is due one, and for a `call` line one
+    /// more for each node. It falls by one with each accepted line.
     pub fn lines_left(&self) -> u64
         ensures value { result ≡ self.now.left }
         ensures bound { most_lines self.now.basin self.now.due.dues ≤ result }

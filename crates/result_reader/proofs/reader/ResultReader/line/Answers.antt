@@ -3,7 +3,7 @@ use Rattle.std.specs.Prelude.{Err}
 use Rattle.std.proofs.lemmas.Result.{err_from_is_err_and}
 use Rattle.result_reader.specs.Progress.{IsNextProgress}
 use Rattle.result_reader.proofs.Sayings.{item_is_said}
-use Rattle.result_reader.proofs.StandingLaws.{line_refused, line_blocked, line_taken, next_along, next_left}
+use Rattle.result_reader.proofs.StandingLaws.{line_refused, line_blocked, line_taken, next_along, next_left, said_along}
 use Rattle.result_reader.proofs.reader.ResultReader.line.Goals as goal
 
 pub returns-in_err-item-clause-answer : goal.returns-in_err-item-clause-answer
@@ -60,3 +60,8 @@ returns-in-None-clause-answer c = λ items stands.
     c.in_ok-item.item c.self.view_is (sym c.item_of.ensures ∙ c.in_ok-item.was)
     (next_along c.self.inside.names.basin.now _ c.self.inside.dues.items c.self.inside.progress c.in_ok-item.item None c.deref.ensures.value c.in-None.ensures)
     items stands
+
+pub returns-in-Some-clause-spelled : goal.returns-in-Some-clause-spelled
+returns-in-Some-clause-spelled c =
+    said_along c.self.inside.names.basin.now c.self.inside.dues.items c.self.inside.progress c.self.inside.left c.args.self.now c.args.text.now c.in_ok-item.item
+    c.self.view_is (sym c.item_of.ensures ∙ c.in_ok-item.was)
