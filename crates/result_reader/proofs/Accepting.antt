@@ -29,7 +29,7 @@ fronts_are_due b items valid = (
 )
 
 -- an item that is said and may come is answered
-may_come : (b : Basin) (before : List Item) (bytes : List ℕ) (item : Item) → item_of b bytes ≡ Ok item → IsFront b (before ++ item ∷ []) →
+pub may_come : (b : Basin) (before : List Item) (bytes : List ℕ) (item : Item) → item_of b bytes ≡ Ok item → IsFront b (before ++ item ∷ []) →
     read_line b before bytes ≡ Ok item
 unfolding read_line
 may_come b before bytes item said front =

@@ -18,3 +18,4 @@ pub mod AllTold
 pub mod OfTexts
 pub mod OneReading
 mod Examples
+pub mod TextForm

@@ -1,7 +1,7 @@
 -- Laws over what is read, and over the form of a text.
-use Rattle.std.specs.Prelude.{◌≡◌, ℕ, List, [], ◌∷◌, ◌++◌, map, Some, Ok, Err, ◌↔◌}
+use Rattle.std.specs.Prelude.{◌≡◌, ℕ, List, [], ◌∷◌, ◌++◌, length, map, Some, Ok, Err, ◌↔◌}
 use Rattle.water_model.specs.Spelling.{line_of}
-use Rattle.water_model.specs.Text.{text_bytes}
+use Rattle.water_model.specs.Text.{items_of, text_bytes}
 use Rattle.water_model.specs.Valid.{IsValidBasin}
 use Rattle.water_model.specs.declared.item.Item.{Item}
 use Rattle.water_model.specs.declared.types.Basin.{Basin}
@@ -39,6 +39,13 @@ abbrev pub OthersAreOutOfPlace : Type 0
 OthersAreOutOfPlace =
     (b : Basin) (before : List Item) (bytes : List ℕ) (item : Item) → IsValidBasin b → item_of b bytes ≡ Ok item →
     (read_line b before bytes ≡ Err bad.OutOfPlace) ↔ (IsFront b (before ++ item ∷ []) → ⊥)
+
+-- What is written can be read. Each line of the text of records of all months is accepted behind those before it.
+abbrev pub TextsAreAccepted : Type 0
+TextsAreAccepted =
+    (b : Basin) (series : Inflows) (records : List MonthRecord) (before after : List Item) (item : Item) → IsValidBasin b →
+    AreTextMonths b series records → length records ≡ b.months → items_of b records ≡ before ++ item ∷ after →
+    read_line b before (line_of b item) ≡ Ok item
 
 -- One spelling. Records of one basin and one series whose texts have the same bytes are the same, but for the room for sets.
 abbrev pub TextsHaveOneReading : Type 0
