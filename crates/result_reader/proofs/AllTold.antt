@@ -4,17 +4,16 @@ use Rattle.std.specs.Prelude.{Option, Some, None, option_map, ◌⊎◌, is_some
 use Rattle.std.specs.List.{list_any}
 use Rattle.std.proofs.Math.ListN.{length-set}
 use Rattle.std.proofs.lemmas.Bool.{cases_eq, cases_lt, cases_Bool}
-use Rattle.std.proofs.lemmas.Option.{slice_get_past, slice_get_within}
+use Rattle.std.proofs.lemmas.Option.{slice_get_past}
 use Rattle.std.proofs.lemmas.List.{length-replicate}
 use Rattle.place_sums.proofs.Totals.{total_zero}
 use Rattle.water_model.proofs.Order.{Has, numbers_from-has, seniors_have, seniors_below}
 use Rattle.water_model.specs.Basin.{taking_node, taking_node_of_kind, instream_link, link_of_kind, is_outlet}
-use Rattle.water_model.specs.CutSets.{set_of}
-use Rattle.water_model.specs.History.{IsShort, cut_of}
+use Rattle.water_model.specs.History.{cut_of}
 use Rattle.water_model.specs.Hydrology.{returned_at, returned_by, used_of, used_by_volume, used_in_year, inflow_at, stored_at}
 use Rattle.water_model.specs.Lookups.{of_entry}
 use Rattle.water_model.specs.Places.{numbers_from, places_of, seniors_first, return_nodes, outlets, rights_with_volume}
-use Rattle.water_model.specs.Plans.{delivery, delivery_by_link}
+use Rattle.water_model.specs.Plans.{delivery_by_link}
 use Rattle.water_model.specs.declared.types.Basin.{Basin}
 use Rattle.water_model.specs.declared.types.Inflows.{Inflows}
 use Rattle.water_model.specs.declared.types.MonthRecord.{MonthRecord}
@@ -22,7 +21,7 @@ use Rattle.water_model.specs.declared.types.ReturnRow.{ReturnRow}
 use Rattle.water_model.specs.declared.types.Right.{Right}
 use Rattle.water_model.specs.declared.types.RightKind.{RightKind}
 use Rattle.water_model.specs.declared.types.RightKind.TheVariants as kind
-use Rattle.result_reader.specs.Records.{IsMonthBehind, IsTextMonth, AreTextMonths}
+use Rattle.result_reader.specs.Records.{IsTextMonth, AreTextMonths}
 use Rattle.result_reader.proofs.MonthTold.{put_sets, take_of}
 use Rattle.result_reader.proofs.Telling.{set_all, set_all-whole, Sets, entry_set}
 use Rattle.result_reader.proofs.WholeMonth.{IsAllTold, AreAllTold}

@@ -1,6 +1,6 @@
 -- How many lines may still come.
 use Rattle.std.proofs.Common.{◌≡◌, ℕ, zero, suc, ◌+◌, ◌*◌, ◌^◌, ◌<◌, ◌≤◌, Bool, true, false, refl, sym, ap, ◌∙◌, arith, List, [], ◌∷◌, ◌++◌, length, map, length-append, mul_comm}
-use Rattle.std.specs.Prelude.{Option, Some, None, sum_by, filter, not, ◌&&◌}
+use Rattle.std.specs.Prelude.{Some, None, filter, not, ◌&&◌}
 use Rattle.std.specs.List.{flat_map}
 use Rattle.std.proofs.Math.Nat.{mul-le-mul}
 use Rattle.std.proofs.lemmas.List.Sums.{sum_by-append, sum_by-cons, length-filter, count_by-le-length}
@@ -11,9 +11,8 @@ use Rattle.water_model.specs.Places.{numbers_from, places_of, seniors_first, ret
 use Rattle.water_model.specs.Hydrology.{run_month}
 use Rattle.water_model.specs.Valid.{IsValidBasin}
 use Rattle.water_model.specs.declared.item.Item.{Item}
-use Rattle.water_model.specs.declared.item.Item.TheVariants as line
 use Rattle.water_model.specs.declared.types.Basin.{Basin}
-use Rattle.result_reader.specs.Due.{is_call, is_member, opened, take_line, step}
+use Rattle.result_reader.specs.Due.{is_member, opened, take_line, step}
 use Rattle.result_reader.specs.Form.{shape_of, is_optional, fits, takers, due, due_in_month, due_for_month, due_from}
 use Rattle.result_reader.specs.Standing.{most_for, most_lines}
 use Rattle.result_reader.specs.declared.shape.Shape.{Shape}

@@ -1,15 +1,12 @@
 -- The lines of records are lines that a text may have.
-use Rattle.std.proofs.Common.{◌≡◌, ℕ, zero, suc, ◌+◌, ◌<◌, ◌≤◌, ◌^◌, Bool, true, false, refl, sym, ap, subst, ◌∙◌, arith, inl, inr, List, [], ◌∷◌, ◌++◌, length, map, append_assoc, length-append}
-use Rattle.std.specs.Prelude.{Option, Some, None, slice_index, find, filter, ◌⊎◌}
-use Rattle.std.specs.List.{flat_map, list_any}
+use Rattle.std.proofs.Common.{◌≡◌, ℕ, suc, ◌+◌, ◌<◌, ◌≤◌, ◌^◌, Bool, true, false, refl, sym, ap, subst, ◌∙◌, arith, inl, inr, List, [], ◌∷◌, ◌++◌, length, map, append_assoc, length-append}
+use Rattle.std.specs.Prelude.{Option, Some, None, slice_index}
+use Rattle.std.specs.List.{flat_map}
 use Rattle.result_text.proofs.Whole.{IsMonth-run_month}
 use Rattle.water_text.specs.Months.{IsMonth}
 use Rattle.water_model.proofs.Order.{Has, numbers_from-below, seniors_below, find-passes}
-use Rattle.water_model.specs.Basin.{is_outlet}
 use Rattle.water_model.specs.History.{cut_of}
-use Rattle.water_model.specs.Hydrology.{run_month}
-use Rattle.water_model.specs.Lookups.{of_entry}
-use Rattle.water_model.specs.Places.{numbers_from, places_of, members_from, seniors_first, return_nodes, outlets, rights_with_volume}
+use Rattle.water_model.specs.Places.{places_of, members_from, seniors_first, return_nodes, outlets, rights_with_volume}
 use Rattle.water_model.specs.Text.{calls, calling_right, call_items, called_items, month_sections, items_of_month, items_of}
 use Rattle.water_model.specs.Valid.{IsValidBasin}
 use Rattle.water_model.specs.declared.item.Item.{Item}

@@ -1,11 +1,10 @@
 -- What is spelled is read.
-use Rattle.std.proofs.Common.{◌≡◌, ℕ, zero, suc, ◌+◌, ◌/◌, ◌%◌, ◌^◌, ◌<◌, ◌≤◌, Bool, true, false, refl, sym, ap, ◌∙◌, arith, List, [], ◌∷◌, ◌++◌, length, length-append, cond}
-use Rattle.std.specs.Prelude.{Some, None, Ok, Err, not, ◌&&◌, ◌||◌, ◌==◌, nat_le, nat_lt, codes, if◌then◌else◌}
-use Rattle.std.specs.Char.{is_ascii_alphanumeric}
+use Rattle.std.proofs.Common.{◌≡◌, ℕ, ◌+◌, ◌/◌, ◌%◌, ◌^◌, ◌<◌, ◌≤◌, Bool, true, false, refl, sym, ap, ◌∙◌, arith, List, [], ◌∷◌, ◌++◌, length, length-append, cond}
+use Rattle.std.specs.Prelude.{Some, Ok, not, ◌&&◌, ◌==◌, nat_le, nat_lt, codes}
 use Rattle.std.specs.Fmt.{decimal}
 use Rattle.std.specs.List.{list_all, join_with_byte, slice_split, onto_first}
 use Rattle.std.proofs.lemmas.Bool.Decides.{nat_tests}
-use Rattle.std.proofs.lemmas.Fmt.{decimal_by_steps, length-decimal-le}
+use Rattle.std.proofs.lemmas.Fmt.{decimal_by_steps}
 use Rattle.std.proofs.lemmas.List.Folds.{list_all-append}
 use Rattle.water_text.proofs.AmountLaws.{read_plain-decimal, decimal_short}
 use Rattle.water_text.proofs.MonthLaws.{read_month-month_digits, length-month_digits}
@@ -18,11 +17,10 @@ use Rattle.water_model.specs.Valid.{IsValidBasin}
 use Rattle.water_model.specs.declared.item.Item.{Item}
 use Rattle.water_model.specs.declared.item.Item.TheVariants as line
 use Rattle.water_model.specs.declared.types.Basin.{Basin}
-use Rattle.result_reader.specs.Names.{count_in, name_in, named}
+use Rattle.result_reader.specs.Names.{count_in, name_in}
 use Rattle.result_reader.specs.OfText.{IsOfText}
-use Rattle.result_reader.specs.Reading.{pieces_of, amount_field, count_field, month_field, item_with, item_in, item_of}
+use Rattle.result_reader.specs.Reading.{pieces_of, count_field, item_with, item_in, item_of}
 use Rattle.result_reader.specs.Words.{word_of}
-use Rattle.result_reader.specs.declared.bad_line.BadLine.TheVariants as bad
 use Rattle.result_reader.specs.declared.names.Space.{Space}
 use Rattle.result_reader.specs.declared.names.Space.TheVariants as space
 use Rattle.result_reader.proofs.NameLaws.{name_is, named-at}

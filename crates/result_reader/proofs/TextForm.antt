@@ -180,11 +180,25 @@ months_fill b series records before (m ∷ ms) are is =
 pub text_fills : (b : Basin) (series : Inflows) (records : List MonthRecord) → AreTextMonths b series records → length records ≡ b.months → Fills b (due b) (items_of b records)
 unfolding due
 text_fills b series records are all =
-    inr (line.Title, [], _, fits_itself b line.Title refl, refl, refl,
-    inr (line.Run b.first b.months, [], _, fits_itself b (line.Run b.first b.months) refl, refl, refl,
-    fills_both b (flat_map (due_for_month b) (numbers_from 0 b.months)) (shape.Done b.months ∷ []) (flat_map (items_of_month b) records) (line.Done b.months ∷ [])
-    (subst (λ (k : ℕ). Fills b (flat_map (due_for_month b) (numbers_from 0 k)) (flat_map (items_of_month b) records)) all (months_fill b series records [] records are refl))
-    (inr (line.Done b.months, [], [], fits_itself b (line.Done b.months) refl, refl, refl, refl))))
+    inr (
+      line.Title,
+      [],
+      _,
+      fits_itself b line.Title refl,
+      refl,
+      refl,
+      inr (
+        line.Run b.first b.months,
+        [],
+        _,
+        fits_itself b (line.Run b.first b.months) refl,
+        refl,
+        refl,
+        fills_both b (flat_map (due_for_month b) (numbers_from 0 b.months)) (shape.Done b.months ∷ []) (flat_map (items_of_month b) records) (line.Done b.months ∷ [])
+            (subst (λ (k : ℕ). Fills b (flat_map (due_for_month b) (numbers_from 0 k)) (flat_map (items_of_month b) records)) all (months_fill b series records [] records are refl))
+            (inr (line.Done b.months, [], [], fits_itself b (line.Done b.months) refl, refl, refl, refl)),
+      ),
+    )
 
 -- each line of a text is accepted behind those before it
 pub texts_are_accepted : TextsAreAccepted

@@ -1,5 +1,5 @@
 -- Lines that a text of a basin may have.
-use Rattle.std.specs.Prelude.{ℕ, ◌≤◌, ◌^◌}
+use Rattle.std.specs.Prelude.{◌≤◌, ◌^◌}
 use Rattle.result_text.specs.Range.{IsOfBasin}
 use Rattle.water_model.specs.declared.item.Item.{Item}
 use Rattle.water_model.specs.declared.item.Item.TheVariants as line

@@ -22,12 +22,7 @@ pub struct Progress {
 }
 
 /// The progress behind an `in` line of a node.
-fn next_member(
-    basin: &Basin,
-    dues: &[Shape],
-    progress: Progress,
-    node: u32,
-) -> Option<Progress>
+fn next_member(basin: &Basin, dues: &[Shape], progress: Progress, node: u32) -> Option<Progress>
     requires basin { IsValidBasin basin.now }
     requires dues { dues.now ≡ form.due_in_month basin.now }
     requires progress { IsProgress basin.now dues.now progress }
@@ -47,12 +42,7 @@ fn next_member(
 }
 
 /// The progress behind a line that is no `in` line.
-fn next_other(
-    basin: &Basin,
-    dues: &[Shape],
-    progress: Progress,
-    item: &Item,
-) -> Option<Progress>
+fn next_other(basin: &Basin, dues: &[Shape], progress: Progress, item: &Item) -> Option<Progress>
     requires basin { IsValidBasin basin.now }
     requires dues { dues.now ≡ form.due_in_month basin.now }
     requires progress { IsProgress basin.now dues.now progress }

@@ -1,5 +1,5 @@
 use Rattle.std.proofs.Common.{rules}
-use Rattle.result_reader.proofs.NameLaws.{added, kept}
+use Rattle.result_reader.proofs.NameLaws.{added}
 use Rattle.result_reader.proofs.names.add_place.Goals as goal
 
 pub returns-in_ok-insert : goal.returns-in_ok-insert

@@ -1,4 +1,4 @@
-use Rattle.std.proofs.Common.{◌≡◌, ℕ, List, ap, ◌∙◌, refl, rules, Some, None, if◌then◌else◌}
+use Rattle.std.proofs.Common.{ap, ◌∙◌, Some, None, if◌then◌else◌}
 use Rattle.std.specs.Option.{option_or}
 use Rattle.std.specs.Str.{bytes_eq}
 use Rattle.water_model.specs.Places.{numbers_from}

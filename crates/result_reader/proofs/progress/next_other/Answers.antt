@@ -35,4 +35,4 @@ returns-in_err-place c =
     let b = c.args.basin.now in
     let ds = due_at c.args.basin.now c.args.dues.now c.args.progress.place in
     rw c.from_residual.ensures (ap (λ m. step b m (members_due b c.args.progress.next_member ++ ds) c.args.item.now) c.if-progress.false
-        ∙ (other_step b ds c.args.progress.next_member c.args.item.now c.requires.other ∙ c.in_err-place.ensures))
+    ∙ (other_step b ds c.args.progress.next_member c.args.item.now c.requires.other ∙ c.in_err-place.ensures))

@@ -1,5 +1,4 @@
-use Rattle.std.proofs.Common.{◌≡◌, ◌≤◌, ◌<◌, ◌+◌, ◌*◌, ◌^◌, ℕ, length, arith, ap, ◌∙◌, sym}
-use Rattle.result_reader.specs.Form.{due_in_month}
+use Rattle.std.proofs.Common.{◌≤◌, ◌<◌, ◌+◌, ◌*◌, ◌^◌, length, arith, ap}
 use Rattle.result_reader.proofs.LinesLeft.{few_due, most_of_run, run_fits}
 use Rattle.result_reader.proofs.reader.most_lines.Goals as goal
 
@@ -17,5 +16,8 @@ overflow_add-result c = omega (arith, fits c)
 
 pub returns : goal.returns
 returns c =
-    omega (arith, most_of_run c.args.basin.now (length c.args.dues.now) c.from.result c.len-2.result c.len.result
-    (ap length c.requires.dues) c.from.ensures c.len-2.ensures c.len.ensures)
+    omega (
+      arith,
+      most_of_run c.args.basin.now (length c.args.dues.now) c.from.result c.len-2.result c.len.result
+          (ap length c.requires.dues) c.from.ensures c.len-2.ensures c.len.ensures,
+    )

@@ -1,4 +1,4 @@
-use Rattle.std.proofs.Common.{◌≡◌, ◌+◌, ◌-◌, ◌≤◌, ℕ, arith, sym, ap, ◌∙◌, refl, Some, None}
+use Rattle.std.proofs.Common.{◌≡◌, ◌+◌, ◌-◌, arith, sym, ap, ◌∙◌, Some, None}
 use Rattle.std.specs.Prelude.{Err}
 use Rattle.std.proofs.lemmas.Result.{err_from_is_err_and}
 use Rattle.result_reader.specs.Progress.{IsNextProgress}
@@ -19,8 +19,11 @@ next_progress-requires-clause-item c =
 
 pub overflow_sub-self : goal.overflow_sub-self
 overflow_sub-self c =
-    omega (arith, next_left c.self.inside.names.basin.now c.self.inside.dues.items c.self.inside.progress c.in-Some.progress c.in_ok-item.item c.self.inside.left
-    c.self.invariant.left_is (next_along c.self.inside.names.basin.now _ c.self.inside.dues.items c.self.inside.progress c.in_ok-item.item (Some c.in-Some.progress) c.deref.ensures.value c.in-Some.ensures))
+    omega (
+      arith,
+      next_left c.self.inside.names.basin.now c.self.inside.dues.items c.self.inside.progress c.in-Some.progress c.in_ok-item.item c.self.inside.left
+          c.self.invariant.left_is (next_along c.self.inside.names.basin.now _ c.self.inside.dues.items c.self.inside.progress c.in_ok-item.item (Some c.in-Some.progress) c.deref.ensures.value c.in-Some.ensures),
+    )
 
 pub invariant_of-self : goal.invariant_of-self
 invariant_of-self c =
@@ -30,8 +33,11 @@ invariant_of-self c =
       valid = c.self.invariant.valid;
       dues_are = c.self.invariant.dues_are;
       progress = next.2;
-      left_is = omega (arith, next_left c.self.inside.names.basin.now c.self.inside.dues.items c.self.inside.progress c.in-Some.progress c.in_ok-item.item c.self.inside.left
-          c.self.invariant.left_is next);
+      left_is = omega (
+        arith,
+        next_left c.self.inside.names.basin.now c.self.inside.dues.items c.self.inside.progress c.in-Some.progress c.in_ok-item.item c.self.inside.left
+            c.self.invariant.left_is next,
+      );
     }
 
 pub returns-in-Some-clause-answer : goal.returns-in-Some-clause-answer

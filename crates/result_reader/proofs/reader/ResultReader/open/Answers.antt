@@ -1,6 +1,4 @@
-use Rattle.std.proofs.Common.{◌≡◌, ◌≤◌, ◌++◌, arith, ap, sym, subst, ◌∙◌, refl, List, Some}
-use Rattle.result_reader.specs.Form.{due}
-use Rattle.result_reader.specs.Standing.{most_lines}
+use Rattle.std.proofs.Common.{ap, Some}
 use Rattle.result_reader.proofs.StandingLaws.{all_due_first, reader_first}
 use Rattle.result_reader.proofs.reader.ResultReader.open.Goals as goal
 
