@@ -19,3 +19,4 @@ pub mod OfTexts
 pub mod OneReading
 mod Examples
 pub mod TextForm
+pub mod Histories

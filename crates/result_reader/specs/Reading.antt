@@ -1,5 +1,6 @@
 -- What a line says.
 use Rattle.std.specs.Prelude.{ℕ, ◌^◌, List, [], ◌∷◌, ◌++◌, length, codes, Option, Some, None, Result, Ok, Err, is_some, nat_le, nat_lt, ◌==◌, if◌then◌else◌}
+use Rattle.std.specs.Borrow.{Bor}
 use Rattle.std.specs.List.{slice_split}
 use Rattle.std.specs.Option.{ok_or}
 use Rattle.std.specs.Str.{bytes_eq}
@@ -24,9 +25,10 @@ use Rattle.result_reader.specs.declared.words.Word.TheVariants as word
 abbrev pub pieces_of : List ℕ → List (List ℕ)
 pieces_of bytes = slice_split (λ byte. byte == 32) bytes
 
-abbrev pub pieces_behind : Option (List ℕ) → List (List ℕ)
+-- and in what is behind a space, if there is one
+abbrev pub pieces_behind : Option (Bor (List ℕ)) → List (List ℕ)
 pieces_behind None = []
-pieces_behind (Some bytes) = pieces_of bytes
+pieces_behind (Some rest) = pieces_of rest.now
 
 -- what f makes of a good answer
 abbrev pub and_then : {X Y : Type 0} → Result X BadLine → (X → Result Y BadLine) → Result Y BadLine

@@ -1,5 +1,5 @@
 //! What a line says.
-ghost use Rattle.std.specs.Prelude.{◌≡◌, option_map};
+ghost use Rattle.std.specs.Prelude.{◌≡◌};
 ghost use Rattle.result_reader.specs.Reading as reading;
 ghost use Rattle.result_reader.specs.declared.words.Word.TheVariants as word;
 
@@ -21,7 +21,7 @@ fn entry_named(names: &Names, space: Space, name: &[u8]) -> Result<u32, BadLine>
 
 #[tactic(auto, unfolding(crate::specs::Reading::item_with))]
 fn title(names: &Names, rest: Option<&[u8]>) -> Result<Item, BadLine>
-    ensures { result ≡ reading.item_with names.now.basin.now word.Title (reading.pieces_behind (option_map (λ text. text.now) rest.entry)) }
+    ensures { result ≡ reading.item_with names.now.basin.now word.Title (reading.pieces_behind rest.entry) }
 {
     if one_field(rest)? == b"1".as_slice() {
         Ok(Item::Title)
@@ -32,7 +32,7 @@ fn title(names: &Names, rest: Option<&[u8]>) -> Result<Item, BadLine>
 
 #[tactic(auto, unfolding(crate::specs::Reading::item_with))]
 fn run(names: &Names, rest: Option<&[u8]>) -> Result<Item, BadLine>
-    ensures { result ≡ reading.item_with names.now.basin.now word.Run (reading.pieces_behind (option_map (λ text. text.now) rest.entry)) }
+    ensures { result ≡ reading.item_with names.now.basin.now word.Run (reading.pieces_behind rest.entry) }
 {
     let (first, months) = two_fields(rest)?;
     let first = month_field(first)?;
@@ -42,7 +42,7 @@ fn run(names: &Names, rest: Option<&[u8]>) -> Result<Item, BadLine>
 
 #[tactic(auto, unfolding(crate::specs::Reading::item_with))]
 fn month(names: &Names, rest: Option<&[u8]>) -> Result<Item, BadLine>
-    ensures { result ≡ reading.item_with names.now.basin.now word.Month (reading.pieces_behind (option_map (λ text. text.now) rest.entry)) }
+    ensures { result ≡ reading.item_with names.now.basin.now word.Month (reading.pieces_behind rest.entry) }
 {
     let month = month_field(one_field(rest)?)?;
     Ok(Item::Month { month })
@@ -50,7 +50,7 @@ fn month(names: &Names, rest: Option<&[u8]>) -> Result<Item, BadLine>
 
 #[tactic(auto, unfolding(crate::specs::Reading::item_with))]
 fn amount(names: &Names, kind: Amount, rest: Option<&[u8]>) -> Result<Item, BadLine>
-    ensures { result ≡ reading.item_with names.now.basin.now (word.Amount kind) (reading.pieces_behind (option_map (λ text. text.now) rest.entry)) }
+    ensures { result ≡ reading.item_with names.now.basin.now (word.Amount kind) (reading.pieces_behind rest.entry) }
 {
     let (name, amount) = two_fields(rest)?;
     let name = name_field(name)?;
@@ -61,7 +61,7 @@ fn amount(names: &Names, kind: Amount, rest: Option<&[u8]>) -> Result<Item, BadL
 
 #[tactic(auto, unfolding(crate::specs::Reading::item_with))]
 fn delivery(names: &Names, rest: Option<&[u8]>) -> Result<Item, BadLine>
-    ensures { result ≡ reading.item_with names.now.basin.now word.Deliver (reading.pieces_behind (option_map (λ text. text.now) rest.entry)) }
+    ensures { result ≡ reading.item_with names.now.basin.now word.Deliver (reading.pieces_behind rest.entry) }
 {
     let (name, amount, want) = three_fields(rest)?;
     let name = name_field(name)?;
@@ -77,7 +77,7 @@ fn delivery(names: &Names, rest: Option<&[u8]>) -> Result<Item, BadLine>
 
 #[tactic(auto, unfolding(crate::specs::Reading::item_with))]
 fn call(names: &Names, rest: Option<&[u8]>) -> Result<Item, BadLine>
-    ensures { result ≡ reading.item_with names.now.basin.now word.Call (reading.pieces_behind (option_map (λ text. text.now) rest.entry)) }
+    ensures { result ≡ reading.item_with names.now.basin.now word.Call (reading.pieces_behind rest.entry) }
 {
     let name = name_field(one_field(rest)?)?;
     let right = entry_named(names, Space::Rights, name)?;
@@ -86,7 +86,7 @@ fn call(names: &Names, rest: Option<&[u8]>) -> Result<Item, BadLine>
 
 #[tactic(auto, unfolding(crate::specs::Reading::item_with))]
 fn member(names: &Names, rest: Option<&[u8]>) -> Result<Item, BadLine>
-    ensures { result ≡ reading.item_with names.now.basin.now word.Member (reading.pieces_behind (option_map (λ text. text.now) rest.entry)) }
+    ensures { result ≡ reading.item_with names.now.basin.now word.Member (reading.pieces_behind rest.entry) }
 {
     let name = name_field(one_field(rest)?)?;
     let node = entry_named(names, Space::Nodes, name)?;
@@ -95,7 +95,7 @@ fn member(names: &Names, rest: Option<&[u8]>) -> Result<Item, BadLine>
 
 #[tactic(auto, unfolding(crate::specs::Reading::item_with))]
 fn called(names: &Names, rest: Option<&[u8]>) -> Result<Item, BadLine>
-    ensures { result ≡ reading.item_with names.now.basin.now word.Called (reading.pieces_behind (option_map (λ text. text.now) rest.entry)) }
+    ensures { result ≡ reading.item_with names.now.basin.now word.Called (reading.pieces_behind rest.entry) }
 {
     let (name, other) = two_fields(rest)?;
     let name = name_field(name)?;
@@ -107,7 +107,7 @@ fn called(names: &Names, rest: Option<&[u8]>) -> Result<Item, BadLine>
 
 #[tactic(auto, unfolding(crate::specs::Reading::item_with))]
 fn done(names: &Names, rest: Option<&[u8]>) -> Result<Item, BadLine>
-    ensures { result ≡ reading.item_with names.now.basin.now word.Done (reading.pieces_behind (option_map (λ text. text.now) rest.entry)) }
+    ensures { result ≡ reading.item_with names.now.basin.now word.Done (reading.pieces_behind rest.entry) }
 {
     let months = count_field(one_field(rest)?)?;
     Ok(Item::Done { months })
@@ -115,7 +115,7 @@ fn done(names: &Names, rest: Option<&[u8]>) -> Result<Item, BadLine>
 
 #[tactic(auto, unfolding(crate::specs::Reading::item_with))]
 fn end(names: &Names, rest: Option<&[u8]>) -> Result<Item, BadLine>
-    ensures { result ≡ reading.item_with names.now.basin.now word.End (reading.pieces_behind (option_map (λ text. text.now) rest.entry)) }
+    ensures { result ≡ reading.item_with names.now.basin.now word.End (reading.pieces_behind rest.entry) }
 {
     no_field(rest)?;
     Ok(Item::End)
@@ -123,7 +123,7 @@ fn end(names: &Names, rest: Option<&[u8]>) -> Result<Item, BadLine>
 
 /// What a line of this word says, with the fields behind it.
 fn item_with(names: &Names, word: Word, rest: Option<&[u8]>) -> Result<Item, BadLine>
-    ensures { result ≡ reading.item_with names.now.basin.now word (reading.pieces_behind (option_map (λ text. text.now) rest.entry)) }
+    ensures { result ≡ reading.item_with names.now.basin.now word (reading.pieces_behind rest.entry) }
 {
     match word {
         Word::Title => title(names, rest),
