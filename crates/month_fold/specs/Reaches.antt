@@ -1,0 +1,16 @@
+-- Months whose sets are the reaches of short rights.
+use Rattle.std.specs.Prelude.{◌≡◌, ℕ, ◌<◌, ◌≤◌, Bool, List, length, slice_index, slice_get, Some, None}
+use Rattle.water_model.specs.Cuts.{IsReach}
+use Rattle.water_model.specs.History.{IsShort, cut_of}
+use Rattle.water_model.specs.declared.types.Basin.{Basin}
+use Rattle.water_model.specs.declared.types.MonthRecord.{MonthRecord}
+
+-- the set of each short right is its reach, and no other right has a set
+pub record HasReaches (b : Basin) (m : MonthRecord) : Type 0 where
+  pub short : (r : ℕ) → r < length b.rights → IsShort m r →
+      (cut : List Bool) × (cut_of m r ≡ Some cut) × IsReach b m.month m.supply m.delivered r cut
+  pub met : (r : ℕ) → r < length b.rights → slice_index m.want r ≤ slice_index m.delivered r → cut_of m r ≡ None
+
+-- each record of a list has the reaches of its month
+abbrev pub HaveReaches : Basin → List MonthRecord → Type 0
+HaveReaches b records = (i : ℕ) (m : MonthRecord) → slice_get records i ≡ Some m → HasReaches b m

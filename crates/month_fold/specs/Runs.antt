@@ -1,0 +1,37 @@
+-- Runs, and the months that they went through.
+use Rattle.std.specs.Prelude.{◌≡◌, ℕ, List, map, length}
+use Rattle.lag_returns.specs.Lags.{OnTheWay}
+use Rattle.lag_returns.specs.Lags as lag
+use Rattle.water_model.specs.History.{IsPartialHistory, Follows, opening_after}
+use Rattle.month_fold.specs.Reaches.{HaveReaches, HasReaches}
+use Rattle.water_model.specs.declared.types.Basin.{Basin}
+use Rattle.water_model.specs.declared.types.Inflows.{Inflows}
+use Rattle.water_model.specs.declared.types.MonthRecord.{MonthRecord}
+
+-- a run of a basin and a series: how many months are done, the record of the last one, and what is on its way back to
+-- the river. Before the first month the last record has nothing but the closing storage, which is the basin's opening
+pub record RunSeen : Type 0 where
+  pub basin : Basin
+  pub series : Inflows
+  pub done : ℕ
+  pub last : MonthRecord
+  pub lags : List OnTheWay
+
+-- the run went through these months: they are a partial history, with the reaches as the sets of short rights, after
+-- which the next month opens with what is stored and on its way
+pub record StandsFor (run : RunSeen) (records : List MonthRecord) : Type 0 where
+  pub partial : IsPartialHistory run.basin run.series records
+  pub reaches : HaveReaches run.basin records
+  pub done : run.done ≡ length records
+  pub stored : run.last.closing ≡ opening_after run.basin records
+  pub lags : lag.StandsFor run.lags run.basin.returns (map (λ m. m.delivered) records)
+
+-- the run went through some months
+pub record HasMonths (run : RunSeen) : Type 0 where
+  pub records : List MonthRecord
+  pub stands : StandsFor run records
+
+-- the record follows these, and its sets are the reaches of its short rights
+pub record IsNext (b : Basin) (series : Inflows) (records : List MonthRecord) (m : MonthRecord) : Type 0 where
+  pub follows : Follows b series records m
+  pub reaches : HasReaches b m

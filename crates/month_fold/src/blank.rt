@@ -1,0 +1,58 @@
+//! The record that a run begins with.
+ghost use Rattle.std.specs.Prelude.{ℕ, ◌≡◌, ◌<◌, None, length, map, replicate, IfOk};
+ghost use Rattle.water_model.specs.Valid.{IsValidBasin};
+ghost use Rattle.month_terms.specs.Terms.{FitsRecord};
+
+use std::alloc::{AllocError, Global};
+use water_model::cut_list::CutList;
+use water_model::rows::Rows;
+use water_model::types::{Basin, MonthRecord, Plan};
+
+/// So many zeros.
+fn zeros(alloc: Global, count: usize) -> Result<Rows<u64>, AllocError>
+    ensures { IfOk result (λ rows. rows ≡ replicate count 0) }
+{
+    Ok(Rows::from_vec(vec![in alloc; 0; count]?))
+}
+
+/// What each reservoir holds when the run begins.
+fn openings(alloc: Global, basin: &Basin) -> Result<Rows<u64>, AllocError>
+    ensures { IfOk result (λ rows. rows ≡ map (λ v. v.opening) basin.now.reservoirs) }
+{
+    let mut openings = Vec::with_capacity(alloc, basin.reservoirs.len())?;
+    for reservoir in basin.reservoirs.as_slice() {
+        openings.push(reservoir.opening)?;
+    }
+    Ok(Rows::from_vec(openings))
+}
+
+/// A record with room for a month, which has nothing but the storage with which the first month opens.
+pub fn blank_month(alloc: Global, basin: &Basin) -> Result<MonthRecord, AllocError>
+    requires basin { IsValidBasin basin.now }
+    ensures fits { IfOk result (λ m. FitsRecord basin.now m) }
+    ensures used { IfOk result (λ m. m.used ≡ replicate (length basin.now.rights) 0) }
+    ensures closing { IfOk result (λ m. m.closing ≡ map (λ v. v.opening) basin.now.reservoirs) }
+{
+    let nodes = basin.nodes.len();
+    let rights = basin.rights.len();
+    let reservoirs = basin.reservoirs.len();
+    let plan = Plan {
+        flow: zeros(alloc, basin.links.len())?,
+        take: zeros(alloc, rights)?,
+        out: zeros(alloc, nodes)?,
+    };
+    Ok(MonthRecord {
+        index: 0,
+        month: basin.first,
+        opening: zeros(alloc, reservoirs)?,
+        evaporated: zeros(alloc, reservoirs)?,
+        returned: zeros(alloc, nodes)?,
+        used: zeros(alloc, rights)?,
+        supply: zeros(alloc, nodes)?,
+        want: zeros(alloc, rights)?,
+        plan,
+        delivered: zeros(alloc, rights)?,
+        cuts: CutList::open(alloc, rights as u32, nodes as u32)?,
+        closing: openings(alloc, basin)?,
+    })
+}

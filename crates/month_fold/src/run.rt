@@ -1,0 +1,113 @@
+//! A run of a basin, month by month.
+ghost use Rattle.std.specs.Prelude.{ℕ, List, ◌≡◌, ◌+◌, ◌-◌, ◌*◌, ◌<◌, ◌≤◌, ◌++◌, ◌∷◌, [], length, map, IfOk, OnOk, OnErr};
+ghost use Rattle.senior_hold.specs.MonthNetwork.{arc_count};
+ghost use Rattle.water_model.specs.Valid.{IsValidBasin, IsSeriesOf};
+ghost use Rattle.water_model.specs.declared.types.MonthRecord.{MonthRecord};
+ghost use Rattle.month_fold.specs.Runs.{StandsFor};
+
+use crate::blank::blank_month;
+use crate::next::next_month;
+use lag_returns::Lags;
+use month_terms::evaporation::tables_of;
+use reservoirs::AreaTable;
+use senior_hold::Solver;
+use std::alloc::{AllocError, Global};
+use std::marker::Model;
+use std::sync::ledger::Ledger;
+use steps::Steps;
+use water_model::types::{Basin, Inflows, MonthRecord};
+
+/// A run of a basin with a series of inflows.
+///
+/// It keeps the record of the last month and what is on its way, and no record before. It stands for all months that it
+/// went through: contracts say what holds for each list of records that it stands for.
+#[derive(Drop)]
+pub struct Run<'b> {
+    basin: &'b Basin,
+    series: &'b Inflows,
+    solver: Solver<'b>,
+    tables: Vec<AreaTable>,
+    lags: Lags,
+    month: MonthRecord,
+    done: u32,
+}
+
+impl<'b> Model for Run<'b> {
+    ghost use Rattle.month_fold.specs.Runs.{RunSeen};
+
+    ghost Value = { RunSeen };
+
+    ghost use Rattle.month_fold.specs.RunInside.{seen_of, IsReady};
+
+    ghost view = { seen_of };
+
+    ghost invariant = { IsReady };
+}
+
+impl<'b> Run<'b> {
+    /// A run before its first month. AllocError comes where memory is lacking.
+    pub fn open(alloc: Global, basin: &'b Basin, series: &'b Inflows) -> Result<Run<'b>, AllocError>
+        requires basin { IsValidBasin basin.now }
+        requires series { IsSeriesOf basin.now series.now }
+        ensures basin { IfOk result (λ run. run.basin ≡ basin.now) }
+        ensures series { IfOk result (λ run. run.series ≡ series.now) }
+        ensures stands { IfOk result (λ run. StandsFor run []) }
+    {
+        let solver = Solver::open(alloc, basin)?;
+        let tables = tables_of(alloc, basin)?;
+        let lags = Lags::open(alloc, basin.returns.as_slice())?;
+        let month = blank_month(alloc, basin)?;
+        Ok(Run {
+            basin,
+            series,
+            solver,
+            tables,
+            lags,
+            month,
+            done: 0,
+        })
+    }
+
+    /// How many months are left: at first all of the run.
+    pub fn left(&self) -> u32
+        ensures { result ≡ self.now.basin.months - self.now.done }
+    {
+        self.basin.months - self.done
+    }
+
+    /// The record of the month that was solved last. Before the first it says nothing but the storage with which the
+    /// run opens, as its closing.
+    pub fn month(&self) -> &MonthRecord
+        ensures { result.now ≡ self.now.last }
+    {
+        &self.month
+    }
+
+    /// Solves the next month, whose record `month` then gives: it follows the records before it, and the set of each
+    /// short right is its reach. Each search that finds a walk ticks `searches` once.
+    ///
+    /// AllocError comes where memory for a set is lacking, and at no other place. The run then stands for what it stood
+    /// for, and can go on.
+    pub fn step<L: Ledger>(&mut self, searches: &mut Steps<L>) -> Result<(), AllocError>
+        requires left { self.old.done < self.old.basin.months }
+        ensures basin { self.new.basin ≡ self.old.basin }
+        ensures series { self.new.series ≡ self.old.series }
+        ensures month { OnOk result ((records : List MonthRecord) → StandsFor self.old records → StandsFor self.new (records ++ self.new.last ∷ [])) }
+        ensures stays { OnErr result ((records : List MonthRecord) → StandsFor self.old records → StandsFor self.new records) }
+        ensures pushes { searches.new ≤ searches.old + length self.old.basin.rights * (30 * (2 * arc_count self.old.basin + 2)) }
+    {
+        next_month(
+            self.basin,
+            self.series,
+            &self.tables,
+            &self.lags,
+            &mut self.solver,
+            self.done,
+            &mut self.month,
+            searches,
+        )?;
+        self.lags.month_done(self.month.delivered.as_slice());
+        self.done += 1;
+        Ok(())
+    }
+}

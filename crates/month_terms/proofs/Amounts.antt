@@ -1,0 +1,135 @@
+-- How large the amounts of a partial history's months can be.
+use Rattle.std.proofs.Common.{◌≡◌, ℕ, ◌+◌, ◌-◌, ◌*◌, ◌^◌, ◌<◌, ◌≤◌, false, refl, sym, ◌∙◌, ap, arith, List, length, map, take, inl, inr}
+use Rattle.std.specs.Prelude.{slice_index, slice_get, Option, Some, None, unwrap_or, option_map, min}
+use Rattle.std.proofs.lemmas.Bool.{cases_lt}
+use Rattle.std.proofs.lemmas.List.{get_or_past}
+use Rattle.std.proofs.lemmas.Option.{slice_get-map, get_or_from_slice_get}
+use Rattle.place_sums.specs.Sums.{total}
+use Rattle.place_sums.proofs.Totals.{total_add}
+use Rattle.water_text.specs.declared.month.Month.{Month}
+use Rattle.water_model.specs.Lookups.{of_entry}
+use Rattle.water_model.specs.Basin.{instream_link}
+use Rattle.water_model.specs.Plans.{carry_of, delivery_by_link}
+use Rattle.water_model.specs.Hydrology.{run_month, inflow_at, returned_at, stored_at, want_in_month, want_of, used_of, want_by_volume, used_by_volume, cap_by_link, target_of, number_of, delivered_in, used_in_year}
+use Rattle.water_model.specs.History.{IsPartialHistory, Follows, opening_after}
+use Rattle.water_model.specs.Valid.{IsValidBasin, IsValidRight, IsValidReservoir, IsSeriesOf}
+use Rattle.water_model.specs.declared.types.Basin.{Basin}
+use Rattle.water_model.specs.declared.types.Inflows.{Inflows}
+use Rattle.water_model.specs.declared.types.MonthRecord.{MonthRecord}
+use Rattle.water_model.specs.declared.types.Right.{Right}
+use Rattle.water_model.proofs.Balance.{entry_holds}
+use Rattle.month_terms.proofs.Bounds.{entry_most, inflows_small, returns_small, first_stored, later_stored}
+
+-- in a basin without volumes and series, nothing is used and the want is the number of the calendar month
+pub nothing_used : (b : Basin) (deliveries : List (List ℕ)) (r i : ℕ) → IsValidBasin b → r < length b.rights → used_of b deliveries r i ≡ 0
+nothing_used b deliveries r i valid l =
+    let entry = entry_holds (λ x. IsValidRight b x) b.rights r valid.rights l in
+    let at : used_of b deliveries r i ≡ used_by_volume entry.0.volume (used_in_year b deliveries r i) =
+    ap (λ o. unwrap_or (option_map (λ x. used_by_volume x.volume (used_in_year b deliveries r i)) o) 0) entry.1 in
+    at ∙ ap (λ v. used_by_volume v (used_in_year b deliveries r i)) entry.2.no_volume
+
+pub want_is : (b : Basin) (series : Inflows) (r i used : ℕ) → IsValidBasin b → r < length b.rights →
+    want_of b series r i used ≡ want_in_month b (run_month b i) r
+want_is b series r i used valid l =
+    let entry = entry_holds (λ x. IsValidRight b x) b.rights r valid.rights l in
+    let volume : of_entry b.rights r (λ x. x.volume) None ≡ None = ap (λ o. unwrap_or (option_map (λ x. x.volume) o) None) entry.1 ∙ entry.2.no_volume in
+    let number : of_entry b.rights r (λ x. number_of b series r i x) 0 ≡ of_entry b.rights r (λ x. slice_index x.want ((run_month b i).month - 1)) 0 =
+    ap (λ o. unwrap_or (option_map (λ x. number_of b series r i x) o) 0) entry.1
+    ∙ (plain entry.0 entry.2.no_series ∙ sym (ap (λ o. unwrap_or (option_map (λ x. slice_index x.want ((run_month b i).month - 1)) o) 0) entry.1)) in
+    ap (λ v. want_by_volume v (target_of b series r i) used) volume
+    ∙ ap (λ n. cap_by_link b (run_month b i) (instream_link b r) n) number
+  where
+    plain : (x : Right) → x.series ≡ false → number_of b series r i x ≡ slice_index x.want ((run_month b i).month - 1)
+    plain x e = rw e refl
+
+-- wants are small, and an instream right wants no more than its link carries
+cap_most : (b : Basin) (month : Month) (o : Option ℕ) (n : ℕ) → cap_by_link b month o n ≤ n
+cap_most b month None n = omega arith
+cap_most b month (Some link) n = omega arith
+
+pub want_most : (b : Basin) (month : Month) (r : ℕ) → IsValidBasin b → r < length b.rights → want_in_month b month r ≤ 10 ^ 9
+want_most b month r valid l =
+    let entry = entry_holds (λ x. IsValidRight b x) b.rights r valid.rights l in
+    let at : of_entry b.rights r (λ x. slice_index x.want (month.month - 1)) 0 ≡ slice_index entry.0.want (month.month - 1) =
+    ap (λ o. unwrap_or (option_map (λ x. slice_index x.want (month.month - 1)) o) 0) entry.1 in
+    let most = entry_most entry.0.want (10 ^ 9) (month.month - 1) entry.2.want.each in
+    omega (arith, cap_most b month (instream_link b r) (of_entry b.rights r (λ x. slice_index x.want (month.month - 1)) 0))
+
+pub want_carried : (b : Basin) (month : Month) (r link : ℕ) → instream_link b r ≡ Some link → want_in_month b month r ≤ carry_of b month link
+want_carried b month r link e =
+    let n : ℕ = of_entry b.rights r (λ x. slice_index x.want (month.month - 1)) 0 in
+    let at : want_in_month b month r ≡ min n (carry_of b month link) = ap (λ o. cap_by_link b month o n) e in
+    omega arith
+
+-- what a record delivers is small, and so is what it takes
+pub record IsSmall (b : Basin) (m : MonthRecord) : Type 0 where
+  pub takes : (r : ℕ) → r < length b.rights → slice_index m.plan.take r ≤ 10 ^ 9
+  pub delivered : (r : ℕ) → slice_index m.delivered r ≤ 10 ^ 9
+
+pub follows_small : (b : Basin) (series : Inflows) (before : List MonthRecord) (m : MonthRecord) → IsValidBasin b → Follows b series before m → IsSmall b m
+follows_small b series before m valid follows = record { takes = takes; delivered = delivered }
+  where
+    wanted : (r : ℕ) → r < length b.rights → slice_index m.want r ≤ 10 ^ 9
+    wanted r l = rw (follows.want r l ∙ want_is b series r m.index (slice_index m.used r) valid l) (want_most b (run_month b m.index) r valid l)
+
+    takes : (r : ℕ) → r < length b.rights → slice_index m.plan.take r ≤ 10 ^ 9
+    takes r l = omega (arith, follows.plan.wants r l, wanted r l)
+
+    by_link : (o : Option ℕ) (r w : ℕ) → w ≤ 10 ^ 9 → slice_index m.plan.take r ≤ 10 ^ 9 → delivery_by_link o w m.plan r ≤ 10 ^ 9
+    by_link None r w h k = k
+    by_link (Some link) r w h k = omega arith
+
+    delivered : (r : ℕ) → slice_index m.delivered r ≤ 10 ^ 9
+    delivered r = elim (cases_lt r (length b.rights)) [
+      | inl within ↦ rw (follows.delivered r within) (by_link (instream_link b r) r (slice_index m.want r) (wanted r within) (takes r within))
+      | inr past ↦ rw (get_or_past m.delivered r 0 (omega (arith, follows.fits.delivered))) (omega arith)
+    ]
+
+pub deliveries_small : (b : Basin) (series : Inflows) (records : List MonthRecord) → IsValidBasin b → IsPartialHistory b series records →
+    (r j : ℕ) → delivered_in (map (λ m. m.delivered) records) r j ≤ 10 ^ 9
+deliveries_small b series records valid partial r j =
+    rw (slice_get-map (λ m. m.delivered) records j) (of_month (slice_get records j) refl)
+  where
+    of_month : (o : Option MonthRecord) → slice_get records j ≡ o →
+        unwrap_or (option_map (λ (delivered : List ℕ). slice_index delivered r) (option_map (λ m. m.delivered) o)) 0 ≤ 10 ^ 9
+    of_month None e = omega arith
+    of_month (Some m) e = (follows_small b series (take j records) m valid (partial.each j m e)).delivered r
+
+-- what the reservoirs hold when a month opens
+pub stored_small : (b : Basin) (series : Inflows) (records : List MonthRecord) (evaporated : List ℕ) → IsValidBasin b → IsPartialHistory b series records →
+    total (length b.nodes) (λ n. stored_at b (opening_after b records) evaporated n) ≤ 32 * 10 ^ 12
+stored_small b series records evaporated valid partial = by_last (slice_get records (length records - 1)) refl
+  where
+    opens : Option MonthRecord → List ℕ
+    opens o = unwrap_or (option_map (λ m. m.closing) o) (map (λ v. v.opening) b.reservoirs)
+
+    first : (v : ℕ) → v < length b.reservoirs → slice_index (map (λ v. v.opening) b.reservoirs) v ≤ 16 * 10 ^ 9
+    first v l =
+        let entry = entry_holds (λ x. IsValidReservoir b x) b.reservoirs v valid.reservoirs l in
+        let at : slice_get (map (λ v. v.opening) b.reservoirs) v ≡ Some entry.0.opening = slice_get-map (λ v. v.opening) b.reservoirs v ∙ ap (λ o. option_map (λ v. v.opening) o) entry.1 in
+        rw (get_or_from_slice_get (map (λ v. v.opening) b.reservoirs) v entry.0.opening 0 at) (omega (arith, entry.2.opening))
+
+    by_last : (o : Option MonthRecord) → slice_get records (length records - 1) ≡ o →
+        total (length b.nodes) (λ n. stored_at b (opening_after b records) evaporated n) ≤ 32 * 10 ^ 12
+    by_last None e = rw (ap opens e) (first_stored b (map (λ v. v.opening) b.reservoirs) evaporated valid first)
+    by_last (Some m) e =
+        let follows = partial.each (length records - 1) m e in
+        let small = follows_small b series (take (length records - 1) records) m valid follows in
+        let most = later_stored b m.closing evaporated m.plan.take valid follows.closing small.takes in
+        rw (ap opens e) (omega (arith, most))
+
+-- the whole supply of a month
+pub supply_small : (b : Basin) (series : Inflows) (records : List MonthRecord) (evaporated : List ℕ) (i : ℕ) → IsValidBasin b → IsSeriesOf b series →
+    IsPartialHistory b series records →
+    total (length b.nodes) (λ n. inflow_at b series n i + returned_at b (map (λ m. m.delivered) records) n i + stored_at b (opening_after b records) evaporated n) ≤ 36 * 10 ^ 12
+supply_small b series records evaporated i valid fits partial =
+    let parts = total_add (length b.nodes) (λ n. inflow_at b series n i + returned_at b (map (λ m. m.delivered) records) n i) (λ n. stored_at b (opening_after b records) evaporated n) in
+    let more = total_add (length b.nodes) (λ n. inflow_at b series n i) (λ n. returned_at b (map (λ m. m.delivered) records) n i) in
+    omega (
+      arith,
+      parts,
+      more,
+      inflows_small b series i valid fits,
+      returns_small b (map (λ m. m.delivered) records) i valid (deliveries_small b series records valid partial),
+      stored_small b series records evaporated valid partial,
+    )

@@ -1,0 +1,15 @@
+//! An amount added at a place of a list.
+ghost use Rattle.std.specs.Prelude.{ℕ, ◌≡◌, ◌+◌, ◌<◌, ◌^◌, length, slice_index, slice_set};
+ghost use Rattle.place_sums.specs.Sums.{when};
+ghost use Rattle.std.specs.Prelude.{◌==◌};
+
+/// Adds an amount at a place.
+#[tactic(auto, using(crate::proofs::Adds::added))]
+pub fn add_at(list: &mut [u64], place: usize, amount: u64)
+    requires place { place < length list.old }
+    requires small { slice_index list.old place + amount < 2 ^ 64 }
+    ensures length { length list.new ≡ length list.old }
+    ensures each { (k : ℕ) → slice_index list.new k ≡ slice_index list.old k + when (place == k) amount }
+{
+    list[place] += amount;
+}

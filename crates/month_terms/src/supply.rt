@@ -1,0 +1,64 @@
+//! What a month supplies to each node.
+ghost use Rattle.std.specs.Prelude.{ℕ, ◌≡◌, ◌+◌, ◌-◌, ◌<◌, ◌≤◌, ◌^◌, length, slice_index};
+ghost use Rattle.water_text.specs.Months.{IsMonth};
+ghost use Rattle.water_model.specs.Hydrology.{run_month, inflow_at, stored_at};
+ghost use Rattle.water_model.specs.Valid.{IsValidBasin, IsSeriesOf};
+
+use crate::add::add_at;
+use water_model::calls::inflow_of;
+use water_model::types::{Basin, Inflows};
+use water_text::month::Month;
+
+/// The month of the run with this index.
+pub fn month_at(basin: &Basin, index: u32) -> Month
+    requires basin { IsValidBasin basin.now }
+    requires index { index < basin.now.months }
+    ensures month { result ≡ run_month basin.now index }
+    ensures valid { IsMonth result }
+{
+    match basin.first.plus(index) {
+        Some(month) => month,
+        None => unreachable!(),
+    }
+}
+
+/// Writes what flows in and what comes back at each node in the month with this index.
+pub fn read_inflows(
+    basin: &Basin,
+    series: &Inflows,
+    index: u32,
+    returned: &[u64],
+    supply: &mut [u64],
+)
+    requires basin { IsValidBasin basin.now }
+    requires series { IsSeriesOf basin.now series.now }
+    requires index { index < basin.now.months }
+    requires returned { length returned.now ≡ length basin.now.nodes }
+    requires supply { length supply.old ≡ length basin.now.nodes }
+    requires small { (n : ℕ) → n < length basin.now.nodes → inflow_at basin.now series.now n index + slice_index returned.now n < 2 ^ 64 }
+    ensures length { length supply.new ≡ length supply.old }
+    ensures each { (n : ℕ) → n < length basin.now.nodes →
+        slice_index supply.new n ≡ inflow_at basin.now series.now n index + slice_index returned.now n }
+{
+    for node in 0..basin.nodes.len() {
+        supply[node] = inflow_of(basin, series, node as u32, index) + returned[node];
+    }
+}
+
+/// Adds at each node what its reservoir holds after evaporation.
+pub fn add_stored(basin: &Basin, opening: &[u64], evaporated: &[u64], supply: &mut [u64])
+    requires basin { IsValidBasin basin.now }
+    requires opening { length opening.now ≡ length basin.now.reservoirs }
+    requires evaporated { length evaporated.now ≡ length basin.now.reservoirs }
+    requires supply { length supply.old ≡ length basin.now.nodes }
+    requires less { (v : ℕ) → v < length basin.now.reservoirs → slice_index evaporated.now v ≤ slice_index opening.now v }
+    requires small { (n : ℕ) → n < length basin.now.nodes → slice_index supply.old n + stored_at basin.now opening.now evaporated.now n < 2 ^ 64 }
+    ensures length { length supply.new ≡ length supply.old }
+    ensures each { (n : ℕ) → n < length basin.now.nodes →
+        slice_index supply.new n ≡ slice_index supply.old n + stored_at basin.now opening.now evaporated.now n }
+{
+    for reservoir in 0..basin.reservoirs.len() {
+        let node = basin.reservoirs[reservoir].node as usize;
+        add_at(supply, node, opening[reservoir] - evaporated[reservoir]);
+    }
+}

@@ -1,0 +1,55 @@
+//! What the rights want in a month, and what a plan delivers to them.
+ghost use Rattle.std.specs.Prelude.{ℕ, ◌≡◌, ◌<◌, length, slice_index};
+ghost use Rattle.water_text.specs.Months.{IsMonth};
+ghost use Rattle.water_model.specs.Hydrology.{want_in_month};
+ghost use Rattle.water_model.specs.Plans.{delivery};
+ghost use Rattle.water_model.specs.Valid.{IsValidBasin};
+
+use water_model::calls::want_of;
+use water_model::types::{Basin, Plan, RightKind};
+use water_text::month::Month;
+
+/// Writes the want of each right in a month.
+pub fn read_wants(basin: &Basin, month: Month, want: &mut [u64])
+    requires basin { IsValidBasin basin.now }
+    requires month { IsMonth month }
+    requires want { length want.old ≡ length basin.now.rights }
+    ensures length { length want.new ≡ length want.old }
+    ensures each { (r : ℕ) → r < length basin.now.rights → slice_index want.new r ≡ want_in_month basin.now month r }
+{
+    for right in 0..basin.rights.len() {
+        want[right] = want_of(basin, right as u32, month);
+    }
+}
+
+/// What a plan delivers to a right: its take, or of an instream right the flow on its link that is wanted.
+pub fn delivery(basin: &Basin, want: &[u64], plan: &Plan, right: u32) -> u64
+    requires basin { IsValidBasin basin.now }
+    requires right { right < length basin.now.rights }
+    requires want { length want.now ≡ length basin.now.rights }
+    requires flow { length plan.now.flow ≡ length basin.now.links }
+    requires take { length plan.now.take ≡ length basin.now.rights }
+    ensures { result ≡ delivery basin.now want.now plan.now right }
+{
+    let place = right as usize;
+    match basin.rights[place].kind {
+        RightKind::Instream { link } => want[place].min(plan.flow[link as usize]),
+        RightKind::Diversion { .. } => plan.take[place],
+        RightKind::Zone { .. } => plan.take[place],
+    }
+}
+
+/// Writes what a plan delivers to each right.
+pub fn read_deliveries(basin: &Basin, want: &[u64], plan: &Plan, delivered: &mut [u64])
+    requires basin { IsValidBasin basin.now }
+    requires want { length want.now ≡ length basin.now.rights }
+    requires flow { length plan.now.flow ≡ length basin.now.links }
+    requires take { length plan.now.take ≡ length basin.now.rights }
+    requires delivered { length delivered.old ≡ length basin.now.rights }
+    ensures length { length delivered.new ≡ length delivered.old }
+    ensures each { (r : ℕ) → r < length basin.now.rights → slice_index delivered.new r ≡ delivery basin.now want.now plan.now r }
+{
+    for right in 0..basin.rights.len() {
+        delivered[right] = delivery(basin, want, plan, right as u32);
+    }
+}
