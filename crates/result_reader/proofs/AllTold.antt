@@ -1,0 +1,335 @@
+-- A text's lines tell all numbers of its records.
+use Rattle.std.proofs.Common.{◌≡◌, ◌≢◌, ℕ, zero, suc, ◌+◌, ◌<◌, ◌≤◌, Bool, true, false, refl, sym, ap, subst, ◌∙◌, arith, inl, inr, List, [], ◌∷◌, ◌++◌, length, map, replicate, take, append_assoc, zero-add, length-append}
+use Rattle.std.specs.Prelude.{Option, Some, None, option_map, ◌⊎◌, is_some, slice_index, slice_get, slice_set, filter, unwrap_or, ◌==◌, ◌||◌, if◌then◌else◌}
+use Rattle.std.specs.List.{list_any}
+use Rattle.std.proofs.Math.ListN.{length-set}
+use Rattle.std.proofs.lemmas.Bool.{cases_eq, cases_lt, cases_Bool}
+use Rattle.std.proofs.lemmas.Option.{slice_get_past}
+use Rattle.std.proofs.lemmas.List.{length-replicate}
+use Rattle.place_sums.proofs.Totals.{total_zero}
+use Rattle.water_model.proofs.Order.{Has, numbers_from-has, seniors_have, seniors_below}
+use Rattle.water_model.specs.Basin.{taking_node, taking_node_of_kind, instream_link, link_of_kind, is_outlet}
+use Rattle.water_model.specs.History.{cut_of}
+use Rattle.water_model.specs.Hydrology.{returned_at, returned_by, used_of, used_by_volume, used_in_year, inflow_at, stored_at}
+use Rattle.water_model.specs.Lookups.{of_entry}
+use Rattle.water_model.specs.Places.{numbers_from, places_of, seniors_first, return_nodes, outlets, rights_with_volume}
+use Rattle.water_model.specs.Plans.{delivery_by_link}
+use Rattle.water_model.specs.declared.types.Basin.{Basin}
+use Rattle.water_model.specs.declared.types.Inflows.{Inflows}
+use Rattle.water_model.specs.declared.types.MonthRecord.{MonthRecord}
+use Rattle.water_model.specs.declared.types.ReturnRow.{ReturnRow}
+use Rattle.water_model.specs.declared.types.Right.{Right}
+use Rattle.water_model.specs.declared.types.RightKind.{RightKind}
+use Rattle.water_model.specs.declared.types.RightKind.TheVariants as kind
+use Rattle.result_reader.specs.Records.{IsTextMonth, AreTextMonths}
+use Rattle.result_reader.proofs.MonthTold.{put_sets, take_of}
+use Rattle.result_reader.proofs.Telling.{set_all, set_all-whole, Sets, entry_set}
+use Rattle.result_reader.proofs.WholeMonth.{IsAllTold, AreAllTold}
+
+get_there : {X : Type 0} (xs : List X) (k : ℕ) → k < length xs → (x : X) × (slice_get xs k ≡ Some x)
+get_there [] k l = absurd (omega arith)
+get_there (x ∷ xs) zero l = (x, refl)
+get_there (x ∷ xs) (suc k) l = get_there xs k (omega arith)
+
+zeros : (n k : ℕ) → slice_index (replicate n 0) k ≡ 0
+zeros zero k = refl
+zeros (suc n) zero = refl
+zeros (suc n) (suc k) = zeros n k
+
+-- Lists of numbers.
+
+-- a list is told where each of its numbers is told or 0
+told_list : (xs zs : List ℕ) (n : ℕ) → length zs ≡ n → ((k : ℕ) → k < n → Has xs k ⊎ ((Has xs k → ⊥) × (slice_index zs k ≡ 0))) →
+    set_all xs (λ k. slice_index zs k) (replicate n 0) ≡ zs
+told_list xs zs n len each =
+    set_all-whole xs (replicate n 0) zs (length-replicate n 0 ∙ sym len) (λ k l. by_place k (each k (omega arith)))
+  where
+    by_place : (k : ℕ) → Has xs k ⊎ ((Has xs k → ⊥) × (slice_index zs k ≡ 0)) → Has xs k ⊎ ((Has xs k → ⊥) × (slice_index (replicate n 0) k ≡ slice_index zs k))
+    by_place k (inl h) = inl h
+    by_place k (inr (other, none)) = inr (other, zeros n k ∙ sym none)
+
+-- numbers that are equal at the places that are set
+set_all-same : (xs : List ℕ) (a c : ℕ → ℕ) (ys : List ℕ) → ((k : ℕ) → Has xs k → a k ≡ c k) → set_all xs a ys ≡ set_all xs c ys
+set_all-same [] a c ys h = refl
+set_all-same (x ∷ xs) a c ys h =
+    ap (λ n. set_all xs a (slice_set ys x n)) (h x (inl refl)) ∙ set_all-same xs a c (slice_set ys x (c x)) (λ k m. h k (inr m))
+
+pub has-filter : (p : ℕ → Bool) (xs : List ℕ) (k : ℕ) → Has xs k → p k ≡ true → Has (filter p xs) k
+has-filter p [] k h e = absurd h
+has-filter p (x ∷ xs) k h e = by_test (p x) refl h (λ m. has-filter p xs k m e)
+  where
+    by_test : (t : Bool) → p x ≡ t → Has (x ∷ xs) k → (Has xs k → Has (filter p xs) k) → Has (filter p (x ∷ xs)) k
+    by_test true f (inl is) further = rw f (inl is)
+    by_test true f (inr m) further = rw f (inr (further m))
+    by_test false f (inl is) further = let no_pass : false ≡ true = sym f ∙ (ap p (sym is) ∙ e) in cc
+    by_test false f (inr m) further = rw f (further m)
+
+pub filter-has : (p : ℕ → Bool) (xs : List ℕ) (k : ℕ) → Has (filter p xs) k → Has xs k × (p k ≡ true)
+filter-has p [] k h = absurd h
+filter-has p (x ∷ xs) k h = by_test (p x) refl (λ m. filter-has p xs k m)
+  where
+    by_test : (t : Bool) → p x ≡ t → (Has (filter p xs) k → Has xs k × (p k ≡ true)) → Has (x ∷ xs) k × (p k ≡ true)
+    by_test true f further = here (rw f at h)
+      where
+        here : Has (x ∷ filter p xs) k → Has (x ∷ xs) k × (p k ≡ true)
+        here (inl is) = (inl is, ap p is ∙ f)
+        here (inr m) = let r = further m in (inr r.0, r.1)
+    by_test false f further = let r = further (rw f at h) in (inr r.0, r.1)
+
+-- a place that passes a test is told, and one that doesn't has 0
+by_filter : (p : ℕ → Bool) (xs zs : List ℕ) (k : ℕ) → Has xs k → (p k ≡ false → slice_index zs k ≡ 0) →
+    Has (filter p xs) k ⊎ ((Has (filter p xs) k → ⊥) × (slice_index zs k ≡ 0))
+by_filter p xs zs k h none = elim (cases_Bool (p k)) [
+  | inl passes ↦ inl (has-filter p xs k h passes)
+  | inr fails ↦ inr (λ m. (let both : false ≡ true = sym fails ∙ (filter-has p xs k m).1 in cc), none fails)
+]
+
+has_place : {X : Type 0} (xs : List X) (k : ℕ) → k < length xs → Has (places_of xs) k
+has_place xs k l = numbers_from-has 0 (length xs) k k l (omega arith)
+
+map-numbers : (f : ℕ → ℕ) (from n : ℕ) (ys : List ℕ) → length ys ≡ n → ((k : ℕ) → k < n → slice_index ys k ≡ f (from + k)) → map f (numbers_from from n) ≡ ys
+unfolding numbers_from
+map-numbers f from zero [] e h = refl
+map-numbers f from zero (y ∷ ys) e h = absurd (omega arith)
+map-numbers f from (suc n) [] e h = absurd (omega arith)
+map-numbers f from (suc n) (y ∷ ys) e h =
+    pair (f from) y (map f (numbers_from (suc from) n)) ys (ap f (plus from) ∙ sym (h 0 (omega arith)))
+    (map-numbers f (suc from) n ys (omega arith) (λ k l. h (suc k) (omega arith) ∙ ap f (shift from k)))
+  where
+    pair : (x y : ℕ) (xs ys : List ℕ) → x ≡ y → xs ≡ ys → x ∷ xs ≡ y ∷ ys
+    pair x y xs ys e f = rw (e, f) refl
+
+    plus : (from : ℕ) → from ≡ from + 0
+    plus from = omega arith
+
+    shift : (from k : ℕ) → from + suc k ≡ suc from + k
+    shift from k = omega arith
+
+-- Sets.
+
+abbrev set_in : Sets → ℕ → Option (List Bool)
+set_in xs k = of_entry xs k (λ s. s) None
+
+set_other : (xs : Sets) (r k : ℕ) (v : Option (List Bool)) → k ≢ r → set_in (slice_set xs r v) k ≡ set_in xs k
+set_other [] r k v h = refl
+set_other (x ∷ xs) zero zero v h = absurd (h refl)
+set_other (x ∷ xs) zero (suc k) v h = refl
+set_other (x ∷ xs) (suc r) zero v h = refl
+set_other (x ∷ xs) (suc r) (suc k) v h = set_other xs r k v (λ e. h (ap suc e))
+
+-- the sets of one right more
+put_one : (r : ℕ) (o : Option (List Bool)) → Sets → Sets
+put_one r None ys = ys
+put_one r (Some set) ys = slice_set ys r (Some set)
+
+length-put_one : (r : ℕ) (o : Option (List Bool)) (ys : Sets) → length (put_one r o ys) ≡ length ys
+unfolding put_one
+length-put_one r None ys = refl
+length-put_one r (Some set) ys = length-set ys r (Some set)
+
+put_sets-step : (r : ℕ) (rs : List ℕ) (cut : ℕ → Option (List Bool)) (ys : Sets) → put_sets (r ∷ rs) cut ys ≡ put_sets rs cut (put_one r (cut r) ys)
+unfolding put_one
+put_sets-step r rs cut ys = by_set (cut r) refl
+  where
+    by_set : (o : Option (List Bool)) → cut r ≡ o → put_sets (r ∷ rs) cut ys ≡ put_sets rs cut (put_one r (cut r) ys)
+    by_set None e = rw e refl
+    by_set (Some set) e = rw e refl
+
+length-put_sets : (rs : List ℕ) (cut : ℕ → Option (List Bool)) (ys : Sets) → length (put_sets rs cut ys) ≡ length ys
+length-put_sets [] cut ys = refl
+length-put_sets (r ∷ rs) cut ys =
+    ap length (put_sets-step r rs cut ys) ∙ (length-put_sets rs cut (put_one r (cut r) ys) ∙ length-put_one r (cut r) ys)
+
+put_one-keeps : (r k : ℕ) (cut : ℕ → Option (List Bool)) (ys : Sets) → k < length ys → set_in ys k ≡ cut k → set_in (put_one r (cut r) ys) k ≡ cut k
+unfolding put_one
+put_one-keeps r k cut ys l h = by_set (cut r) refl
+  where
+    by_set : (o : Option (List Bool)) → cut r ≡ o → set_in (put_one r (cut r) ys) k ≡ cut k
+    by_set None e = rw e h
+    by_set (Some set) e = elim (cases_eq k r) [
+      | inl same ↦ rw e (ap (λ j. set_in (slice_set ys r (Some set)) j) same ∙ (entry_set ys r (Some set) (omega arith) ∙ (sym e ∙ ap cut (sym same))))
+      | inr other ↦ rw e (set_other ys r k (Some set) other ∙ h)
+    ]
+
+put_sets-keeps : (rs : List ℕ) (k : ℕ) (cut : ℕ → Option (List Bool)) (ys : Sets) → k < length ys → set_in ys k ≡ cut k → set_in (put_sets rs cut ys) k ≡ cut k
+put_sets-keeps [] k cut ys l h = h
+put_sets-keeps (r ∷ rs) k cut ys l h =
+    ap (λ xs. set_in xs k) (put_sets-step r rs cut ys)
+    ∙ put_sets-keeps rs k cut (put_one r (cut r) ys) (omega (arith, length-put_one r (cut r) ys)) (put_one-keeps r k cut ys l h)
+
+put_one-here : (r k : ℕ) (cut : ℕ → Option (List Bool)) (ys : Sets) → k ≡ r → k < length ys → set_in ys k ≡ None → set_in (put_one r (cut r) ys) k ≡ cut k
+unfolding put_one
+put_one-here r k cut ys same l h = by_set (cut r) refl
+  where
+    by_set : (o : Option (List Bool)) → cut r ≡ o → set_in (put_one r (cut r) ys) k ≡ cut k
+    by_set None e = rw e (h ∙ (sym e ∙ ap cut (sym same)))
+    by_set (Some set) e = rw e (ap (λ j. set_in (slice_set ys r (Some set)) j) same ∙ (entry_set ys r (Some set) (omega arith) ∙ (sym e ∙ ap cut (sym same))))
+
+put_one-other : (r k : ℕ) (o : Option (List Bool)) (ys : Sets) → k ≢ r → set_in (put_one r o ys) k ≡ set_in ys k
+unfolding put_one
+put_one-other r k None ys h = refl
+put_one-other r k (Some set) ys h = set_other ys r k (Some set) h
+
+-- a right whose set is put has it
+put_sets-has : (rs : List ℕ) (k : ℕ) (cut : ℕ → Option (List Bool)) (ys : Sets) → k < length ys → set_in ys k ≡ None → Has rs k → set_in (put_sets rs cut ys) k ≡ cut k
+put_sets-has [] k cut ys l h m = absurd m
+put_sets-has (r ∷ rs) k cut ys l h m =
+    ap (λ xs. set_in xs k) (put_sets-step r rs cut ys)
+    ∙ elim (cases_eq k r) [
+      | inl same ↦ put_sets-keeps rs k cut (put_one r (cut r) ys) (omega (arith, length-put_one r (cut r) ys)) (put_one-here r k cut ys same l h)
+      | inr other ↦ put_sets-has rs k cut (put_one r (cut r) ys) (omega (arith, length-put_one r (cut r) ys)) (put_one-other r k (cut r) ys other ∙ h) (behind m other)
+    ]
+  where
+    behind : Has (r ∷ rs) k → k ≢ r → Has rs k
+    behind (inl is) other = absurd (other is)
+    behind (inr there) other = there
+
+no_sets : (n k : ℕ) → (let xs : Sets = replicate n None in set_in xs k) ≡ None
+no_sets zero k = refl
+no_sets (suc n) zero = refl
+no_sets (suc n) (suc k) = no_sets n k
+
+same_sets : (xs ys : Sets) → length xs ≡ length ys → ((k : ℕ) → k < length xs → set_in xs k ≡ set_in ys k) → xs ≡ ys
+same_sets [] [] e h = refl
+same_sets [] (y ∷ ys) e h = absurd (omega arith)
+same_sets (x ∷ xs) [] e h = absurd (omega arith)
+same_sets (x ∷ xs) (y ∷ ys) e h =
+    ap (λ z. z ∷ xs) (h 0 (omega arith)) ∙ ap (λ zs. y ∷ zs) (same_sets xs ys (omega arith) (λ k l. h (suc k) (omega arith)))
+
+-- the sets of all rights
+all_sets : (rs : List ℕ) (n : ℕ) (ys : Sets) → length ys ≡ n → ((k : ℕ) → k < n → Has rs k) →
+    put_sets rs (λ r. set_in ys r) (replicate n None) ≡ ys
+all_sets rs n ys e has =
+    same_sets (put_sets rs (λ r. set_in ys r) (replicate n None)) ys (len ∙ sym e)
+    (λ k l. put_sets-has rs k (λ r. set_in ys r) (replicate n None) (omega (arith, len, length-replicate {A = Option (List Bool)} n None)) (no_sets n k) (has k (omega (arith, len))))
+  where
+    len : length (put_sets rs (λ r. set_in ys r) (replicate n None)) ≡ n
+    len = length-put_sets rs (λ r. set_in ys r) (replicate n None) ∙ length-replicate n None
+
+-- Returns, use and takes that no line tells.
+
+none_passes : {X : Type 0} (p : X → Bool) (xs : List X) (k : ℕ) (x : X) → list_any p xs ≡ false → slice_get xs k ≡ Some x → p x ≡ false
+none_passes p [] k x h e = cc
+none_passes p (y ∷ ys) zero x h e = let same : Some y ≡ Some x = e in let is : y ≡ x = cc in rw (← is) (first (p y) (list_any p ys) h)
+  where
+    first : (q r : Bool) → q || r ≡ false → q ≡ false
+    first true r g = cc
+    first false r g = refl
+none_passes p (y ∷ ys) (suc k) x h e = none_passes p ys k x (second (p y) (list_any p ys) h) e
+  where
+    second : (q r : Bool) → q || r ≡ false → r ≡ false
+    second true r g = cc
+    second false r g = g
+
+nothing_returns : (b : Basin) (deliveries : List (List ℕ)) (n i : ℕ) → list_any (λ row. row.node == n) b.returns ≡ false → returned_at b deliveries n i ≡ 0
+nothing_returns b deliveries n i h =
+    total_zero (length b.returns) (λ k. of_entry b.returns k (λ row. if row.node == n then returned_by row deliveries i else 0) 0) (λ k l. at_row k (get_there b.returns k l))
+  where
+    at_row : (k : ℕ) → (row : ReturnRow) × (slice_get b.returns k ≡ Some row) → of_entry b.returns k (λ row. if row.node == n then returned_by row deliveries i else 0) 0 ≡ 0
+    at_row k (row, is) = rw (is, none_passes (λ row. row.node == n) b.returns k row h is) refl
+
+nothing_used : (b : Basin) (deliveries : List (List ℕ)) (r i : ℕ) → of_entry b.rights r (λ right. is_some right.volume) false ≡ false → used_of b deliveries r i ≡ 0
+nothing_used b deliveries r i h = by_right (slice_get b.rights r) refl
+  where
+    by_volume : (o : Option ℕ) → is_some o ≡ false → used_by_volume o (used_in_year b deliveries r i) ≡ 0
+    by_volume None g = refl
+    by_volume (Some volume) g = cc
+
+    by_right : (o : Option Right) → slice_get b.rights r ≡ o → used_of b deliveries r i ≡ 0
+    by_right None e = rw e refl
+    by_right (Some right) e = rw e (by_volume right.volume (rw e at h))
+
+-- a right that takes water is on no link
+no_link : (b : Basin) (r : ℕ) (node : ℕ) → taking_node b r ≡ Some node → instream_link b r ≡ None
+no_link b r node h = by_right (slice_get b.rights r) refl
+  where
+    by_kind : (k : RightKind) → taking_node_of_kind b k ≡ Some node → link_of_kind k ≡ None
+    by_kind (kind.Diversion at) g = refl
+    by_kind (kind.Instream link) g = cc
+    by_kind (kind.Zone reservoir level) g = refl
+
+    by_right : (o : Option Right) → slice_get b.rights r ≡ o → instream_link b r ≡ None
+    by_right None e = rw e refl
+    by_right (Some right) e = rw e (by_kind right.kind (rw e at h))
+
+-- The record of a month.
+
+-- a set is that of a short right
+pub has_set : (b : Basin) (series : Inflows) (before : List MonthRecord) (m : MonthRecord) → IsTextMonth b series before m → (r : ℕ) (set : List Bool) → cut_of m r ≡ Some set →
+    (r < length b.rights) × (length set ≡ length b.nodes) × (list_any (λ in_set. in_set) set ≡ true)
+has_set b series before m t r set e = by_range (cases_lt r (length b.rights))
+  where
+    by_range : (r < length b.rights) ⊎ (length b.rights ≤ r) → (r < length b.rights) × (length set ≡ length b.nodes) × (list_any (λ in_set. in_set) set ≡ true)
+    by_range (inr beyond) =
+        let none : cut_of m r ≡ None = ap (λ (o : Option (Option (List Bool))). unwrap_or (option_map (λ s. s) o) None) (slice_get_past m.cuts.sets r (omega (arith, t.month.fits.cuts))) in
+        cc
+    by_range (inl l) = elim (cases_lt (slice_index m.delivered r) (slice_index m.want r)) [
+      | inl short ↦ (let s = t.sets.short r l short in
+          let both : Some s.0 ≡ Some set = sym s.1 ∙ e in
+          let is : s.0 ≡ set = cc in
+          (l, sym (ap length is) ∙ s.2, sym (ap (list_any (λ in_set. in_set)) is) ∙ s.3))
+      | inr met ↦ (let none : cut_of m r ≡ None = t.sets.met r l met in cc)
+    ]
+
+all_told : (b : Basin) (series : Inflows) (before : List MonthRecord) (m : MonthRecord) → IsTextMonth b series before m → IsAllTold b series m
+all_told b series before m t = record {
+  opening = told_list (places_of b.reservoirs) m.opening (length b.reservoirs) t.month.fits.opening (λ k l. inl (has_place b.reservoirs k l));
+  evaporated = told_list (places_of b.reservoirs) m.evaporated (length b.reservoirs) t.month.fits.evaporated (λ k l. inl (has_place b.reservoirs k l));
+  returned = told_list (return_nodes b) m.returned (length b.nodes) t.month.fits.returned
+      (λ k l. by_filter (λ n. list_any (λ row. row.node == n) b.returns) (places_of b.nodes) m.returned k (has_place b.nodes k l)
+      (λ none. t.month.returned k l ∙ nothing_returns b (map (λ j. j.delivered) before) k m.index none));
+  used = told_list (rights_with_volume b) m.used (length b.rights) t.month.fits.used
+      (λ k l. by_filter (λ r. of_entry b.rights r (λ right. is_some right.volume) false) (seniors_first b) m.used k (seniors_have b.rights k l)
+      (λ none. t.month.used k l ∙ nothing_used b (map (λ j. j.delivered) before) k m.index none));
+  flow = told_list (places_of b.links) m.plan.flow (length b.links) t.month.plan.flow_len (λ k l. inl (has_place b.links k l));
+  delivered = told_list (seniors_first b) m.delivered (length b.rights) t.month.fits.delivered (λ k l. inl (seniors_have b.rights k l));
+  want = told_list (seniors_first b) m.want (length b.rights) t.month.fits.want (λ k l. inl (seniors_have b.rights k l));
+  take = set_all-same (seniors_first b) (take_of b (λ r. slice_index m.delivered r)) (λ r. slice_index m.plan.take r) (replicate (length b.rights) 0) (λ k h. taken k (seniors_below b.rights k h))
+      ∙ told_list (seniors_first b) m.plan.take (length b.rights) t.month.plan.take_len (λ k l. inl (seniors_have b.rights k l));
+  out = told_list (outlets b) m.plan.out (length b.nodes) t.month.plan.out_len
+      (λ k l. by_filter (λ n. is_outlet b n) (places_of b.nodes) m.plan.out k (has_place b.nodes k l) (λ none. t.month.plan.outlets k l none));
+  closing = told_list (places_of b.reservoirs) m.closing (length b.reservoirs) t.month.fits.closing (λ k l. inl (has_place b.reservoirs k l));
+  sets = all_sets (seniors_first b) (length b.rights) m.cuts.sets t.month.fits.cuts (λ k l. seniors_have b.rights k l);
+  nodes = t.month.fits.cut_nodes;
+  supply = map-numbers (λ n. inflow_at b series n m.index + slice_index m.returned n + stored_at b m.opening m.evaporated n) 0 (length b.nodes) m.supply t.month.fits.supply
+      (λ k l. t.month.supply k l ∙ ap (λ n. inflow_at b series n m.index + slice_index m.returned n + stored_at b m.opening m.evaporated n) (sym (zero-add k)));
+  sized = λ r set e. (has_set b series before m t r set e).1;
+  within = λ r set e. omega (arith, (has_set b series before m t r set e).0, length-replicate {A = Option (List Bool)} (length b.rights) None);
+}
+  where
+    taken : (k : ℕ) → k < length b.rights → take_of b (λ r. slice_index m.delivered r) k ≡ slice_index m.plan.take k
+    taken k l = by_node (taking_node b k) refl
+      where
+        by_node : (o : Option ℕ) → taking_node b k ≡ o → take_of b (λ r. slice_index m.delivered r) k ≡ slice_index m.plan.take k
+        by_node None e = rw e (sym (t.month.plan.instream k l e))
+        by_node (Some node) e =
+            rw e (t.month.delivered k l ∙ ap (λ o. delivery_by_link o (slice_index m.want k) m.plan k) (no_link b k node e))
+
+-- Records one behind another.
+
+get_behind : (before ms : List MonthRecord) (m : MonthRecord) → slice_get (before ++ m ∷ ms) (length before) ≡ Some m
+get_behind [] ms m = refl
+get_behind (x ∷ before) ms m = get_behind before ms m
+
+take_before : (before ms : List MonthRecord) → take (length before) (before ++ ms) ≡ before
+take_before [] ms = refl
+take_before (x ∷ before) ms = ap (λ xs. x ∷ xs) (take_before before ms)
+
+pub month_of : (b : Basin) (series : Inflows) (records before ms : List MonthRecord) (m : MonthRecord) → AreTextMonths b series records → records ≡ before ++ m ∷ ms →
+    IsTextMonth b series before m
+month_of b series records before ms m are is =
+    subst (λ (xs : List MonthRecord). IsTextMonth b series xs m) (ap (take (length before)) is ∙ take_before before (m ∷ ms))
+    (are.each (length before) m (ap (λ xs. slice_get xs (length before)) is ∙ get_behind before ms m))
+
+all_from : (b : Basin) (series : Inflows) (records before ms : List MonthRecord) → AreTextMonths b series records → records ≡ before ++ ms → AreAllTold b series (length before) ms
+all_from b series records before [] are is = tt
+all_from b series records before (m ∷ ms) are is =
+    let t = month_of b series records before ms m are is in (
+      t.month.index,
+      all_told b series before m t,
+      subst (λ (i : ℕ). AreAllTold b series i ms) (length-append before (m ∷ []))
+          (all_from b series records (before ++ m ∷ []) ms are (is ∙ sym (append_assoc before (m ∷ []) ms))),
+    )
+
+pub are_all_told : (b : Basin) (series : Inflows) (records : List MonthRecord) → AreTextMonths b series records → AreAllTold b series 0 records
+are_all_told b series records are = all_from b series records [] records are refl

@@ -1,0 +1,52 @@
+-- Months that follow others are months that a text tells.
+use Rattle.std.proofs.Common.{◌≡◌, ℕ, zero, suc, ◌<◌, ◌≤◌, Bool, true, false, refl, List, [], ◌∷◌, length}
+use Rattle.std.specs.Prelude.{Option, Some, None, ◌&&◌, not, slice_index}
+use Rattle.std.specs.List.{list_any}
+use Rattle.water_model.specs.Basin.{taking_node, instream_link, tail_of, head_of}
+use Rattle.water_model.specs.Cuts.{Separates, IsTight}
+use Rattle.water_model.specs.History.{Follows, IsShort, cut_of}
+use Rattle.water_model.specs.Lookups.{has}
+use Rattle.water_model.specs.declared.types.Basin.{Basin}
+use Rattle.water_model.specs.declared.types.Inflows.{Inflows}
+use Rattle.water_model.specs.declared.types.MonthRecord.{MonthRecord}
+use Rattle.result_reader.specs.Records.{HasTextAmounts, IsTextMonth}
+
+has_some : (set : List Bool) (k : ℕ) → has set k ≡ true → list_any (λ in_set. in_set) set ≡ true
+has_some [] k h = cc
+has_some (true ∷ set) k h = refl
+has_some (false ∷ set) zero h = cc
+has_some (false ∷ set) (suc k) h = has_some set k h
+
+-- a cut of a right has a node
+cut_has_some : (b : Basin) (taking link : Option ℕ) (cut : List Bool) → Separates b taking link cut → list_any (λ in_set. in_set) cut ≡ true
+cut_has_some b None None cut h = cc
+cut_has_some b (Some node) None cut h = has_some cut node h
+cut_has_some b taking (Some link) cut h = has_some cut (tail_of b link) (first (has cut (tail_of b link)) (not (has cut (head_of b link))) h.1)
+  where
+    first : (p q : Bool) → p && q ≡ true → p ≡ true
+    first true q g = refl
+    first false q g = cc
+
+-- a record that follows others is one that a text tells, if its amounts are those of a text
+pub IsTextMonth-Follows : (b : Basin) (series : Inflows) (before : List MonthRecord) (m : MonthRecord) → Follows b series before m → HasTextAmounts m →
+    IsTextMonth b series before m
+IsTextMonth-Follows b series before m f amounts = record {
+  month = record {
+    fits = f.fits;
+    index = f.index;
+    month = f.month;
+    evaporated = f.evaporated;
+    returned = f.returned;
+    supply = f.supply;
+    used = f.used;
+    want = f.want;
+    plan = f.plan;
+    delivered = f.delivered;
+  };
+  sets = record {
+    short = λ r l short. (let s = f.short r l short in
+        (s.0, s.1, s.2.is_cut.one_each, cut_has_some b (taking_node b r) (instream_link b r) s.0 s.2.is_cut.separates));
+    met = f.met;
+  };
+  amounts = amounts;
+}

@@ -1,0 +1,22 @@
+pub mod Grammar
+pub mod Fronts
+pub mod Placing
+pub mod Members
+pub mod MonthDues
+pub mod NameLaws
+pub mod Pieces
+pub mod WordLaws
+pub mod Sayings
+pub mod StandingLaws
+pub mod LinesLeft
+pub mod Spelled
+pub mod Accepting
+pub mod Telling
+pub mod MonthTold
+pub mod WholeMonth
+pub mod AllTold
+pub mod OfTexts
+pub mod OneReading
+mod Examples
+pub mod TextForm
+pub mod Histories

@@ -1,0 +1,82 @@
+-- The steps of a reader's place.
+use Rattle.std.proofs.Common.{◌≡◌, ℕ, zero, suc, ◌+◌, ◌-◌, ◌<◌, ◌≤◌, Bool, true, false, refl, sym, ap, subst, ◌∙◌, arith, List, [], ◌∷◌, ◌++◌, length, drop, get_or, add-one, append_assoc}
+use Rattle.std.specs.Prelude.{Some, None, IsTrue, ◌↔◌}
+use Rattle.std.specs.List.{flat_map}
+use Rattle.std.proofs.Math.Seq.{drop-cons}
+use Rattle.water_model.specs.Hydrology.{run_month}
+use Rattle.water_model.specs.declared.types.Basin.{Basin}
+use Rattle.water_model.specs.Places.{numbers_from}
+use Rattle.result_reader.specs.Form.{is_same_shape, is_optional, fits, due_in_month, due_for_month}
+use Rattle.result_reader.specs.Due.{opened, take_line}
+use Rattle.result_reader.specs.Progress.{months_due}
+use Rattle.water_model.specs.declared.item.Item.{Item}
+use Rattle.result_reader.specs.declared.shape.Shape.{Shape}
+use Rattle.result_reader.specs.declared.shape.Shape.TheVariants as shape
+use Rattle.result_reader.proofs.Grammar.{same_shape_is, same_shape_itself, take_fits, take_skips, take_stops}
+
+pub same_result : (r : Bool) (a b : Shape) → (IsTrue r ↔ (a ≡ b)) → r ≡ is_same_shape a b
+same_result r a b h = by_both r refl (is_same_shape a b) refl
+  where
+    by_both : (t : Bool) → r ≡ t → (s : Bool) → is_same_shape a b ≡ s → r ≡ is_same_shape a b
+    by_both true e true f = e ∙ sym f
+    by_both false e false f = e ∙ sym f
+    by_both true e false f =
+        let same : a ≡ b = h.0 e in
+        let itself : is_same_shape a b ≡ true = subst (λ (x : Shape). is_same_shape a x ≡ true) same (same_shape_itself a) in cc
+    by_both false e true f = let yes : r ≡ true = h.1 (same_shape_is a b f) in cc
+
+-- the lines from a place on begin with the line there
+pub drop_at : (dues : List Shape) (at : ℕ) (d : Shape) → at < length dues → d ≡ get_or dues at d → (others : List Shape) →
+    drop at dues ++ others ≡ d ∷ (drop (at + 1) dues ++ others)
+drop_at dues at d l is others =
+    ap (λ xs. xs ++ others) (drop-cons dues at d l)
+    ∙ (ap (λ x. x ∷ (drop (suc at) dues ++ others)) (sym is) ∙ ap (λ k. d ∷ (drop k dues ++ others)) (sym (add-one at)))
+
+pub found_at : (b : Basin) (dues : List Shape) (at : ℕ) (d : Shape) (i : Item) → at < length dues → d ≡ get_or dues at d → fits b d i ≡ true →
+    (others : List Shape) → take_line b (drop at dues ++ others) i ≡ Some (opened b i ++ (drop (at + 1) dues ++ others))
+found_at b dues at d i l is f others = rw (drop_at dues at d l is others) (take_fits b d (drop (at + 1) dues ++ others) i f)
+
+pub blocked_at : (b : Basin) (dues : List Shape) (at : ℕ) (d : Shape) (i : Item) → at < length dues → d ≡ get_or dues at d → fits b d i ≡ false →
+    is_optional d ≡ false → (others : List Shape) → take_line b (drop at dues ++ others) i ≡ None
+blocked_at b dues at d i l is f o others = rw (drop_at dues at d l is others) (take_stops b d (drop (at + 1) dues ++ others) i f o)
+
+pub passed_at : (b : Basin) (dues : List Shape) (at : ℕ) (d : Shape) (i : Item) → at < length dues → d ≡ get_or dues at d → fits b d i ≡ false →
+    is_optional d ≡ true → (others : List Shape) → take_line b (drop at dues ++ others) i ≡ take_line b (drop (at + 1) dues ++ others) i
+passed_at b dues at d i l is f o others =
+    ap (λ xs. take_line b xs i) (drop_at dues at d l is others) ∙ take_skips b d (drop (at + 1) dues ++ others) i f o
+
+-- the first of what is due behind some months
+pub month_is_due : (b : Basin) (begun : ℕ) → begun < b.months →
+    months_due b begun ≡ shape.Month (run_month b begun) ∷ (due_in_month b ++ months_due b (begun + 1))
+unfolding numbers_from
+month_is_due b begun l = by_count (b.months - begun) (omega arith)
+  where
+    by_count : (n : ℕ) → b.months - begun ≡ n →
+        flat_map (due_for_month b) (numbers_from begun (b.months - begun)) ++ shape.Done b.months ∷ []
+        ≡ shape.Month (run_month b begun) ∷ (due_in_month b ++ (flat_map (due_for_month b) (numbers_from (begun + 1) (b.months - (begun + 1))) ++ shape.Done b.months ∷ []))
+    by_count zero e = absurd (omega arith)
+    by_count (suc n) e =
+        let rest : b.months - (begun + 1) ≡ n = omega arith in
+        rw (e, rest, add-one begun) (ap (λ xs. shape.Month (run_month b begun) ∷ xs) (append_assoc (due_in_month b) (flat_map (due_for_month b) (numbers_from (suc begun) n)) (shape.Done b.months ∷ [])))
+
+pub done_is_due : (b : Basin) (begun : ℕ) → b.months ≤ begun → months_due b begun ≡ shape.Done b.months ∷ []
+unfolding numbers_from
+done_is_due b begun l = let none : b.months - begun ≡ 0 = omega arith in rw none refl
+
+pub month_taken : (b : Basin) (begun : ℕ) (i : Item) → begun < b.months → fits b (shape.Month (run_month b begun)) i ≡ true →
+    take_line b (months_due b begun) i ≡ Some (opened b i ++ (due_in_month b ++ months_due b (begun + 1)))
+month_taken b begun i l f =
+    ap (λ xs. take_line b xs i) (month_is_due b begun l) ∙ take_fits b (shape.Month (run_month b begun)) (due_in_month b ++ months_due b (begun + 1)) i f
+
+pub month_refused : (b : Basin) (begun : ℕ) (i : Item) → begun < b.months → fits b (shape.Month (run_month b begun)) i ≡ false →
+    take_line b (months_due b begun) i ≡ None
+month_refused b begun i l f =
+    ap (λ xs. take_line b xs i) (month_is_due b begun l) ∙ take_stops b (shape.Month (run_month b begun)) (due_in_month b ++ months_due b (begun + 1)) i f refl
+
+pub done_taken : (b : Basin) (begun : ℕ) (i : Item) → b.months ≤ begun → fits b (shape.Done b.months) i ≡ true →
+    take_line b (months_due b begun) i ≡ Some (opened b i ++ [])
+done_taken b begun i l f = ap (λ xs. take_line b xs i) (done_is_due b begun l) ∙ take_fits b (shape.Done b.months) [] i f
+
+pub done_refused : (b : Basin) (begun : ℕ) (i : Item) → b.months ≤ begun → fits b (shape.Done b.months) i ≡ false →
+    take_line b (months_due b begun) i ≡ None
+done_refused b begun i l f = ap (λ xs. take_line b xs i) (done_is_due b begun l) ∙ take_stops b (shape.Done b.months) [] i f refl

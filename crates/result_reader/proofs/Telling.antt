@@ -1,0 +1,205 @@
+-- What the lines of a month tell.
+use Rattle.std.proofs.Common.{◌≡◌, ℕ, zero, suc, ◌<◌, Bool, true, false, refl, sym, ap, ◌∙◌, arith, inl, inr, List, [], ◌∷◌, ◌++◌, length, map, fold, replicate, append_assoc, length-append}
+use Rattle.std.specs.Prelude.{Option, Some, None, option_map, ◌⊎◌, is_some, slice_index, slice_set, if◌then◌else◌}
+use Rattle.std.proofs.Math.ListN.{length-set}
+use Rattle.std.proofs.lemmas.Bool.{cases_eq}
+use Rattle.std.proofs.lemmas.List.{get_or-set_other}
+use Rattle.std.proofs.lemmas.Grind.{get_or-set_at}
+use Rattle.std.proofs.lemmas.Grind.{same_number_lists}
+use Rattle.water_model.specs.Basin.{taking_node}
+use Rattle.water_model.specs.declared.types.Basin.{Basin}
+use Rattle.water_model.specs.declared.types.Inflows.{Inflows}
+use Rattle.water_model.specs.Places.{members_from}
+use Rattle.water_model.specs.Text.{call_items}
+use Rattle.result_reader.specs.Telling.{Told, tell, with_now, with_member}
+use Rattle.water_model.specs.CutSets.{set_of, with_set}
+use Rattle.water_model.specs.Lookups.{of_entry}
+use Rattle.water_model.specs.declared.item.Item.TheVariants as line
+use Rattle.water_model.proofs.Order.{Has}
+
+-- a list with the numbers of a set at some places
+abbrev pub set_all : List ℕ → (ℕ → ℕ) → List ℕ → List ℕ
+set_all [] a ys = ys
+set_all (x ∷ xs) a ys = set_all xs a (slice_set ys x (a x))
+
+pub length-set_all : (xs : List ℕ) (a : ℕ → ℕ) (ys : List ℕ) → length (set_all xs a ys) ≡ length ys
+length-set_all [] a ys = refl
+length-set_all (x ∷ xs) a ys = length-set_all xs a (slice_set ys x (a x)) ∙ length-set ys x (a x)
+
+-- at a place that is set stands its number, and at each other place what stood there
+pub set_all-other : (xs : List ℕ) (a : ℕ → ℕ) (ys : List ℕ) (k : ℕ) → (Has xs k → ⊥) → slice_index (set_all xs a ys) k ≡ slice_index ys k
+set_all-other [] a ys k h = refl
+set_all-other (x ∷ xs) a ys k h =
+    set_all-other xs a (slice_set ys x (a x)) k (λ j. h (inr j)) ∙ get_or-set_other ys x k (a x) 0 (λ e. h (inl e))
+
+set_all-keeps : (xs : List ℕ) (a : ℕ → ℕ) (ys : List ℕ) (k : ℕ) → k < length ys → slice_index ys k ≡ a k → slice_index (set_all xs a ys) k ≡ a k
+set_all-keeps [] a ys k l h = h
+set_all-keeps (x ∷ xs) a ys k l h =
+    set_all-keeps xs a (slice_set ys x (a x)) k (omega (arith, length-set ys x (a x))) (elim (cases_eq k x) [ inl e ↦ here e | inr n ↦ get_or-set_other ys x k (a x) 0 n ∙ h ])
+  where
+    here : k ≡ x → slice_index (slice_set ys x (a x)) k ≡ a k
+    here e = get_or-set_at ys x k (a x) 0 e (omega arith) ∙ ap a (sym e)
+
+pub set_all-has : (xs : List ℕ) (a : ℕ → ℕ) (ys : List ℕ) (k : ℕ) → k < length ys → Has xs k → slice_index (set_all xs a ys) k ≡ a k
+set_all-has [] a ys k l h = absurd h
+set_all-has (x ∷ xs) a ys k l (inr h) = set_all-has xs a (slice_set ys x (a x)) k (omega (arith, length-set ys x (a x))) h
+set_all-has (x ∷ xs) a ys k l (inl e) =
+    set_all-keeps xs a (slice_set ys x (a x)) k (omega (arith, length-set ys x (a x))) (get_or-set_at ys x k (a x) 0 e (omega arith) ∙ ap a (sym e))
+
+-- a list whose numbers are all set is the list of these numbers
+pub set_all-whole : (xs ys zs : List ℕ) → length ys ≡ length zs → ((k : ℕ) → k < length zs → Has xs k ⊎ ((Has xs k → ⊥) × (slice_index ys k ≡ slice_index zs k))) →
+    set_all xs (λ k. slice_index zs k) ys ≡ zs
+set_all-whole xs ys zs len each =
+    same_number_lists (set_all xs (λ k. slice_index zs k) ys) zs (length-set_all xs (λ k. slice_index zs k) ys ∙ len)
+    (λ k l. by_place k (omega (arith, length-set_all xs (λ k. slice_index zs k) ys)) (each k (omega (arith, length-set_all xs (λ k. slice_index zs k) ys))))
+  where
+    by_place : (k : ℕ) → k < length ys → Has xs k ⊎ ((Has xs k → ⊥) × (slice_index ys k ≡ slice_index zs k)) → slice_index (set_all xs (λ k. slice_index zs k) ys) k ≡ slice_index zs k
+    by_place k l (inl h) = set_all-has xs (λ k. slice_index zs k) ys k l h
+    by_place k l (inr (other, same)) = set_all-other xs (λ k. slice_index zs k) ys k other ∙ same
+
+-- Section by section.
+
+pub tell_openings : (b : Basin) (series : Inflows) (a : ℕ → ℕ) (xs : List ℕ) (t : Told) → t.calling ≡ None →
+    fold (tell b series) t (map (λ v. line.Opening v (a v)) xs) ≡ record t { now = record t.now { opening = set_all xs a t.now.opening } }
+tell_openings b series a [] t h = refl
+tell_openings b series a (x ∷ xs) t h =
+    tell_openings b series a xs (with_now t (record t.now { opening = slice_set t.now.opening x (a x) })) refl
+    ∙ ap (λ c. record t { now = record t.now { opening = set_all xs a (slice_set t.now.opening x (a x)) }; calling = c }) (sym h)
+
+pub tell_flows : (b : Basin) (series : Inflows) (a : ℕ → ℕ) (xs : List ℕ) (t : Told) → t.calling ≡ None →
+    fold (tell b series) t (map (λ e. line.Flow e (a e)) xs) ≡ record t { now = record t.now { plan = record t.now.plan { flow = set_all xs a t.now.plan.flow } } }
+tell_flows b series a [] t h = refl
+tell_flows b series a (x ∷ xs) t h =
+    tell_flows b series a xs (with_now t (record t.now { plan = record t.now.plan { flow = slice_set t.now.plan.flow x (a x) } })) refl
+    ∙ ap (λ c. record t { now = record t.now { plan = record t.now.plan { flow = set_all xs a (slice_set t.now.plan.flow x (a x)) } }; calling = c }) (sym h)
+
+pub tell_deliveries : (b : Basin) (series : Inflows) (a w : ℕ → ℕ) (xs : List ℕ) (t : Told) → t.calling ≡ None →
+    fold (tell b series) t (map (λ r. line.Deliver r (a r) (w r)) xs)
+    ≡ record t {
+      now = record t.now {
+        delivered = set_all xs a t.now.delivered;
+        want = set_all xs w t.now.want;
+        plan = record t.now.plan { take = set_all xs (λ r. if is_some (taking_node b r) then a r else 0) t.now.plan.take };
+      };
+    }
+tell_deliveries b series a w [] t h = refl
+tell_deliveries b series a w (x ∷ xs) t h =
+    tell_deliveries b series a w xs (with_now t (record t.now {
+      delivered = slice_set t.now.delivered x (a x);
+      want = slice_set t.now.want x (w x);
+      plan = record t.now.plan { take = slice_set t.now.plan.take x (if is_some (taking_node b x) then a x else 0) };
+    })) refl
+    ∙ ap (λ c. record t {
+      now = record t.now {
+        delivered = set_all xs a (slice_set t.now.delivered x (a x));
+        want = set_all xs w (slice_set t.now.want x (w x));
+        plan = record t.now.plan { take = set_all xs (λ r. if is_some (taking_node b r) then a r else 0) (slice_set t.now.plan.take x (if is_some (taking_node b x) then a x else 0)) };
+      };
+      calling = c;
+    }) (sym h)
+
+pub tell_evaporations : (b : Basin) (series : Inflows) (a : ℕ → ℕ) (xs : List ℕ) (t : Told) → t.calling ≡ None →
+    fold (tell b series) t (map (λ v. line.Evaporated v (a v)) xs) ≡ record t { now = record t.now { evaporated = set_all xs a t.now.evaporated } }
+tell_evaporations b series a [] t h = refl
+tell_evaporations b series a (x ∷ xs) t h =
+    tell_evaporations b series a xs (with_now t (record t.now { evaporated = slice_set t.now.evaporated x (a x) })) refl
+    ∙ ap (λ c. record t { now = record t.now { evaporated = set_all xs a (slice_set t.now.evaporated x (a x)) }; calling = c }) (sym h)
+
+pub tell_returns : (b : Basin) (series : Inflows) (a : ℕ → ℕ) (xs : List ℕ) (t : Told) → t.calling ≡ None →
+    fold (tell b series) t (map (λ n. line.Returned n (a n)) xs) ≡ record t { now = record t.now { returned = set_all xs a t.now.returned } }
+tell_returns b series a [] t h = refl
+tell_returns b series a (x ∷ xs) t h =
+    tell_returns b series a xs (with_now t (record t.now { returned = slice_set t.now.returned x (a x) })) refl
+    ∙ ap (λ c. record t { now = record t.now { returned = set_all xs a (slice_set t.now.returned x (a x)) }; calling = c }) (sym h)
+
+pub tell_used : (b : Basin) (series : Inflows) (a : ℕ → ℕ) (xs : List ℕ) (t : Told) → t.calling ≡ None →
+    fold (tell b series) t (map (λ r. line.Used r (a r)) xs) ≡ record t { now = record t.now { used = set_all xs a t.now.used } }
+tell_used b series a [] t h = refl
+tell_used b series a (x ∷ xs) t h =
+    tell_used b series a xs (with_now t (record t.now { used = slice_set t.now.used x (a x) })) refl
+    ∙ ap (λ c. record t { now = record t.now { used = set_all xs a (slice_set t.now.used x (a x)) }; calling = c }) (sym h)
+
+pub tell_outflows : (b : Basin) (series : Inflows) (a : ℕ → ℕ) (xs : List ℕ) (t : Told) → t.calling ≡ None →
+    fold (tell b series) t (map (λ n. line.Outflow n (a n)) xs) ≡ record t { now = record t.now { plan = record t.now.plan { out = set_all xs a t.now.plan.out } } }
+tell_outflows b series a [] t h = refl
+tell_outflows b series a (x ∷ xs) t h =
+    tell_outflows b series a xs (with_now t (record t.now { plan = record t.now.plan { out = slice_set t.now.plan.out x (a x) } })) refl
+    ∙ ap (λ c. record t { now = record t.now { plan = record t.now.plan { out = set_all xs a (slice_set t.now.plan.out x (a x)) } }; calling = c }) (sym h)
+
+pub tell_closings : (b : Basin) (series : Inflows) (a : ℕ → ℕ) (xs : List ℕ) (t : Told) → t.calling ≡ None →
+    fold (tell b series) t (map (λ v. line.Closing v (a v)) xs) ≡ record t { now = record t.now { closing = set_all xs a t.now.closing } }
+tell_closings b series a [] t h = refl
+tell_closings b series a (x ∷ xs) t h =
+    tell_closings b series a xs (with_now t (record t.now { closing = slice_set t.now.closing x (a x) })) refl
+    ∙ ap (λ c. record t { now = record t.now { closing = set_all xs a (slice_set t.now.closing x (a x)) }; calling = c }) (sym h)
+
+-- The sets of a month.
+
+pub fold-both : {A B : Type 0} (f : A → B → A) (t : A) (xs ys : List B) → fold f t (xs ++ ys) ≡ fold f (fold f t xs) ys
+fold-both f t [] ys = refl
+fold-both f t (x ∷ xs) ys = fold-both f (f t x) xs ys
+
+slice_set-behind : (front rest : List Bool) (x y : Bool) → slice_set (front ++ x ∷ rest) (length front) y ≡ front ++ y ∷ rest
+slice_set-behind [] rest x y = refl
+slice_set-behind (z ∷ front) rest x y = ap (λ xs. z ∷ xs) (slice_set-behind front rest x y)
+
+abbrev pub Sets : Type 0
+Sets = List (Option (List Bool))
+
+pub entry_set : (xs : Sets) (k : ℕ) (v : Option (List Bool)) → k < length xs → of_entry (slice_set xs k v) k (λ s. s) None ≡ v
+entry_set [] k v l = absurd (omega arith)
+entry_set (x ∷ xs) zero v l = refl
+entry_set (x ∷ xs) (suc k) v l = entry_set xs k v (omega arith)
+
+set_entry : (xs : Sets) (k : ℕ) (v : Option (List Bool)) → k < length xs → of_entry xs k (λ s. s) None ≡ v → slice_set xs k v ≡ xs
+set_entry [] k v l h = absurd (omega arith)
+set_entry (x ∷ xs) zero v l h = ap (λ y. y ∷ xs) (sym h)
+set_entry (x ∷ xs) (suc k) v l h = ap (λ ys. x ∷ ys) (set_entry xs k v (omega arith) h)
+
+set_twice : (xs : Sets) (k : ℕ) (u v : Option (List Bool)) → slice_set (slice_set xs k u) k v ≡ slice_set xs k v
+set_twice [] k u v = refl
+set_twice (x ∷ xs) zero u v = refl
+set_twice (x ∷ xs) (suc k) u v = ap (λ ys. x ∷ ys) (set_twice xs k u v)
+
+-- a month with a right's set
+abbrev pub put_cut : Told → ℕ → List Bool → Told
+put_cut t right set = record t { now = record t.now { cuts = with_set t.now.cuts right (Some set) } }
+
+-- the `in` lines of a set, behind those of its front
+tell_members : (b : Basin) (series : Inflows) (right : ℕ) (set front : List Bool) (k : ℕ) (t : Told) → t.calling ≡ Some right → length front ≡ k →
+    right < length t.now.cuts.sets → set_of t.now.cuts right ≡ Some (front ++ replicate (length set) false) →
+    fold (tell b series) t (map (λ n. line.Member n) (members_from k set)) ≡ put_cut t right (front ++ set)
+unfolding members_from
+tell_members b series right [] front k t c n l h =
+    ap (λ xs. record t { now = record t.now { cuts = record t.now.cuts { sets = xs } } }) (sym (set_entry t.now.cuts.sets right (Some (front ++ [])) l h))
+tell_members b series right (true ∷ set) front k t c n l h =
+    ap (λ u. fold (tell b series) u (map (λ n. line.Member n) (members_from (suc k) set))) told
+    ∙ (tell_members b series right set (front ++ true ∷ []) (suc k) (put_cut t right (front ++ true ∷ replicate (length set) false)) c
+    (omega (arith, length-append front (true ∷ []))) (omega (arith, length-set t.now.cuts.sets right (Some (front ++ true ∷ replicate (length set) false))))
+    (entry_set t.now.cuts.sets right (Some (front ++ true ∷ replicate (length set) false)) l ∙ ap (λ xs. Some xs) (sym (append_assoc front (true ∷ []) (replicate (length set) false))))
+    ∙ (ap (λ xs. record t { now = record t.now { cuts = record t.now.cuts { sets = xs } } })
+    (set_twice t.now.cuts.sets right (Some (front ++ true ∷ replicate (length set) false)) (Some ((front ++ true ∷ []) ++ set)))
+    ∙ ap (λ xs. put_cut t right xs) (append_assoc front (true ∷ []) set)))
+  where
+    placed : slice_set (front ++ false ∷ replicate (length set) false) k true ≡ front ++ true ∷ replicate (length set) false
+    placed = rw (← n) (slice_set-behind front (replicate (length set) false) false true)
+
+    told : with_member t t.calling k ≡ put_cut t right (front ++ true ∷ replicate (length set) false)
+    told =
+        ap (λ o. with_member t o k) c
+        ∙ (ap (λ o. record t { now = record t.now { cuts = with_set t.now.cuts right (option_map (λ xs. slice_set xs k true) o) } }) h
+        ∙ ap (λ xs. put_cut t right xs) placed)
+tell_members b series right (false ∷ set) front k t c n l h =
+    tell_members b series right set (front ++ false ∷ []) (suc k) t c (omega (arith, length-append front (false ∷ []))) l
+    (h ∙ ap (λ xs. Some xs) (sym (append_assoc front (false ∷ []) (replicate (length set) false))))
+    ∙ ap (λ xs. put_cut t right xs) (append_assoc front (false ∷ []) set)
+
+-- the lines of one right's set
+pub tell_call : (b : Basin) (series : Inflows) (right : ℕ) (set : List Bool) (t : Told) → right < length t.now.cuts.sets → length set ≡ length b.nodes →
+    fold (tell b series) t (call_items right (Some set)) ≡ record (put_cut t right set) { calling = Some right }
+tell_call b series right set t l sized =
+    tell_members b series right set [] 0 (record (put_cut t right (replicate (length b.nodes) false)) { calling = Some right }) refl refl
+    (omega (arith, length-set t.now.cuts.sets right (Some (replicate (length b.nodes) false))))
+    (entry_set t.now.cuts.sets right (Some (replicate (length b.nodes) false)) l ∙ ap (λ n. Some (replicate n false)) (sym sized))
+    ∙ ap (λ xs. record t { now = record t.now { cuts = record t.now.cuts { sets = xs } }; calling = Some right })
+    (set_twice t.now.cuts.sets right (Some (replicate (length b.nodes) false)) (Some set))

@@ -1,0 +1,121 @@
+-- The form of a result text: which lists of lines fill the lines that are due.
+use Rattle.std.specs.Prelude.{◌≡◌, ℕ, Bool, true, false, ◌&&◌, List, [], ◌∷◌, ◌++◌, map, filter, length, is_some, IsTrue, ◌⊎◌}
+use Rattle.std.specs.List.{flat_map, list_any}
+use Rattle.std.specs.Str.{bytes_eq}
+use Rattle.water_model.specs.Basin.{is_senior, taking_node}
+use Rattle.water_model.specs.Hydrology.{run_month}
+use Rattle.water_model.specs.Places.{numbers_from, places_of, members_from, seniors_first, return_nodes, outlets, rights_with_volume}
+use Rattle.water_model.specs.declared.item.Item.{Item}
+use Rattle.water_model.specs.declared.item.Item.TheVariants as line
+use Rattle.water_model.specs.declared.types.Basin.{Basin}
+use Rattle.result_reader.specs.declared.shape.Shape.{Shape}
+use Rattle.result_reader.specs.declared.shape.Shape.TheVariants as shape
+
+-- what is fixed of a line: its word, with its month, its number of months or its first name
+abbrev pub shape_of : Item → Shape
+shape_of line.Title = shape.Title
+shape_of (line.Run first months) = shape.Run
+shape_of (line.Month month) = shape.Month month
+shape_of (line.Opening reservoir amount) = shape.Opening reservoir
+shape_of (line.Evaporated reservoir amount) = shape.Evaporated reservoir
+shape_of (line.Returned node amount) = shape.Returned node
+shape_of (line.Used right amount) = shape.Used right
+shape_of (line.Flow link amount) = shape.Flow link
+shape_of (line.Deliver right amount want) = shape.Deliver right
+shape_of (line.Outflow node amount) = shape.Outflow node
+shape_of (line.Call right) = shape.Call right
+shape_of (line.Member node) = shape.Member node
+shape_of (line.Called right by') = shape.Called right
+shape_of (line.Closing reservoir amount) = shape.Closing reservoir
+shape_of line.End = shape.End
+shape_of (line.Done months) = shape.Done months
+
+-- a number for each word, and the month, the number or the name
+abbrev pub key_of : Shape → List ℕ
+key_of shape.Title = 0 ∷ []
+key_of shape.Run = 1 ∷ []
+key_of (shape.Month month) = 2 ∷ month.year ∷ month.month ∷ []
+key_of (shape.Opening reservoir) = 3 ∷ reservoir ∷ []
+key_of (shape.Evaporated reservoir) = 4 ∷ reservoir ∷ []
+key_of (shape.Returned node) = 5 ∷ node ∷ []
+key_of (shape.Used right) = 6 ∷ right ∷ []
+key_of (shape.Flow link) = 7 ∷ link ∷ []
+key_of (shape.Deliver right) = 8 ∷ right ∷ []
+key_of (shape.Outflow node) = 9 ∷ node ∷ []
+key_of (shape.Call right) = 10 ∷ right ∷ []
+key_of (shape.Member node) = 11 ∷ node ∷ []
+key_of (shape.Called right) = 12 ∷ right ∷ []
+key_of (shape.Closing reservoir) = 13 ∷ reservoir ∷ []
+key_of shape.End = 14 ∷ []
+key_of (shape.Done months) = 15 ∷ months ∷ []
+
+unfoldable pub is_same_shape : Shape → Shape → Bool
+is_same_shape a b = bytes_eq (key_of a) (key_of b)
+
+-- a line may be left out if it is a `call`, a `called`, or behind a `call` an `in` line
+abbrev pub is_optional : Shape → Bool
+is_optional (shape.Call right) = true
+is_optional (shape.Member node) = true
+is_optional (shape.Called right) = true
+is_optional other = false
+
+-- a caller is senior to the right that it is named for
+abbrev pub is_allowed : Basin → Item → Bool
+is_allowed b (line.Called right by') = is_senior b by' right
+is_allowed b other = true
+
+-- whether a line is the one that is due
+unfoldable pub fits : Basin → Shape → Item → Bool
+fits b due item = is_same_shape due (shape_of item) && is_allowed b item
+
+-- a `call` is followed by the nodes of some set that has a node, in order
+abbrev pub IsFollowedBy : Basin → Item → List Item → Type 0
+IsFollowedBy b (line.Call right) members =
+    (set : List Bool) × (length set ≡ length b.nodes) × IsTrue (list_any (λ in_set. in_set) set)
+    × (members ≡ map (λ n. line.Member n) (members_from 0 set))
+IsFollowedBy b other members = members ≡ []
+
+-- The lines fill the lines that are due: each of these in order, or else it may be left out.
+abbrev pub Fills : Basin → List Shape → List Item → Type 0
+Fills b [] items = items ≡ []
+Fills b (due ∷ dues) items =
+    (IsTrue (is_optional due) × Fills b dues items)
+    ⊎ ((item : Item) × (members others : List Item) × IsTrue (fits b due item) × IsFollowedBy b item members
+    × (items ≡ item ∷ (members ++ others)) × Fills b dues others)
+
+-- the diversions and zones, seniors first
+abbrev pub takers : Basin → List ℕ
+takers b = filter (λ r. is_some (taking_node b r)) (seniors_first b)
+
+-- the lines that are due in each month, behind its `month` line
+unfoldable pub due_in_month : Basin → List Shape
+due_in_month b = flat_map (λ section. section) (
+    map (λ v. shape.Opening v) (places_of b.reservoirs)
+    ∷ map (λ v. shape.Evaporated v) (places_of b.reservoirs)
+    ∷ map (λ n. shape.Returned n) (return_nodes b)
+    ∷ map (λ r. shape.Used r) (rights_with_volume b)
+    ∷ map (λ e. shape.Flow e) (places_of b.links)
+    ∷ map (λ r. shape.Deliver r) (seniors_first b)
+    ∷ map (λ n. shape.Outflow n) (outlets b)
+    ∷ map (λ r. shape.Call r) (seniors_first b)
+    ∷ map (λ r. shape.Called r) (takers b)
+    ∷ map (λ v. shape.Closing v) (places_of b.reservoirs)
+    ∷ (shape.End ∷ [])
+    ∷ [])
+
+-- the lines that are due for month i
+abbrev pub due_for_month : Basin → ℕ → List Shape
+due_for_month b i = shape.Month (run_month b i) ∷ due_in_month b
+
+-- the lines that are due from month i on, for so many months
+abbrev pub due_from : Basin → ℕ → ℕ → List Shape
+due_from b i count = flat_map (due_for_month b) (numbers_from i count) ++ shape.Done b.months ∷ []
+
+-- the lines that are due for a run
+unfoldable pub due : Basin → List Shape
+due b = shape.Title ∷ shape.Run ∷ due_from b 0 b.months
+
+-- the lines are the front of a whole list of lines that has the form
+pub record IsFront (b : Basin) (items : List Item) : Type 0 where
+  pub rest : List Item
+  pub whole : Fills b (due b) (items ++ rest)

@@ -1,0 +1,13 @@
+pub mod Form
+pub mod Due
+pub mod Sections
+pub mod Progress
+pub mod Names
+pub mod NamePlaces
+pub mod Words
+pub mod Reading
+pub mod OfText
+pub mod Standing
+pub mod Telling
+pub mod Records
+pub mod Laws

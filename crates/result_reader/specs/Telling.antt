@@ -1,0 +1,85 @@
+-- What the lines of a text tell of the months' records.
+use Rattle.std.specs.Prelude.{ℕ, ◌+◌, true, false, List, [], ◌∷◌, ◌++◌, map, fold, length, replicate, Option, Some, None, option_map, is_some, if◌then◌else◌, slice_index, slice_set}
+use Rattle.water_text.specs.declared.month.Month.{Month}
+use Rattle.water_model.specs.Basin.{taking_node}
+use Rattle.water_model.specs.CutSets.{with_set}
+use Rattle.water_model.specs.History.{cut_of}
+use Rattle.water_model.specs.Hydrology.{inflow_at, stored_at}
+use Rattle.water_model.specs.Places.{places_of}
+use Rattle.water_model.specs.declared.item.Item.{Item}
+use Rattle.water_model.specs.declared.item.Item.TheVariants as line
+use Rattle.water_model.specs.declared.types.Basin.{Basin}
+use Rattle.water_model.specs.declared.types.Inflows.{Inflows}
+use Rattle.water_model.specs.declared.types.MonthRecord.{MonthRecord}
+
+-- What lines tell: the records of the months that ended, that of the month under way, the right whose `in` lines
+-- come, and how many `called` lines the month has. Of the room for sets they tell nothing.
+pub record Told : Type 0 where
+  pub months : List MonthRecord
+  pub now : MonthRecord
+  pub calling : Option ℕ
+  pub called : ℕ
+
+-- a month of which nothing is told
+abbrev pub blank_month : Basin → ℕ → Month → MonthRecord
+blank_month b index month = record {
+  index = index;
+  month = month;
+  opening = replicate (length b.reservoirs) 0;
+  evaporated = replicate (length b.reservoirs) 0;
+  returned = replicate (length b.nodes) 0;
+  used = replicate (length b.rights) 0;
+  supply = replicate (length b.nodes) 0;
+  want = replicate (length b.rights) 0;
+  plan = record { flow = replicate (length b.links) 0; take = replicate (length b.rights) 0; out = replicate (length b.nodes) 0 };
+  delivered = replicate (length b.rights) 0;
+  cuts = record { nodes = length b.nodes; sets = replicate (length b.rights) None; room = [] };
+  closing = replicate (length b.reservoirs) 0;
+}
+
+abbrev pub nothing_told : Basin → Told
+nothing_told b = record { months = []; now = blank_month b 0 b.first; calling = None; called = 0 }
+
+-- the supply follows from the lines of the reservoirs and returns
+abbrev pub with_supply : Basin → Inflows → MonthRecord → MonthRecord
+with_supply b series m = record m {
+  supply = map (λ n. inflow_at b series n m.index + slice_index m.returned n + stored_at b m.opening m.evaporated n) (places_of b.nodes);
+}
+
+abbrev pub with_now : Told → MonthRecord → Told
+with_now t m = record t { now = m; calling = None }
+
+abbrev pub with_member : Told → Option ℕ → ℕ → Told
+with_member t None node = t
+with_member t (Some right) node =
+    record t { now = record t.now { cuts = with_set t.now.cuts right (option_map (λ set. slice_set set node true) (cut_of t.now right)) } }
+
+-- what is told with one line more
+abbrev pub tell : Basin → Inflows → Told → Item → Told
+tell b series t line.Title = t
+tell b series t (line.Run first months) = t
+tell b series t (line.Month month) = record { months = t.months; now = blank_month b (length t.months) month; calling = None; called = 0 }
+tell b series t (line.Opening v amount) = with_now t (record t.now { opening = slice_set t.now.opening v amount })
+tell b series t (line.Evaporated v amount) = with_now t (record t.now { evaporated = slice_set t.now.evaporated v amount })
+tell b series t (line.Returned n amount) = with_now t (record t.now { returned = slice_set t.now.returned n amount })
+tell b series t (line.Used r amount) = with_now t (record t.now { used = slice_set t.now.used r amount })
+tell b series t (line.Flow e amount) =
+    with_now t (record t.now { plan = record t.now.plan { flow = slice_set t.now.plan.flow e amount } })
+tell b series t (line.Deliver r amount want) = with_now t (record t.now {
+  delivered = slice_set t.now.delivered r amount;
+  want = slice_set t.now.want r want;
+  plan = record t.now.plan { take = slice_set t.now.plan.take r (if is_some (taking_node b r) then amount else 0) };
+})
+tell b series t (line.Outflow n amount) =
+    with_now t (record t.now { plan = record t.now.plan { out = slice_set t.now.plan.out n amount } })
+tell b series t (line.Call r) =
+    record t { now = record t.now { cuts = with_set t.now.cuts r (Some (replicate (length b.nodes) false)) }; calling = Some r }
+tell b series t (line.Member n) = with_member t t.calling n
+tell b series t (line.Called r caller) = record t { calling = None; called = t.called + 1 }
+tell b series t (line.Closing v amount) = with_now t (record t.now { closing = slice_set t.now.closing v amount })
+tell b series t line.End = record t { months = t.months ++ with_supply b series t.now ∷ []; calling = None }
+tell b series t (line.Done months) = t
+
+-- what lines tell
+abbrev pub told_by : Basin → Inflows → List Item → Told
+told_by b series items = fold (tell b series) (nothing_told b) items

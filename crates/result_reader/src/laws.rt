@@ -1,0 +1,32 @@
+//! Laws over what is read, and over the form of a text. Each is the contract of a function that does nothing.
+ghost use Rattle.result_reader.specs.Laws.{LineSaysItsItem, FrontsAreDue, FrontsAreAccepted, OthersAreOutOfPlace, TextsAreAccepted, TextsHaveOneReading};
+
+/// What is read is what the line says, and nothing else is.
+pub fn line_says_its_item()
+    ensures { LineSaysItsItem }
+{}
+
+/// The lines behind which something is due are the fronts of whole texts.
+pub fn fronts_are_due()
+    ensures { FrontsAreDue }
+{}
+
+/// The lines that are accepted are those that may come by the form of a text.
+pub fn fronts_are_accepted()
+    ensures { FrontsAreAccepted }
+{}
+
+/// Every other line that says something is out of place.
+pub fn others_are_out_of_place()
+    ensures { OthersAreOutOfPlace }
+{}
+
+/// The lines of a text that is written are accepted.
+pub fn texts_are_accepted()
+    ensures { TextsAreAccepted }
+{}
+
+/// A text is that of one list of records.
+pub fn texts_have_one_reading()
+    ensures { TextsHaveOneReading }
+{}

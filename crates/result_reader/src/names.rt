@@ -1,0 +1,123 @@
+//! Names, and what they name.
+ghost use Rattle.std.specs.Prelude.{◌≡◌, ◌<◌, List, ℕ, OnOk, IfOk, IfSome, Some, None, length, if◌then◌else◌};
+ghost use Rattle.std.specs.Option.{option_or};
+ghost use Rattle.std.specs.Str.{bytes_eq};
+ghost use Rattle.water_model.specs.Valid.{IsValidBasin};
+ghost use Rattle.result_reader.specs.Names.{count_in, name_in, named};
+ghost use Rattle.result_reader.specs.NamePlaces.{kept_at, KeepsNames};
+ghost use Rattle.result_reader.specs.declared.names.Space.TheVariants.{Nodes, Links, Reservoirs, Rights};
+
+use indexmap::IndexMap;
+use std::alloc::{AllocError, Global};
+use water_model::types::Basin;
+
+/// The entries among which a name is sought.
+#[derive(Clone, Copy)]
+pub enum Space {
+    Nodes,
+    Links,
+    /// Reservoirs, each by the name of its node.
+    Reservoirs,
+    Rights,
+}
+
+/// How many entries a space has.
+fn count_in(space: Space, basin: &Basin) -> u32
+    requires { IsValidBasin basin.now }
+    ensures { result ≡ count_in space basin.now }
+{
+    match space {
+        Space::Nodes => basin.nodes.len() as u32,
+        Space::Links => basin.links.len() as u32,
+        Space::Reservoirs => basin.reservoirs.len() as u32,
+        Space::Rights => basin.rights.len() as u32,
+    }
+}
+
+/// The name of an entry.
+fn name_in<'b>(space: Space, basin: &'b Basin, at: usize) -> &'b [u8]
+    requires basin { IsValidBasin basin.now }
+    requires at { at < count_in space basin.now }
+    ensures { result.now ≡ name_in space basin.now at }
+{
+    match space {
+        Space::Nodes => basin.nodes[at].name.bytes(),
+        Space::Links => basin.links[at].name.bytes(),
+        Space::Reservoirs => basin.nodes[basin.reservoirs[at].node as usize].name.bytes(),
+        Space::Rights => basin.rights[at].name.bytes(),
+    }
+}
+
+/// Adds the place of a name. A name that has a place keeps it.
+fn add_place<'b>(
+    places: &mut IndexMap<&'b [u8], u32>,
+    name: &'b [u8],
+    place: u32,
+) -> Result<(), AllocError>
+    ensures { OnOk result ((q : List ℕ) →
+        kept_at places.new q ≡ option_or (kept_at places.old q) (if bytes_eq q name.entry.now then Some place else None)) }
+{
+    if !places.contains_key(name) {
+        places.insert(name, place)?;
+    }
+    Ok(())
+}
+
+/// The place of each name of a space.
+fn places_of<'b>(
+    alloc: Global,
+    space: Space,
+    basin: &'b Basin,
+) -> Result<IndexMap<&'b [u8], u32>, AllocError>
+    requires { IsValidBasin basin.now }
+    ensures { IfOk result (λ places. KeepsNames places basin.now space) }
+{
+    let mut places = IndexMap::new(alloc);
+    let count = count_in(space, basin);
+    for at in 0..count {
+        add_place(&mut places, name_in(space, basin, at as usize), at)?;
+    }
+    Ok(places)
+}
+
+/// The names of a basin's entries, with the place of each in its space.
+#[derive(Drop)]
+pub struct Names<'b> {
+    pub basin: &'b Basin,
+    nodes: IndexMap<&'b [u8], u32>,
+    links: IndexMap<&'b [u8], u32>,
+    reservoirs: IndexMap<&'b [u8], u32>,
+    rights: IndexMap<&'b [u8], u32>,
+    ghost nodes_kept: { KeepsNames nodes basin.now Nodes },
+    ghost links_kept: { KeepsNames links basin.now Links },
+    ghost reservoirs_kept: { KeepsNames reservoirs basin.now Reservoirs },
+    ghost rights_kept: { KeepsNames rights basin.now Rights },
+}
+
+impl<'b> Names<'b> {
+    /// The names of this basin.
+    pub fn of(alloc: Global, basin: &'b Basin) -> Result<Names<'b>, AllocError>
+        requires { IsValidBasin basin.now }
+        ensures { IfOk result (λ names. names.basin.now ≡ basin.now) }
+    {
+        Ok(Names {
+            basin,
+            nodes: places_of(alloc, Space::Nodes, basin)?,
+            links: places_of(alloc, Space::Links, basin)?,
+            reservoirs: places_of(alloc, Space::Reservoirs, basin)?,
+            rights: places_of(alloc, Space::Rights, basin)?,
+        })
+    }
+
+    /// The place of the entry that has the name, or `None` where none has it.
+    pub fn named(&self, space: Space, name: &[u8]) -> Option<u32>
+        ensures value { result ≡ named self.now.basin.now space name.now }
+    {
+        match space {
+            Space::Nodes => self.nodes.get(name).copied(),
+            Space::Links => self.links.get(name).copied(),
+            Space::Reservoirs => self.reservoirs.get(name).copied(),
+            Space::Rights => self.rights.get(name).copied(),
+        }
+    }
+}

@@ -1,0 +1,89 @@
+//! How far a reader has come.
+ghost use Rattle.std.specs.Prelude.{◌≡◌, ◌<◌, ◌≤◌, length, false};
+ghost use Rattle.result_text.specs.Range.{IsOfBasin};
+ghost use Rattle.water_model.specs.Valid.{IsValidBasin};
+ghost use Rattle.water_model.specs.declared.item.Item.TheVariants as line;
+ghost use Rattle.result_reader.specs.Due as due;
+ghost use Rattle.result_reader.specs.Form as form;
+ghost use Rattle.result_reader.specs.Progress.{IsProgress, IsNextProgress};
+
+use crate::place::{Place, next_place};
+use crate::shape::{Shape, is_call};
+use water_model::item::Item;
+use water_model::types::Basin;
+
+/// The place among the lines that are due, and behind a `call` the first node whose `in` line may come, and whether one
+/// must.
+#[derive(Clone, Copy)]
+pub struct Progress {
+    pub place: Place,
+    pub next_member: Option<u32>,
+    pub must: bool,
+}
+
+/// The progress behind an `in` line of a node.
+fn next_member(basin: &Basin, dues: &[Shape], progress: Progress, node: u32) -> Option<Progress>
+    requires basin { IsValidBasin basin.now }
+    requires dues { dues.now ≡ form.due_in_month basin.now }
+    requires progress { IsProgress basin.now dues.now progress }
+    requires node { node < length basin.now.nodes }
+    ensures { IsNextProgress basin.now dues.now progress (line.Member node) result }
+{
+    let next = progress.next_member?;
+    if next <= node {
+        Some(Progress {
+            place: progress.place,
+            next_member: Some(node + 1),
+            must: false,
+        })
+    } else {
+        None
+    }
+}
+
+/// The progress behind a line that is no `in` line.
+fn next_other(basin: &Basin, dues: &[Shape], progress: Progress, item: &Item) -> Option<Progress>
+    requires basin { IsValidBasin basin.now }
+    requires dues { dues.now ≡ form.due_in_month basin.now }
+    requires progress { IsProgress basin.now dues.now progress }
+    requires item { IsOfBasin basin.now item.now }
+    requires other { due.is_member item.now ≡ false }
+    ensures { IsNextProgress basin.now dues.now progress item.now result }
+{
+    if progress.must {
+        return None;
+    }
+    let place = next_place(basin, dues, progress.place, item)?;
+    if is_call(item) {
+        Some(Progress {
+            place,
+            next_member: Some(0),
+            must: true,
+        })
+    } else {
+        Some(Progress {
+            place,
+            next_member: None,
+            must: false,
+        })
+    }
+}
+
+/// The progress behind a line, if the line may come.
+pub fn next_progress(
+    basin: &Basin,
+    dues: &[Shape],
+    progress: Progress,
+    item: &Item,
+) -> Option<Progress>
+    requires basin { IsValidBasin basin.now }
+    requires dues { dues.now ≡ form.due_in_month basin.now }
+    requires progress { IsProgress basin.now dues.now progress }
+    requires item { IsOfBasin basin.now item.now }
+    ensures { IsNextProgress basin.now dues.now progress item.now result }
+{
+    match *item {
+        Item::Member { node } => next_member(basin, dues, progress, node),
+        _ => next_other(basin, dues, progress, item),
+    }
+}

@@ -1,0 +1,120 @@
+//! The reader of a result text.
+ghost use Rattle.std.specs.Prelude.{◌≡◌, ◌+◌, ◌≤◌, ◌++◌, ◌∷◌, [], List, IfOk, OnOk, OnErr};
+ghost use Rattle.rights_roll.specs.Rolls.{IsRollOf};
+ghost use Rattle.water_model.specs.Spelling.{line_of};
+ghost use Rattle.water_model.specs.Valid.{IsValidBasin};
+ghost use Rattle.water_model.specs.declared.item.Item.{Item};
+ghost use Rattle.result_reader.specs.Form.{due, due_in_month};
+ghost use Rattle.result_reader.specs.OfText.{IsOfText};
+ghost use Rattle.result_reader.specs.Reading.{read_line};
+ghost use Rattle.result_reader.specs.Standing.{StandsFor, most_lines};
+
+use crate::bad_line::BadLine;
+use crate::dues::dues_of;
+use crate::names::Names;
+use crate::place::Place;
+use crate::progress::{Progress, next_progress};
+use crate::reading::item_of;
+use crate::shape::Shape;
+use rights_roll::roll::Roll;
+use std::alloc::{AllocError, Global};
+use std::marker::Model;
+use water_model::item::Item;
+use water_model::types::Basin;
+
+/// Reads the lines of a result text of one basin in order, and accepts those that may come.
+///
+/// It stands for the list of the lines that it accepted.
+#[derive(Drop)]
+pub struct ResultReader<'b> {
+    names: Names<'b>,
+    dues: Vec<Shape>,
+    progress: Progress,
+    left: u64,
+}
+
+impl<'b> Model for ResultReader<'b> {
+    ghost use Rattle.result_reader.specs.Progress.{due_of};
+    ghost use Rattle.result_reader.specs.Standing.{ReaderSeen, IsReader};
+
+    ghost Value = { ReaderSeen };
+
+    ghost view = { λ r. record { basin = r.names.basin.now; due = due_of r.names.basin.now r.dues.items r.progress; left = r.left } };
+
+    ghost invariant = { λ r. IsReader r.names.basin.now r.dues.items r.progress r.left };
+}
+
+/// How many lines a text may have at most, where these are due in each month.
+fn most_lines(basin: &Basin, dues: &[Shape]) -> u64
+    requires basin { IsValidBasin basin.now }
+    requires dues { dues.now ≡ due_in_month basin.now }
+    ensures { most_lines basin.now (due basin.now) ≤ result }
+{
+    let members = basin.rights.len() as u64 * basin.nodes.len() as u64;
+    let month = 1 + dues.len() as u64 + members;
+    u64::from(basin.months) * month + 3
+}
+
+impl<'b> ResultReader<'b> {
+    /// A reader that accepted no line yet. The roll is that of the basin's rights.
+    pub fn open(
+        alloc: Global,
+        basin: &'b Basin,
+        roll: &Roll,
+    ) -> Result<ResultReader<'b>, AllocError>
+        requires basin { IsValidBasin basin.now }
+        requires roll { IsRollOf basin.now.rights roll.now }
+        ensures basin { IfOk result (λ reader. reader.basin ≡ basin.now) }
+        ensures none { IfOk result (λ reader. StandsFor reader []) }
+    {
+        let names = Names::of(alloc, basin)?;
+        let dues = dues_of(alloc, basin, roll)?;
+        let left = most_lines(basin, &dues);
+        Ok(ResultReader {
+            names,
+            dues,
+            progress: Progress {
+                place: Place::Title,
+                next_member: None,
+                must: false,
+            },
+            left,
+        })
+    }
+
+    /// Takes the next line, without its line feed, and answers what it says by the numbers of the basin. Amounts are in
+    /// units of 1,000 cubic metres.
+    ///
+    /// A line is refused as `OverLong` where it has more than 128 bytes; else as `UnknownWord` where its first word is
+    /// none of a text's; else as `BadField` where its fields aren't those of its word, spelled as names, months, amounts
+    /// up to 10^15 or numbers of months from 1 to 1,200; and else as `OutOfPlace` exactly where it names what the basin
+    /// doesn't have, or the lines accepted so far and this one aren't the front of a whole text. A refused line changes
+    /// nothing. No memory is taken.
+    pub fn line(&mut self, text: &[u8]) -> Result<Item, BadLine>
+        ensures answer { (items : List Item) → StandsFor self.old items → result ≡ read_line self.old.basin items text.now }
+        ensures accepted { IfOk result (λ item. (items : List Item) → StandsFor self.old items → StandsFor self.new (items ++ item ∷ [])) }
+        ensures spelled { IfOk result (λ item. (text.now ≡ line_of self.old.basin item) × IsOfText self.old.basin item) }
+        ensures refused { OnErr result (self.new ≡ self.old) }
+        ensures basin { self.new.basin ≡ self.old.basin }
+        ensures left { OnOk result (self.new.left + 1 ≡ self.old.left) }
+    {
+        let item = item_of(&self.names, text)?;
+        match next_progress(self.names.basin, &self.dues, self.progress, &item) {
+            Some(progress) => {
+                self.progress = progress;
+                self.left -= 1;
+                Ok(item)
+            }
+            None => Err(BadLine::OutOfPlace),
+        }
+    }
+
+    /// An upper bound on the lines that may still be accepted: for each line that is due one, and for a `call` line one
+    /// more for each node. It falls by one with each accepted line.
+    pub fn lines_left(&self) -> u64
+        ensures value { result ≡ self.now.left }
+        ensures bound { most_lines self.now.basin self.now.due.dues ≤ result }
+    {
+        self.left
+    }
+}

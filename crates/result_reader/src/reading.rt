@@ -1,0 +1,155 @@
+//! What a line says.
+ghost use Rattle.std.specs.Prelude.{◌≡◌};
+ghost use Rattle.result_reader.specs.Reading as reading;
+ghost use Rattle.result_reader.specs.declared.words.Word.TheVariants as word;
+
+use crate::bad_line::BadLine;
+use crate::fields::{
+    amount_field, count_field, cut, month_field, name_field, no_field, one_field, three_fields,
+    two_fields,
+};
+use crate::names::{Names, Space};
+use crate::words::{Amount, Word};
+use water_model::item::Item;
+
+/// The entry that has the name. Where none has it, no such line may come.
+fn entry_named(names: &Names, space: Space, name: &[u8]) -> Result<u32, BadLine>
+    ensures { result ≡ reading.entry_named names.now.basin.now space name.now }
+{
+    names.named(space, name).ok_or(BadLine::OutOfPlace)
+}
+
+#[tactic(auto, unfolding(crate::specs::Reading::item_with))]
+fn title(names: &Names, rest: Option<&[u8]>) -> Result<Item, BadLine>
+    ensures { result ≡ reading.item_with names.now.basin.now word.Title (reading.pieces_behind rest.entry) }
+{
+    if one_field(rest)? == b"1".as_slice() {
+        Ok(Item::Title)
+    } else {
+        Err(BadLine::BadField)
+    }
+}
+
+#[tactic(auto, unfolding(crate::specs::Reading::item_with))]
+fn run(names: &Names, rest: Option<&[u8]>) -> Result<Item, BadLine>
+    ensures { result ≡ reading.item_with names.now.basin.now word.Run (reading.pieces_behind rest.entry) }
+{
+    let (first, months) = two_fields(rest)?;
+    let first = month_field(first)?;
+    let months = count_field(months)?;
+    Ok(Item::Run { first, months })
+}
+
+#[tactic(auto, unfolding(crate::specs::Reading::item_with))]
+fn month(names: &Names, rest: Option<&[u8]>) -> Result<Item, BadLine>
+    ensures { result ≡ reading.item_with names.now.basin.now word.Month (reading.pieces_behind rest.entry) }
+{
+    let month = month_field(one_field(rest)?)?;
+    Ok(Item::Month { month })
+}
+
+#[tactic(auto, unfolding(crate::specs::Reading::item_with))]
+fn amount(names: &Names, kind: Amount, rest: Option<&[u8]>) -> Result<Item, BadLine>
+    ensures { result ≡ reading.item_with names.now.basin.now (word.Amount kind) (reading.pieces_behind rest.entry) }
+{
+    let (name, amount) = two_fields(rest)?;
+    let name = name_field(name)?;
+    let amount = amount_field(amount)?;
+    let at = entry_named(names, kind.space(), name)?;
+    Ok(kind.item(at, amount))
+}
+
+#[tactic(auto, unfolding(crate::specs::Reading::item_with))]
+fn delivery(names: &Names, rest: Option<&[u8]>) -> Result<Item, BadLine>
+    ensures { result ≡ reading.item_with names.now.basin.now word.Deliver (reading.pieces_behind rest.entry) }
+{
+    let (name, amount, want) = three_fields(rest)?;
+    let name = name_field(name)?;
+    let amount = amount_field(amount)?;
+    let want = amount_field(want)?;
+    let right = entry_named(names, Space::Rights, name)?;
+    Ok(Item::Deliver {
+        right,
+        amount,
+        want,
+    })
+}
+
+#[tactic(auto, unfolding(crate::specs::Reading::item_with))]
+fn call(names: &Names, rest: Option<&[u8]>) -> Result<Item, BadLine>
+    ensures { result ≡ reading.item_with names.now.basin.now word.Call (reading.pieces_behind rest.entry) }
+{
+    let name = name_field(one_field(rest)?)?;
+    let right = entry_named(names, Space::Rights, name)?;
+    Ok(Item::Call { right })
+}
+
+#[tactic(auto, unfolding(crate::specs::Reading::item_with))]
+fn member(names: &Names, rest: Option<&[u8]>) -> Result<Item, BadLine>
+    ensures { result ≡ reading.item_with names.now.basin.now word.Member (reading.pieces_behind rest.entry) }
+{
+    let name = name_field(one_field(rest)?)?;
+    let node = entry_named(names, Space::Nodes, name)?;
+    Ok(Item::Member { node })
+}
+
+#[tactic(auto, unfolding(crate::specs::Reading::item_with))]
+fn called(names: &Names, rest: Option<&[u8]>) -> Result<Item, BadLine>
+    ensures { result ≡ reading.item_with names.now.basin.now word.Called (reading.pieces_behind rest.entry) }
+{
+    let (name, other) = two_fields(rest)?;
+    let name = name_field(name)?;
+    let other = name_field(other)?;
+    let right = entry_named(names, Space::Rights, name)?;
+    let by = entry_named(names, Space::Rights, other)?;
+    Ok(Item::Called { right, by })
+}
+
+#[tactic(auto, unfolding(crate::specs::Reading::item_with))]
+fn done(names: &Names, rest: Option<&[u8]>) -> Result<Item, BadLine>
+    ensures { result ≡ reading.item_with names.now.basin.now word.Done (reading.pieces_behind rest.entry) }
+{
+    let months = count_field(one_field(rest)?)?;
+    Ok(Item::Done { months })
+}
+
+#[tactic(auto, unfolding(crate::specs::Reading::item_with))]
+fn end(names: &Names, rest: Option<&[u8]>) -> Result<Item, BadLine>
+    ensures { result ≡ reading.item_with names.now.basin.now word.End (reading.pieces_behind rest.entry) }
+{
+    no_field(rest)?;
+    Ok(Item::End)
+}
+
+/// What a line of this word says, with the fields behind it.
+fn item_with(names: &Names, word: Word, rest: Option<&[u8]>) -> Result<Item, BadLine>
+    ensures { result ≡ reading.item_with names.now.basin.now word (reading.pieces_behind rest.entry) }
+{
+    match word {
+        Word::Title => title(names, rest),
+        Word::Run => run(names, rest),
+        Word::Month => month(names, rest),
+        Word::Amount(kind) => amount(names, kind, rest),
+        Word::Deliver => delivery(names, rest),
+        Word::Call => call(names, rest),
+        Word::Member => member(names, rest),
+        Word::Called => called(names, rest),
+        Word::End => end(names, rest),
+        Word::Done => done(names, rest),
+    }
+}
+
+/// What a line says, whatever stands before it.
+#[tactic(auto, unfolding(crate::specs::Reading::item_of))]
+pub fn item_of(names: &Names, text: &[u8]) -> Result<Item, BadLine>
+    ensures { result ≡ reading.item_of names.now.basin.now text.now }
+{
+    if text.len() > 128 {
+        return Err(BadLine::OverLong);
+    }
+    let (first, rest) = cut(text);
+    match Word::of(first) {
+        Some(word) => item_with(names, word, rest),
+        None => Err(BadLine::UnknownWord),
+    }
+}
