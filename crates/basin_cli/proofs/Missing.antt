@@ -1,12 +1,12 @@
 -- A missing amount is one of a month of the run and of a node.
-use Rattle.std.proofs.Common.{◌≡◌, ℕ, zero, suc, ◌+◌, ◌*◌, ◌/◌, ◌%◌, ◌<◌, ◌≤◌, Bool, true, false, refl, sym, ◌∙◌, ap, subst, arith, List, [], ◌∷◌, ◌++◌, length, get_or, filter, Option, Some, None, if◌then◌else◌, option_map}
+use Rattle.std.proofs.Common.{◌≡◌, ℕ, zero, suc, ◌+◌, ◌/◌, ◌%◌, ◌<◌, ◌≤◌, Bool, true, false, refl, sym, ◌∙◌, ap, subst, arith, List, [], ◌∷◌, ◌++◌, length, get_or, filter, Option, Some, None, if◌then◌else◌, option_map}
 use Rattle.std.specs.Prelude.{not, is_some, slice_get, ◌&&◌, nat_le}
 use Rattle.std.specs.List.{find}
-use Rattle.std.specs.Option.{option_or, option_and_then}
+use Rattle.std.specs.Option.{option_or}
 use Rattle.water_text.specs.Months.{IsMonth}
 use Rattle.water_text.specs.declared.month.Month.{Month}
 use Rattle.water_model.specs.Hydrology.{run_month}
-use Rattle.water_model.specs.Places.{numbers_from, places_of}
+use Rattle.water_model.specs.Places.{numbers_from}
 use Rattle.water_model.specs.Valid.{IsValidBasin, IsValidNode, gauged_nodes, is_gauged}
 use Rattle.water_model.specs.declared.types.Basin.{Basin}
 use Rattle.water_model.specs.declared.types.Node.{Node}

@@ -37,7 +37,6 @@ fault_name_short fault.TableEmpty = omega arith
 fault_name_short fault.TableFirst = omega arith
 fault_name_short fault.TableRising = omega arith
 fault_name_short fault.TableArea = omega arith
-fault_name_short fault.NotBuilt = omega arith
 
 pub table_name_short : (t : BasinTable) → length (table_name t) ≤ 20
 table_name_short table.Top = omega arith

@@ -12,12 +12,11 @@ use Rattle.basin_cli.specs.declared.status.Status.{Status}
 use Rattle.basin_cli.specs.declared.status.Status.TheVariants as its
 use Rattle.basin_cli.specs.declared.ending.Ending.{Ending}
 use Rattle.basin_cli.specs.declared.ending.Ending.TheVariants.{Done, Usage, BasinRefused, SeriesRefused, ReadFault, WriteFault, OutOfMemory, InputTooLong}
-use Rattle.basin_cli.specs.declared.ending.File.{File}
 use Rattle.basin_cli.specs.declared.ending.File.TheVariants as file
 use Rattle.basin_cli.specs.declared.ending.SeriesFinding.{SeriesFinding}
-use Rattle.basin_cli.specs.Command.{Command, Files, run}
+use Rattle.basin_cli.specs.Command.{Command, run}
 use Rattle.basin_cli.specs.Ending.{line_of, status_of, finding_of}
-use Rattle.basin_cli.specs.Outcome.{IsGoodBasin, IsGoodSeries, IsRefusedFor, IsSeriesRefusedFor, IsTooLong, BehindBasin, EndingHasCause, Completes, IsQuiet, Tells}
+use Rattle.basin_cli.specs.Outcome.{IsGoodBasin, IsGoodSeries, IsRefusedFor, IsSeriesRefusedFor, IsTooLong, EndingHasCause, Completes, IsQuiet, Tells}
 
 -- bytes spell one basin
 pub one_basin : (bytes : List ℕ) (b c : Basin) → Spells bytes b → Spells bytes c → b ≡ c

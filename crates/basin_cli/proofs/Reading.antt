@@ -1,6 +1,6 @@
 -- How the reading of a series ends.
-use Rattle.std.proofs.Common.{◌≡◌, ℕ, ◌≤◌, List, length, Option, Some, None, arith}
-use Rattle.std.specs.Prelude.{IfOk, IfErr, Result, Ok, Err, IfSome}
+use Rattle.std.proofs.Common.{ℕ, ◌≤◌, List, length, Some, arith}
+use Rattle.std.specs.Prelude.{IfErr, Result, Ok, Err}
 use Rattle.water_model.specs.declared.types.Basin.{Basin}
 use Rattle.water_model.specs.declared.types.Inflows.{Inflows}
 use Rattle.basin_cli.specs.declared.ending.Ending.{Ending}

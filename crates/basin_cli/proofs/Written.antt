@@ -1,5 +1,5 @@
 -- What a run that ended leaves on out.
-use Rattle.std.proofs.Common.{◌≡◌, ℕ, refl, sym, ◌∙◌, ap, subst, List, [], Option, Some, None}
+use Rattle.std.proofs.Common.{◌≡◌, ℕ, refl, subst, List, Option, Some, None}
 use Rattle.std.specs.Prelude.{IfSome}
 use Rattle.basin_file.specs.BasinFaults.{Spells}
 use Rattle.water_model.specs.Valid.{IsSeriesOf}

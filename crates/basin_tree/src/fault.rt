@@ -49,8 +49,6 @@ pub enum BasinFault {
     TableRising,
     /// An area of an area table is below the one before.
     TableArea,
-    /// This edition doesn't run what the table holds.
-    NotBuilt,
 }
 
 impl BasinFault {
@@ -82,7 +80,6 @@ impl BasinFault {
             BasinFault::TableFirst => "TableFirst",
             BasinFault::TableRising => "TableRising",
             BasinFault::TableArea => "TableArea",
-            BasinFault::NotBuilt => "NotBuilt",
         }
     }
 }

@@ -1,4 +1,4 @@
-use Rattle.std.proofs.Common.{arith, ap, length, codes}
+use Rattle.std.proofs.Common.{arith, ap, length}
 use Rattle.basin_cli.proofs.Names.{grown, file_name_short}
 use Rattle.basin_cli.proofs.ending.put_file.Goals as goal
 

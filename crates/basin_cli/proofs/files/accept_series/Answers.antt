@@ -1,4 +1,4 @@
-use Rattle.std.proofs.Common.{◌≡◌, sym, ◌∙◌, subst}
+use Rattle.std.proofs.Common.{sym, ◌∙◌, subst}
 use Rattle.inflow_file.specs.SeriesFaults.{IsSeriesRefusal}
 use Rattle.basin_cli.proofs.Missing.{told_within, name_there, never_none, read_short}
 use Rattle.basin_cli.proofs.files.accept_series.Goals as goal

@@ -1,4 +1,3 @@
-use Rattle.std.proofs.Common.{◌≡◌, arith, sym, ◌∙◌}
 use Rattle.basin_cli.specs.Header.{header}
 use Rattle.basin_cli.proofs.Reading.{refused_result, header_short}
 use Rattle.basin_cli.proofs.files.read_series.Goals as goal

@@ -1,6 +1,5 @@
-use Rattle.std.proofs.Common.{◌≡◌, ◌∙◌, sym, ap, subst, Some}
+use Rattle.std.proofs.Common.{◌∙◌, sym, ap}
 use Rattle.std.specs.Prelude.{option_map}
-use Rattle.basin_file.specs.BasinFaults.{Spells}
 use Rattle.basin_cli.specs.Command.{named, run}
 use Rattle.basin_cli.proofs.Written.{writes}
 use Rattle.basin_cli.proofs.top.decide.Goals as goal

@@ -1,4 +1,4 @@
-use Rattle.std.proofs.Common.{◌≡◌, ◌∙◌, sym, subst}
+use Rattle.std.proofs.Common.{◌∙◌, sym, subst}
 use Rattle.result_text.specs.Range.{FitsText}
 use Rattle.basin_cli.proofs.Drafting.{last_fits, month_drafted}
 use Rattle.basin_cli.proofs.writing.draft_month.Goals as goal

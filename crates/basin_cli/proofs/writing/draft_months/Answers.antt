@@ -1,4 +1,3 @@
-use Rattle.std.proofs.Common.{◌+◌, ◌*◌, ◌≤◌, arith}
 use Rattle.basin_cli.proofs.Drafting.{within_run}
 use Rattle.basin_cli.proofs.writing.draft_months.Goals as goal
 

@@ -1,4 +1,3 @@
-use Rattle.std.proofs.Common.{◌≡◌, ◌∙◌, sym, refl, arith}
 use Rattle.basin_cli.proofs.Drafting.{first_drafted, whole_run}
 use Rattle.basin_cli.proofs.writing.draft_run.Goals as goal
 
