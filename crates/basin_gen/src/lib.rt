@@ -2,9 +2,13 @@
 #![tactic(auto)]
 
 mod draws;
-mod make;
 mod names;
 mod network;
 mod reservoirs;
 mod rights;
+#[cfg(test)]
+mod tests;
 mod turns;
+mod whole;
+
+pub use whole::make;

@@ -1,5 +1,5 @@
 use Rattle.basin_gen.proofs.Validity.{no_series}
-use Rattle.basin_gen.proofs.make.make.Goals as goal
+use Rattle.basin_gen.proofs.whole.make.Goals as goal
 
 pub returns-clause-series : goal.returns-clause-series
 returns-clause-series c =

@@ -1,6 +1,6 @@
 use Rattle.std.proofs.Common.{◌∙◌}
 use Rattle.basin_gen.proofs.Assembly.{assembled}
-use Rattle.basin_gen.proofs.make.basin.Goals as goal
+use Rattle.basin_gen.proofs.whole.basin.Goals as goal
 
 pub returns : goal.returns
 returns c = assembled c.args.number c.args.size c.new-draws.result.state c.nodes.new.draws.state c.links.new.draws.state c.reservoirs.new.draws.state
