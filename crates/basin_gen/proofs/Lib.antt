@@ -7,3 +7,4 @@ pub mod Lists
 pub mod NetworkLaws
 pub mod Validity
 pub mod RightsLaws
+pub mod CountLaws

@@ -49,16 +49,25 @@ draws_of_turns k = 3 * k + 3 * ((k + 3) / 4)
 abbrev pub turn_of_diversion : ℕ → ℕ
 turn_of_diversion d = d + d / 3
 
+abbrev pub count_of_diversions : ℕ → ℕ
+count_of_diversions turns = turns - turns / 4
+
+abbrev pub count_of_instreams : ℕ → ℕ
+count_of_instreams turns = turns / 4
+
+abbrev pub count_of_returns : ℕ → ℕ
+count_of_returns turns = (turns + 3) / 4
+
 abbrev pub diversions_in : ℕ → ℕ → ℕ → List Right
 diversions_in size x turns =
-    list_of (turns - turns / 4) (λ d. diversion_at size (turn_of_diversion d) (later x (draws_of_turns (turn_of_diversion d))))
+    list_of (count_of_diversions turns) (λ d. diversion_at size (turn_of_diversion d) (later x (draws_of_turns (turn_of_diversion d))))
 
 abbrev pub instreams_in : ℕ → ℕ → ℕ → List Right
-instreams_in size x turns = list_of (turns / 4) (λ j. instream_at size (4 * j + 3) (later x (draws_of_turns (4 * j + 3))))
+instreams_in size x turns = list_of (count_of_instreams turns) (λ j. instream_at size (4 * j + 3) (later x (draws_of_turns (4 * j + 3))))
 
 -- of four turns three make a diversion, so that of turn 4 j is diversion 3 j
 abbrev pub returns_in : ℕ → ℕ → ℕ → List ReturnRow
-returns_in size x turns = list_of ((turns + 3) / 4) (λ j. return_at size (3 * j) (later x (draws_of_turns (4 * j) + 3)))
+returns_in size x turns = list_of (count_of_returns turns) (λ j. return_at size (3 * j) (later x (draws_of_turns (4 * j) + 3)))
 
 unfoldable pub diversions_of : ℕ → ℕ → List Right
 diversions_of size x = diversions_in size x (count_of_turns size)

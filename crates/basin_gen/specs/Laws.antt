@@ -1,5 +1,5 @@
 -- How many entries and draws there are.
-use Rattle.std.specs.Prelude.{◌≡◌, ℕ, ◌+◌, ◌-◌, ◌*◌, ◌/◌, ◌%◌, ◌≤◌, ◌==◌, not, if◌then◌else◌}
+use Rattle.std.specs.Prelude.{◌≡◌, ℕ, ◌-◌, ◌%◌, ◌≤◌, ◌==◌, false, not, if◌then◌else◌}
 use Rattle.place_sums.specs.Sums.{total, count_where}
 use Rattle.basin_gen.specs.Generator.{draws_of_node, draws_of_nodes, draws_of_turns, count_of_canals, count_of_reservoirs, count_of_diversions, count_of_instreams, count_of_returns, turn_of_diversion}
 
@@ -13,5 +13,6 @@ pub record CountsAreOfPlaces : Type 0 where
   pub instreams : (turns : ℕ) → count_of_instreams turns ≡ count_where turns (λ k. k % 4 == 3)
   pub returns : (turns : ℕ) → count_of_returns turns ≡ count_where turns (λ k. k % 4 == 0)
   pub turn : (d : ℕ) → count_where (turn_of_diversion d) (λ k. not (k % 4 == 3)) ≡ d
+  pub makes : (d : ℕ) → (turn_of_diversion d % 4 == 3) ≡ false
   pub node_draws : (i : ℕ) → draws_of_nodes i ≡ total i draws_of_node
   pub turn_draws : (k : ℕ) → draws_of_turns k ≡ total k (λ t. if t % 4 == 0 then 6 else 3)

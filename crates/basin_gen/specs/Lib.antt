@@ -1,3 +1,4 @@
 pub mod Draws
 pub mod Entries
 pub mod Generator
+pub mod Laws

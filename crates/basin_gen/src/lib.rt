@@ -2,6 +2,7 @@
 #![tactic(auto)]
 
 mod draws;
+pub mod laws;
 mod names;
 mod network;
 mod reservoirs;
