@@ -3,9 +3,9 @@ use Rattle.std.specs.Prelude.{◌≡◌, ℕ, ◌-◌, ◌%◌, ◌≤◌, ◌==
 use Rattle.place_sums.specs.Sums.{total, count_where}
 use Rattle.basin_gen.specs.Generator.{draws_of_node, draws_of_nodes, draws_of_turns, count_of_canals, count_of_reservoirs, count_of_diversions, count_of_instreams, count_of_returns, turn_of_diversion}
 
--- nodes but the last have canals and reservoirs by their numbers, and turns make a diversion, an instream right or a return row by
--- theirs; diversion d is the one that so many turns before its own leave; and all draws before a node or turn are those of the
--- nodes or turns before it
+-- each node but the last whose number passes has a canal or a reservoir; each turn whose number passes makes a diversion, an
+-- instream right or a return row; the turn of diversion d is one that makes a diversion, and d turns before it do; the draws
+-- before a node or turn are those of all nodes or turns before it
 pub record CountsAreOfPlaces : Type 0 where
   pub canals : (size : ℕ) → 1 ≤ size → count_of_canals size ≡ count_where (size - 1) (λ i. i % 4 == 1)
   pub reservoirs : (size : ℕ) → 1 ≤ size → count_of_reservoirs size ≡ count_where (size - 1) (λ i. i % 40 == 20)

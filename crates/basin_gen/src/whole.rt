@@ -25,13 +25,14 @@ fn links(alloc: Global, size: u32, draws: &mut Draws) -> Result<Vec<Link>, Alloc
     Ok(links)
 }
 
-/// All rights, in the order of their kinds, and the return rows.
+/// Rights, in the order of their kinds, and return rows.
 #[derive(Drop)]
 struct Roll {
     rights: Vec<Right>,
     returns: Vec<ReturnRow>,
 }
 
+/// All rights and return rows.
 fn rights(alloc: Global, size: u32, draws: &mut Draws) -> Result<Roll, AllocError>
     requires some { 2 ≤ size }
     requires size { size ≤ 2000 }
@@ -50,6 +51,7 @@ fn rights(alloc: Global, size: u32, draws: &mut Draws) -> Result<Roll, AllocErro
     Ok(Roll { rights, returns })
 }
 
+/// The basin alone.
 fn basin(alloc: Global, number: u32, size: u32) -> Result<Basin, AllocError>
     requires some { 2 ≤ size }
     requires size { size ≤ 2000 }
@@ -76,10 +78,10 @@ fn basin(alloc: Global, number: u32, size: u32) -> Result<Basin, AllocError>
     })
 }
 
-/// The basin of a number and a size, the number of its nodes, with no gauge and so no series. Every basin that it makes
-/// is valid; the same number and size make the same basin. Its run is 60 months from October 1950.
+/// The basin of a number with `size` nodes, 2 to 2,000, and its series, which is empty because no node is gauged. The basin is
+/// valid, and one number and size always make the same one. Its run is 60 months from October 1950.
 ///
-/// `AllocError` comes where memory runs out.
+/// `AllocError` comes only where memory runs out, and then nothing is left.
 #[tactic(auto, using(crate::proofs::Validity::generated_valid, crate::proofs::Validity::no_series))]
 pub fn make(alloc: Global, number: u32, size: u32) -> Result<(Basin, Inflows), AllocError>
     requires some { 2 ≤ size }
