@@ -1,0 +1,10 @@
+pub mod DrawLaws
+pub mod NameLaws
+pub mod TurnLaws
+pub mod Places
+pub mod Assembly
+pub mod Lists
+pub mod NetworkLaws
+pub mod Validity
+pub mod RightsLaws
+pub mod CountLaws

@@ -1,0 +1,4 @@
+pub mod Draws
+pub mod Entries
+pub mod Generator
+pub mod Laws
