@@ -1,2 +1,4 @@
 pub mod Examples
 mod Ordinary
+pub mod Rows
+pub mod Sections
