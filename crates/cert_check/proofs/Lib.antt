@@ -2,3 +2,4 @@ pub mod Examples
 mod Ordinary
 pub mod Rows
 pub mod Sections
+pub mod Calls
