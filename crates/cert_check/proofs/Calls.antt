@@ -248,3 +248,70 @@ calls_good b series m right (r ∷ rs) o below t c = by_test (is_short m r) refl
         apart : (s : ℕ) → (Has rs s → ⊥) → (s ≡ r → ⊥) → Has (r ∷ rs) s → ⊥
         apart s none other (inl is) = other is
         apart s none other (inr h) = none h
+
+-- The converse: what `call` lines say that are not refuted.
+
+-- the set that is open before some calls is settled by the first of them, or behind them
+settled_before : (b : Basin) (series : Inflows) (cut : ℕ → Option (List Bool)) (xs : List ℕ) (t : Told) → AreGood b series t (flat_map (λ r. call_items r (cut r)) xs) →
+    IsSettled b series (fold (tell b series) t (flat_map (λ r. call_items r (cut r)) xs)) → IsSettled b series t
+settled_before b series cut [] t g h = h
+settled_before b series cut (r ∷ rs) t g h = by_set (cut r) (settled_before b series cut rs t) g h
+  where
+    by_set : (o : Option (List Bool)) → (AreGood b series t (flat_map (λ r. call_items r (cut r)) rs) →
+        IsSettled b series (fold (tell b series) t (flat_map (λ r. call_items r (cut r)) rs)) → IsSettled b series t) →
+        AreGood b series t (call_items r o ++ flat_map (λ r. call_items r (cut r)) rs) →
+        IsSettled b series (fold (tell b series) t (call_items r o ++ flat_map (λ r. call_items r (cut r)) rs)) → IsSettled b series t
+    by_set None further g h = further g h
+    by_set (Some set) further g h = settled b series t (line.Call r) refl g.0.0
+
+pub calls_told : (b : Basin) (series : Inflows) (m : MonthRecord) → ((r : ℕ) (set : List Bool) → cut_of m r ≡ Some set → length set ≡ length b.nodes) →
+    (xs : List ℕ) → ((r : ℕ) → Has xs r → r < length b.rights) → (t : Told) → Sees b series m t.now → AreGood b series t (flat_map (λ r. call_items r (cut_of m r)) xs) →
+    IsSettled b series (fold (tell b series) t (flat_map (λ r. call_items r (cut_of m r)) xs)) →
+    (r : ℕ) (set : List Bool) → Has xs r → cut_of m r ≡ Some set → (is_short m r ≡ true) × (is_tight b m r set ≡ true)
+calls_told b series m sized [] below t s g h r set k e = absurd k
+calls_told b series m sized (x ∷ xs) below t s g h r set k e =
+    by_set (cut_of m x) refl g h (λ u v a c l. calls_told b series m sized xs (λ y z. below y (inr z)) u v a c r set l e)
+  where
+    Answer : Type 0
+    Answer = (is_short m r ≡ true) × (is_tight b m r set ≡ true)
+
+    others : List Item
+    others = flat_map (λ r. call_items r (cut_of m r)) xs
+
+    Further : Type 0
+    Further = (u : Told) → Sees b series m u.now → AreGood b series u others → IsSettled b series (fold (tell b series) u others) → Has xs r → Answer
+
+    by_set : (o : Option (List Bool)) → cut_of m x ≡ o → AreGood b series t (call_items x o ++ others) →
+        IsSettled b series (fold (tell b series) t (call_items x o ++ others)) → Further → Answer
+    by_set None free a c further = by_place k
+      where
+        by_place : Has (x ∷ xs) r → Answer
+        by_place (inl is) = let never : None ≡ Some set = sym free ∙ (ap (cut_of m) (sym is) ∙ e) in cc
+        by_place (inr l) = further t s a c l
+    by_set (Some own) held a c further = by_place k
+      where
+        told : fold (tell b series) t (call_items x (Some own)) ≡ behind_call t x own
+        told = tell_call b series x own t (omega (arith, below x (inl refl), s.sets)) (sized x own held)
+
+        rest : AreGood b series (behind_call t x own) others
+        rest = rw (← told) (good_rest b series t (call_items x (Some own)) others a)
+
+        ended : IsSettled b series (fold (tell b series) (behind_call t x own) others)
+        ended = rw (← told, ← fold-both (tell b series) t (call_items x (Some own)) others) c
+
+        sees : Sees b series m (put_cut t x own).now
+        sees = sees_more b series m t x own s
+
+        not_met : (p : Bool) → not p ≡ false → p ≡ true
+        not_met true q = refl
+        not_met false q = clash q
+
+        by_place : Has (x ∷ xs) r → Answer
+        by_place (inl is) =
+            let same : Some own ≡ Some set = sym held ∙ (ap (cut_of m) (sym is) ∙ e) in
+            let eq : own ≡ set = cc in
+            let settled_now = settled_before b series (λ r. cut_of m r) xs (behind_call t x own) rest ended x refl in
+            let short : is_short t.now x ≡ true = not_met (is_short t.now x) (a.0.1.1.0) in
+            let tight = sym (told_tight b series m (put_cut t x own).now x own sees (set_here t.now.cuts x (Some own) (omega (arith, below x (inl refl), s.sets)))) ∙ settled_now in
+            (ap (is_short m) is ∙ (sym (told_short b series m t.now x s) ∙ short), rw (is, ← eq) tight)
+        by_place (inr l) = further (behind_call t x own) sees rest ended l

@@ -3,3 +3,4 @@ mod Ordinary
 pub mod Rows
 pub mod Sections
 pub mod Calls
+pub mod Callers
