@@ -4,3 +4,4 @@ pub mod Rows
 pub mod Sections
 pub mod Calls
 pub mod Callers
+pub mod Outflows
