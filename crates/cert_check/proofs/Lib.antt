@@ -5,3 +5,4 @@ pub mod Sections
 pub mod Calls
 pub mod Callers
 pub mod Outflows
+pub mod Month
