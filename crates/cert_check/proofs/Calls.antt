@@ -153,7 +153,7 @@ pub record HasRightSets (b : Basin) (m : MonthRecord) : Type 0 where
   pub met : (r : ℕ) → r < length b.rights → is_short m r ≡ false → cut_of m r ≡ None
 
 -- what is told behind a right's call
-sees_more : (b : Basin) (series : Inflows) (m : MonthRecord) (t : Told) (r : ℕ) (set : List Bool) → Sees b series m t.now → Sees b series m (put_cut t r set).now
+pub sees_more : (b : Basin) (series : Inflows) (m : MonthRecord) (t : Told) (r : ℕ) (set : List Bool) → Sees b series m t.now → Sees b series m (put_cut t r set).now
 sees_more b series m t r set s = record {
   month = s.month;
   delivered = s.delivered;

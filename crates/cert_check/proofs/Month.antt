@@ -25,7 +25,7 @@ use Rattle.cert_check.specs.Checking.{is_short, balances, callers_due, caller_du
 use Rattle.cert_check.proofs.Rows.{NoneHolds, AreGood, Section, section_good, good_section, section_keeps, good_both, good_first, good_rest}
 use Rattle.cert_check.proofs.Sections as section
 use Rattle.cert_check.proofs.Outflows.{IsInBalance, outlets_rise, outflows_good, outflows_told}
-use Rattle.cert_check.proofs.Calls.{Sees, IsSettled, Calling, HasRightSets, calls_good, calls_told, behind_call}
+use Rattle.cert_check.proofs.Calls.{Sees, IsSettled, Calling, HasRightSets, sees_more, calls_good, calls_told, behind_call}
 use Rattle.cert_check.proofs.Callers.{Callers, AllCalled, Behind, IsPast, called_line, called_lines, called_good, called_told, same_callers, settled_called, closings, end_good, closing_past, end_past}
 
 -- what stands behind some lines of a month: no open call, the months before, and the month so far
@@ -138,3 +138,149 @@ out_stage : (b : Basin) (series : Inflows) (before : List MonthRecord) (m : Mont
 out_stage b series before m a t at =
     stage b series before (with_deliver b m) (with_out b m) (λ x. line.Outflow x (slice_index m.plan.out x)) (outlets b) _ (λ x t. refl) (λ x t. refl) (makes_outflows b series (λ x. slice_index m.plan.out x) (outlets b)) (rw a.out refl) t at
 
+-- the lines of a month's calls, of its callers, and those behind them
+abbrev pub call_lines : Basin → MonthRecord → List Item
+call_lines b m = flat_map (λ r. call_items r (cut_of m r)) (seniors_first b)
+
+abbrev pub closing_lines : Basin → MonthRecord → List Item
+closing_lines b m = map (λ x. line.Closing x (slice_index m.closing x)) (places_of b.reservoirs)
+
+abbrev pub due_lines : List (ℕ × ℕ) → List Item
+due_lines dues = map called_line dues
+
+-- the lines of a month behind its `month` line
+abbrev pub inner_lines : Basin → MonthRecord → List (ℕ × ℕ) → List Item
+inner_lines b m dues =
+    opening_lines b m ++ (evaporated_lines b m ++ (returned_lines b m ++ (used_lines b m ++ (flow_lines b m ++ (deliver_lines b m ++ (out_lines b m
+    ++ (call_lines b m ++ (due_lines dues ++ (closing_lines b m ++ line.End ∷ [])))))))))
+
+pub month_lines : (b : Basin) (m : MonthRecord) (caller_of : ℕ → Option ℕ) →
+    flat_map (λ section. section) (month_sections b m caller_of) ≡ line.Month m.month ∷ inner_lines b m (flat_map (λ r. caller_due r (caller_of r)) (seniors_first b))
+unfolding month_sections
+month_lines b m caller_of =
+    ap (λ xs. line.Month m.month ∷ (opening_lines b m ++ (evaporated_lines b m ++ (returned_lines b m ++ (used_lines b m ++ (flow_lines b m ++ (deliver_lines b m ++ (out_lines b m
+    ++ (call_lines b m ++ (xs ++ (closing_lines b m ++ line.End ∷ []))))))))))) (called_lines caller_of (seniors_first b))
+
+abbrev pub behind_opening : Basin → Inflows → MonthRecord → Told → Told
+behind_opening b series m t = fold (tell b series) t (opening_lines b m)
+
+abbrev pub behind_evaporated : Basin → Inflows → MonthRecord → Told → Told
+behind_evaporated b series m t = fold (tell b series) (behind_opening b series m t) (evaporated_lines b m)
+
+abbrev pub behind_returned : Basin → Inflows → MonthRecord → Told → Told
+behind_returned b series m t = fold (tell b series) (behind_evaporated b series m t) (returned_lines b m)
+
+abbrev pub behind_used : Basin → Inflows → MonthRecord → Told → Told
+behind_used b series m t = fold (tell b series) (behind_returned b series m t) (used_lines b m)
+
+abbrev pub behind_flow : Basin → Inflows → MonthRecord → Told → Told
+behind_flow b series m t = fold (tell b series) (behind_used b series m t) (flow_lines b m)
+
+abbrev pub behind_deliver : Basin → Inflows → MonthRecord → Told → Told
+behind_deliver b series m t = fold (tell b series) (behind_flow b series m t) (deliver_lines b m)
+
+abbrev pub behind_out : Basin → Inflows → MonthRecord → Told → Told
+behind_out b series m t = fold (tell b series) (behind_deliver b series m t) (out_lines b m)
+
+abbrev pub behind_calls : Basin → Inflows → MonthRecord → Told → Told
+behind_calls b series m t = fold (tell b series) (behind_out b series m t) (call_lines b m)
+
+abbrev pub behind_called : Basin → Inflows → MonthRecord → List (ℕ × ℕ) → Told → Told
+behind_called b series m dues t = fold (tell b series) (behind_calls b series m t) (due_lines dues)
+
+abbrev pub behind_closing : Basin → Inflows → MonthRecord → List (ℕ × ℕ) → Told → Told
+behind_closing b series m dues t = fold (tell b series) (behind_called b series m dues t) (closing_lines b m)
+
+-- what stands behind each of the sections
+pub record Stages (b : Basin) (series : Inflows) (before : List MonthRecord) (m : MonthRecord) (t : Told) : Type 0 where
+  pub opening : At b before (with_opening b m) (behind_opening b series m t)
+  pub evaporated : At b before (with_evaporated b m) (behind_evaporated b series m t)
+  pub returned : At b before (with_returned b m) (behind_returned b series m t)
+  pub used : At b before (with_used b m) (behind_used b series m t)
+  pub flow : At b before (with_flow b m) (behind_flow b series m t)
+  pub deliver : At b before (with_deliver b m) (behind_deliver b series m t)
+  pub out : At b before (with_out b m) (behind_out b series m t)
+
+stages : (b : Basin) (series : Inflows) (before : List MonthRecord) (m : MonthRecord) → IsAllTold b series m → (t : Told) → At b before (begun b m) t →
+    Stages b series before m t
+stages b series before m a t at =
+    let s0 = opening_stage b series before m a t at in
+    let s1 = evaporated_stage b series before m a (behind_opening b series m t) s0 in
+    let s2 = returned_stage b series before m a (behind_evaporated b series m t) s1 in
+    let s3 = used_stage b series before m a (behind_returned b series m t) s2 in
+    let s4 = flow_stage b series before m a (behind_used b series m t) s3 in
+    let s5 = deliver_stage b series before m a (behind_flow b series m t) s4 in
+    let s6 = out_stage b series before m a (behind_deliver b series m t) s5 in
+    record {
+      opening = s0;
+      evaporated = s1;
+      returned = s2;
+      used = s3;
+      flow = s4;
+      deliver = s5;
+      out = s6;
+    }
+
+-- what a month's record has to keep, by the records before it, so that its lines are not refuted
+pub record IsGoodMonth (b : Basin) (series : Inflows) (before : List MonthRecord) (m : MonthRecord) : Type 0 where
+  pub opening : (x : ℕ) → Has (places_of b.reservoirs) x → slice_index m.opening x ≡ slice_index (opening_after b before) x
+  pub evaporated : (x : ℕ) → Has (places_of b.reservoirs) x → slice_index m.evaporated x
+      ≡ of_entry b.reservoirs x (λ r. evaporation r.area (slice_index m.opening x) (slice_index r.rate (in_year b m.index))) 0
+  pub returned : (x : ℕ) → Has (return_nodes b) x → slice_index m.returned x ≡ returned_at b (map (λ k. k.delivered) before) x m.index
+  pub used : (x : ℕ) → Has (rights_with_volume b) x → slice_index m.used x ≡ used_of b (map (λ k. k.delivered) before) x m.index
+  pub flow : (x : ℕ) → Has (places_of b.links) x → nat_lt (carry_of b m.month x) (slice_index m.plan.flow x) ≡ false
+  pub deliver : (x : ℕ) → Has (seniors_first b) x → (slice_index m.want x ≡ want_of b series x m.index (slice_index m.used x))
+      × (amount_wrong (instream_link b x) m.plan.flow (slice_index m.delivered x) (slice_index m.want x) ≡ false)
+  pub balance : (n : ℕ) → n < length b.nodes → balances b m n ≡ true
+  pub sets : HasRightSets b m
+  pub closing : (x : ℕ) → Has (places_of b.reservoirs) x → slice_index m.closing x
+      ≡ total_where (length b.rights) (λ r. is_zone_of b r x) (λ r. slice_index m.plan.take r)
+
+-- the balance of a month, by what is told
+told_balance : (b : Basin) (series : Inflows) (m now : MonthRecord) (n : ℕ) → IsAllTold b series m → now ≡ with_out b m → balances b (with_supply b series now) n ≡ balances b m n
+told_balance b series m now n a is = ap (λ k. balances b (with_supply b series k) n) is ∙ rw (a.supply) refl
+
+told_sees : (b : Basin) (series : Inflows) (m now : MonthRecord) → IsAllTold b series m → now ≡ with_out b m → Sees b series m now
+told_sees b series m now a is = record {
+  month = ap (λ k. k.month) is;
+  delivered = ap (λ k. k.delivered) is;
+  want = ap (λ k. k.want) is;
+  supply = ap (λ k. (with_supply b series k).supply) is ∙ a.supply;
+  sets = ap (λ k. length k.cuts.sets) is ∙ length-replicate (length b.rights) None;
+}
+
+-- what stands behind the calls
+abbrev pub with_calls : Basin → MonthRecord → MonthRecord
+with_calls b m = with_sets (with_out b m) m.cuts.sets
+
+pub record BehindCalls (b : Basin) (before : List MonthRecord) (m : MonthRecord) (t : Told) : Type 0 where
+  pub now_is : t.now ≡ with_calls b m
+  pub months : t.months ≡ before
+  pub called : t.called ≡ 0
+
+calls_called : (b : Basin) (series : Inflows) (m : MonthRecord) → ((r : ℕ) (set : List Bool) → cut_of m r ≡ Some set → length set ≡ length b.nodes) → (xs : List ℕ) →
+    ((r : ℕ) → Has xs r → r < length b.rights) → (t : Told) → Sees b series m t.now →
+    (fold (tell b series) t (flat_map (λ r. call_items r (cut_of m r)) xs)).called ≡ t.called
+calls_called b series m sized [] below t s = refl
+calls_called b series m sized (x ∷ xs) below t s = by_set (cut_of m x) refl (λ u v. calls_called b series m sized xs (λ y h. below y (inr h)) u v)
+  where
+    by_set : (o : Option (List Bool)) → cut_of m x ≡ o → ((u : Told) → Sees b series m u.now → (fold (tell b series) u (flat_map (λ r. call_items r (cut_of m r)) xs)).called ≡ u.called) →
+        (fold (tell b series) t (call_items x o ++ flat_map (λ r. call_items r (cut_of m r)) xs)).called ≡ t.called
+    by_set None e further = further t s
+    by_set (Some set) e further =
+        ap (λ u. u.called) (fold-both (tell b series) t (call_items x (Some set)) (flat_map (λ r. call_items r (cut_of m r)) xs))
+        ∙ (ap (λ u. (fold (tell b series) u (flat_map (λ r. call_items r (cut_of m r)) xs)).called) (tell_call b series x set t (omega (arith, below x (inl refl), s.sets)) (sized x set e))
+        ∙ further (behind_call t x set) (sees_more b series m t x set s))
+
+calls_stage : (b : Basin) (series : Inflows) (before : List MonthRecord) (m : MonthRecord) → IsAllTold b series m → (t : Told) → At b before (with_out b m) t →
+    BehindCalls b before m (fold (tell b series) t (call_lines b m))
+calls_stage b series before m a t at =
+    let told = tells_calls b series (λ r. cut_of m r) a.sized (seniors_first b) t (λ r set e. (let l = a.within r set e in subst (λ (n : ℕ). r < n) (sym (ap (λ k. length k.cuts.sets) at.now_is)) l)) in
+    record {
+      now_is = told.now_is ∙ (ap (λ (k : MonthRecord). with_sets k (put_sets (seniors_first b) (λ r. cut_of m r) k.cuts.sets)) at.now_is ∙ ap (λ sets. with_sets (with_out b m) sets) a.sets);
+      months = told.months_are ∙ at.months;
+      called = calls_called b series m a.sized (seniors_first b) (λ r h. seniors_below b.rights r h) t (told_sees b series m t.now a at.now_is) ∙ at.called;
+    }
+
+told_callers : (b : Basin) (m now : MonthRecord) → now ≡ with_calls b m → callers_due b now ≡ callers_due b m
+told_callers b m now is = ap (λ k. callers_due b k) is ∙ same_callers b (with_calls b m) m refl refl refl
