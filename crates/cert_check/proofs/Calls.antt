@@ -57,7 +57,7 @@ pub told_tight : (b : Basin) (series : Inflows) (m now : MonthRecord) (r : ℕ) 
     has_tight b (with_supply b series now) r ≡ is_tight b m r set
 told_tight b series m now r set s e = rw (e, s.supply, s.month, s.delivered) refl
 
-told_short : (b : Basin) (series : Inflows) (m now : MonthRecord) (r : ℕ) → Sees b series m now → is_short now r ≡ is_short m r
+pub told_short : (b : Basin) (series : Inflows) (m now : MonthRecord) (r : ℕ) → Sees b series m now → is_short now r ≡ is_short m r
 told_short b series m now r s = rw (s.delivered, s.want) refl
 
 -- the set of the open call is a tight cut

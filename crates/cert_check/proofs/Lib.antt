@@ -6,3 +6,4 @@ pub mod Calls
 pub mod Callers
 pub mod Outflows
 pub mod Month
+pub mod MonthGood

@@ -201,7 +201,7 @@ pub record Stages (b : Basin) (series : Inflows) (before : List MonthRecord) (m 
   pub deliver : At b before (with_deliver b m) (behind_deliver b series m t)
   pub out : At b before (with_out b m) (behind_out b series m t)
 
-stages : (b : Basin) (series : Inflows) (before : List MonthRecord) (m : MonthRecord) → IsAllTold b series m → (t : Told) → At b before (begun b m) t →
+pub stages : (b : Basin) (series : Inflows) (before : List MonthRecord) (m : MonthRecord) → IsAllTold b series m → (t : Told) → At b before (begun b m) t →
     Stages b series before m t
 stages b series before m a t at =
     let s0 = opening_stage b series before m a t at in
@@ -237,10 +237,10 @@ pub record IsGoodMonth (b : Basin) (series : Inflows) (before : List MonthRecord
       ≡ total_where (length b.rights) (λ r. is_zone_of b r x) (λ r. slice_index m.plan.take r)
 
 -- the balance of a month, by what is told
-told_balance : (b : Basin) (series : Inflows) (m now : MonthRecord) (n : ℕ) → IsAllTold b series m → now ≡ with_out b m → balances b (with_supply b series now) n ≡ balances b m n
+pub told_balance : (b : Basin) (series : Inflows) (m now : MonthRecord) (n : ℕ) → IsAllTold b series m → now ≡ with_out b m → balances b (with_supply b series now) n ≡ balances b m n
 told_balance b series m now n a is = ap (λ k. balances b (with_supply b series k) n) is ∙ rw (a.supply) refl
 
-told_sees : (b : Basin) (series : Inflows) (m now : MonthRecord) → IsAllTold b series m → now ≡ with_out b m → Sees b series m now
+pub told_sees : (b : Basin) (series : Inflows) (m now : MonthRecord) → IsAllTold b series m → now ≡ with_out b m → Sees b series m now
 told_sees b series m now a is = record {
   month = ap (λ k. k.month) is;
   delivered = ap (λ k. k.delivered) is;
@@ -272,7 +272,7 @@ calls_called b series m sized (x ∷ xs) below t s = by_set (cut_of m x) refl (�
         ∙ (ap (λ u. (fold (tell b series) u (flat_map (λ r. call_items r (cut_of m r)) xs)).called) (tell_call b series x set t (omega (arith, below x (inl refl), s.sets)) (sized x set e))
         ∙ further (behind_call t x set) (sees_more b series m t x set s))
 
-calls_stage : (b : Basin) (series : Inflows) (before : List MonthRecord) (m : MonthRecord) → IsAllTold b series m → (t : Told) → At b before (with_out b m) t →
+pub calls_stage : (b : Basin) (series : Inflows) (before : List MonthRecord) (m : MonthRecord) → IsAllTold b series m → (t : Told) → At b before (with_out b m) t →
     BehindCalls b before m (fold (tell b series) t (call_lines b m))
 calls_stage b series before m a t at =
     let told = tells_calls b series (λ r. cut_of m r) a.sized (seniors_first b) t (λ r set e. (let l = a.within r set e in subst (λ (n : ℕ). r < n) (sym (ap (λ k. length k.cuts.sets) at.now_is)) l)) in
@@ -282,5 +282,5 @@ calls_stage b series before m a t at =
       called = calls_called b series m a.sized (seniors_first b) (λ r h. seniors_below b.rights r h) t (told_sees b series m t.now a at.now_is) ∙ at.called;
     }
 
-told_callers : (b : Basin) (m now : MonthRecord) → now ≡ with_calls b m → callers_due b now ≡ callers_due b m
+pub told_callers : (b : Basin) (m now : MonthRecord) → now ≡ with_calls b m → callers_due b now ≡ callers_due b m
 told_callers b m now is = ap (λ k. callers_due b k) is ∙ same_callers b (with_calls b m) m refl refl refl

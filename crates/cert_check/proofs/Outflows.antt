@@ -70,7 +70,7 @@ all_at_most (z ∷ xs) x h = rw (passes z x (h z (inl refl)), all_at_most xs x (
     passes z x k = grind (arith, nat_tests)
 
 -- every node is in balance, by what is told
-pub IsInBalance : Basin → Inflows → MonthRecord → Type 0
+unfoldable pub IsInBalance : Basin → Inflows → MonthRecord → Type 0
 IsInBalance b series now = (n : ℕ) → n < length b.nodes → balances b (with_supply b series now) n ≡ true
 
 none_fails : (b : Basin) (m : MonthRecord) (xs : List ℕ) → ((n : ℕ) → Has xs n → balances b m n ≡ true) → list_any (λ n. not (balances b m n)) xs ≡ false
