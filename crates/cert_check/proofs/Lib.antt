@@ -7,3 +7,4 @@ pub mod Callers
 pub mod Outflows
 pub mod Month
 pub mod MonthGood
+pub mod GoodMonth
