@@ -8,3 +8,4 @@ pub mod Outflows
 pub mod Month
 pub mod MonthGood
 pub mod GoodMonth
+pub mod Follows
