@@ -9,3 +9,4 @@ pub mod Month
 pub mod MonthGood
 pub mod GoodMonth
 pub mod Follows
+pub mod Verdicts
