@@ -10,3 +10,4 @@ pub mod MonthGood
 pub mod GoodMonth
 pub mod Follows
 pub mod Verdicts
+pub mod RunGood
