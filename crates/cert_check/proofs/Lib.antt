@@ -11,3 +11,4 @@ pub mod GoodMonth
 pub mod Follows
 pub mod Verdicts
 pub mod RunGood
+pub mod Amounts
