@@ -98,15 +98,22 @@ pub history_amounts : (b : Basin) (series : Inflows) (before : List MonthRecord)
 history_amounts b series before m valid fits partial left f = record {
   opening = all_small m.opening (length b.reservoirs) f.fits.opening opening;
   evaporated = all_small m.evaporated (length b.reservoirs) f.fits.evaporated evaporated;
-  returned = all_small m.returned (length b.nodes) f.fits.returned (λ n l. omega (arith, f.returned n l,
-      term_le_total (length b.nodes) (λ n. returned_at b (map (λ k. k.delivered) before) n m.index) n l,
-      returns_small b (map (λ k. k.delivered) before) m.index valid (deliveries_small b series before valid partial)));
+  returned = all_small m.returned (length b.nodes) f.fits.returned (λ n l. omega (
+    arith,
+    f.returned n l,
+    term_le_total (length b.nodes) (λ n. returned_at b (map (λ k. k.delivered) before) n m.index) n l,
+    returns_small b (map (λ k. k.delivered) before) m.index valid (deliveries_small b series before valid partial),
+  ));
   used = all_small m.used (length b.rights) f.fits.used (λ r l. omega (arith, f.used r l, nothing_used b (map (λ k. k.delivered) before) r m.index valid l));
   flow = all_small m.plan.flow (length b.links) f.plan.flow_len (λ e l. omega (arith, f.plan.carries e l, carry_most b m.month e valid month l));
   delivered = all_small m.delivered (length b.rights) f.fits.delivered (λ r l. omega (arith, (follows_small b series before m valid f).delivered r));
   want = all_small m.want (length b.rights) f.fits.want (λ r l. omega (arith, wanted r l));
-  out = all_small m.plan.out (length b.nodes) f.plan.out_len (λ n l. omega (arith, term_le_total (length b.nodes) (λ n. slice_index m.plan.out n) n l,
-      plan_balance b m.month m.supply m.want m.plan valid f.plan, whole_supply b series before m valid fits partial f));
+  out = all_small m.plan.out (length b.nodes) f.plan.out_len (λ n l. omega (
+    arith,
+    term_le_total (length b.nodes) (λ n. slice_index m.plan.out n) n l,
+    plan_balance b m.month m.supply m.want m.plan valid f.plan,
+    whole_supply b series before m valid fits partial f,
+  ));
   closing = all_small m.closing (length b.reservoirs) f.fits.closing (closing_small b series before m valid f);
 }
   where

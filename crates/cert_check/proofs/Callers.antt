@@ -66,9 +66,22 @@ called_good b series dues (x ∷ xs) before t c is =
       all = record { settled = λ r e. never r e; none_left = c.all.none_left };
       due = c.due;
       count = rw (c.count, length-append before (x ∷ [])) refl;
-    }) (is ∙ sym (append_assoc before (x ∷ []) xs)) in
-    (((loose_fails b series t (called_line x) c.all.settled, (missing_fails b t (called_line x) (λ r l s f p. c.all.none_left r l s f), (refl,
-    (rw (c.due, c.count, is, at_length before x xs) (is_the_pair x.0 x.1 x refl), (refl, (refl, (refl, (refl, (refl, (refl, (refl, (refl, (refl, tt))))))))))))), rest.0), rest.1)
+    }) (is ∙ sym (append_assoc before (x ∷ []) xs)) in (
+      (
+        (
+          loose_fails b series t (called_line x) c.all.settled,
+          (
+            missing_fails b t (called_line x) (λ r l s f p. c.all.none_left r l s f),
+            (
+              refl,
+              (rw (c.due, c.count, is, at_length before x xs) (is_the_pair x.0 x.1 x refl), (refl, (refl, (refl, (refl, (refl, (refl, (refl, (refl, (refl, tt)))))))))),
+            ),
+          ),
+        ),
+        rest.0,
+      ),
+      rest.1,
+    )
   where
     never : {X : Type 0} (r : ℕ) → None ≡ Some r → X
     never r e = cc
@@ -86,9 +99,19 @@ pub record Behind (b : Basin) (series : Inflows) (dues : List (ℕ × ℕ)) (tak
 pub closings : (b : Basin) (series : Inflows) (dues : List (ℕ × ℕ)) (take : List ℕ) (a : ℕ → ℕ) → Section b series (Behind b series dues take)
     (λ x. a x ≡ total_where (length b.rights) (λ r. is_zone_of b r x) (λ r. slice_index take r)) (λ x. line.Closing x (a x))
 closings b series dues take a = record {
-  makes = λ x t p g. (loose_fails b series t (line.Closing x (a x)) p.callers.all.settled,
-      (missing_fails b t (line.Closing x (a x)) (λ r l s f q. p.callers.all.none_left r l s f), (refl, (rw (p.callers.due, p.callers.count) (not_less (length dues)),
-      (refl, (refl, (refl, (refl, (refl, (refl, (refl, (refl, (same_is (a x) (total_where (length b.rights) (λ r. is_zone_of b r x) (λ r. slice_index t.now.plan.take r)) (rw p.take_is g), tt)))))))))))));
+  makes = λ x t p g. (
+    loose_fails b series t (line.Closing x (a x)) p.callers.all.settled,
+    (
+      missing_fails b t (line.Closing x (a x)) (λ r l s f q. p.callers.all.none_left r l s f),
+      (
+        refl,
+        (
+          rw (p.callers.due, p.callers.count) (not_less (length dues)),
+          (refl, (refl, (refl, (refl, (refl, (refl, (refl, (refl, (same_is (a x) (total_where (length b.rights) (λ r. is_zone_of b r x) (λ r. slice_index t.now.plan.take r)) (rw p.take_is g), tt))))))))),
+        ),
+      ),
+    ),
+  );
   tells = λ x t p n. is_same (a x) (total_where (length b.rights) (λ r. is_zone_of b r x) (λ r. slice_index t.now.plan.take r)) n.1.1.1.1.1.1.1.1.1.1.1.1.0
       ∙ ap (λ ts. total_where (length b.rights) (λ r. is_zone_of b r x) (λ r. slice_index ts r)) p.take_is;
   keeps = λ x t p. record {
@@ -105,9 +128,19 @@ closings b series dues take a = record {
     never r e = cc
 
 pub end_good : (b : Basin) (series : Inflows) (dues : List (ℕ × ℕ)) (t : Told) → Callers b series dues dues t → NoneHolds (rows b series t line.End)
-end_good b series dues t c = (loose_fails b series t line.End c.all.settled,
-    (missing_fails b t line.End (λ r l s f q. c.all.none_left r l s f), (refl, (rw (c.due, c.count) (not_less (length dues)),
-    (refl, (refl, (refl, (refl, (refl, (refl, (refl, (refl, (refl, tt)))))))))))))
+end_good b series dues t c = (
+  loose_fails b series t line.End c.all.settled,
+  (
+    missing_fails b t line.End (λ r l s f q. c.all.none_left r l s f),
+    (
+      refl,
+      (
+        rw (c.due, c.count) (not_less (length dues)),
+        (refl, (refl, (refl, (refl, (refl, (refl, (refl, (refl, (refl, tt))))))))),
+      ),
+    ),
+  ),
+)
 
 -- The converse.
 

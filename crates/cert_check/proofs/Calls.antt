@@ -214,12 +214,14 @@ calls_good b series m right (r ∷ rs) o below t c = by_test (is_short m r) refl
     with_set : (set : List Bool) → cut_of m r ≡ Some set → is_tight b m r set ≡ true → is_short m r ≡ true → Further → Whole (call_items r (Some set))
     with_set set e tight short further =
         let told : fold (tell b series) t (call_items r (Some set)) ≡ behind_call t r set = tell_call b series r set t (omega (arith, within, c.sees.sets)) (right.sized r set e) in
-        let rest = further (behind_call t r set) (calling_more b series m r rs set t within (once_in_order b r rs o) e tight c) in
-        (good_both b series t (call_items r (Some set)) (flat_map (λ r. call_items r (cut_of m r)) rs)
-        (call_good b series t r c.settled (told_short b series m t.now r c.sees ∙ short) (λ s k short free senior. unpassed s k (sym (told_short b series m t.now s c.sees) ∙ short) free senior),
-        members_good b series (members_from 0 set) (tell b series t (line.Call r)))
-        (rw told rest.0),
-        rw (fold-both (tell b series) t (call_items r (Some set)) (flat_map (λ r. call_items r (cut_of m r)) rs), told) rest.1)
+        let rest = further (behind_call t r set) (calling_more b series m r rs set t within (once_in_order b r rs o) e tight c) in (
+          good_both b series t (call_items r (Some set)) (flat_map (λ r. call_items r (cut_of m r)) rs) (
+            call_good b series t r c.settled (told_short b series m t.now r c.sees ∙ short) (λ s k short free senior. unpassed s k (sym (told_short b series m t.now s c.sees) ∙ short) free senior),
+            members_good b series (members_from 0 set) (tell b series t (line.Call r)),
+          )
+              (rw told rest.0),
+          rw (fold-both (tell b series) t (call_items r (Some set)) (flat_map (λ r. call_items r (cut_of m r)) rs), told) rest.1,
+        )
       where
         unpassed : (s : ℕ) → s < length b.rights → is_short m s ≡ true → cut_of t.now s ≡ None → is_senior b s r ≡ true → ⊥
         unpassed s k short free senior =

@@ -103,16 +103,18 @@ inner_is_good b series before m dues outlet a t at g =
     let stands : Behind b series (callers_due b m) m.plan.take (behind_called b series m dues t) = record {
       callers = record { all = past.all; due = told_callers b m (behind_called b series m dues t).now called.0; count = called.2 };
       take_is = ap (λ k. k.plan.take) called.0;
-    } in
-    (record {
-      opening = good_section b series (section.Behind before) _ (λ x. line.Opening x (slice_index m.opening x)) (section.openings b series before (λ x. slice_index m.opening x)) (places_of b.reservoirs) (t) (at.calling, at.months) (good_first b series t (opening_lines b m) (evaporated_lines b m ++ (returned_lines b m ++ (used_lines b m ++ (flow_lines b m ++ (deliver_lines b m ++ (out_lines b m ++ (call_lines b m ++ (due_lines dues ++ (closing_lines b m ++ (line.End ∷ [])))))))))) g0);
-      evaporated = good_section b series (section.Opened m.index m.opening) _ (λ x. line.Evaporated x (slice_index m.evaporated x)) (section.evaporations b series m.index m.opening (λ x. slice_index m.evaporated x)) (places_of b.reservoirs) (behind_opening b series m t) (s.opening.calling, ap (λ k. k.index) s.opening.now_is, ap (λ k. k.opening) s.opening.now_is) (good_first b series (behind_opening b series m t) (evaporated_lines b m) (returned_lines b m ++ (used_lines b m ++ (flow_lines b m ++ (deliver_lines b m ++ (out_lines b m ++ (call_lines b m ++ (due_lines dues ++ (closing_lines b m ++ (line.End ∷ []))))))))) g1);
-      returned = good_section b series (section.BehindAt before m.index) _ (λ x. line.Returned x (slice_index m.returned x)) (section.returns b series before m.index (λ x. slice_index m.returned x)) (return_nodes b) (behind_evaporated b series m t) (s.evaporated.calling, s.evaporated.months, ap (λ k. k.index) s.evaporated.now_is) (good_first b series (behind_evaporated b series m t) (returned_lines b m) (used_lines b m ++ (flow_lines b m ++ (deliver_lines b m ++ (out_lines b m ++ (call_lines b m ++ (due_lines dues ++ (closing_lines b m ++ (line.End ∷ [])))))))) g2);
-      used = good_section b series (section.BehindAt before m.index) _ (λ x. line.Used x (slice_index m.used x)) (section.uses b series before m.index (λ x. slice_index m.used x)) (rights_with_volume b) (behind_returned b series m t) (s.returned.calling, s.returned.months, ap (λ k. k.index) s.returned.now_is) (good_first b series (behind_returned b series m t) (used_lines b m) (flow_lines b m ++ (deliver_lines b m ++ (out_lines b m ++ (call_lines b m ++ (due_lines dues ++ (closing_lines b m ++ (line.End ∷ []))))))) g3);
-      flow = good_section b series (section.InMonth m.month) _ (λ x. line.Flow x (slice_index m.plan.flow x)) (section.flows b series m.month (λ x. slice_index m.plan.flow x)) (places_of b.links) (behind_used b series m t) (s.used.calling, ap (λ k. k.month) s.used.now_is) (good_first b series (behind_used b series m t) (flow_lines b m) (deliver_lines b m ++ (out_lines b m ++ (call_lines b m ++ (due_lines dues ++ (closing_lines b m ++ (line.End ∷ [])))))) g4);
-      deliver = good_section b series (section.Flows m.index m.used m.plan.flow) _ (λ x. line.Deliver x (slice_index m.delivered x) (slice_index m.want x)) (section.deliveries b series m.index m.used m.plan.flow (λ x. slice_index m.delivered x) (λ x. slice_index m.want x)) (seniors_first b) (behind_flow b series m t) (s.flow.calling, ap (λ k. k.index) s.flow.now_is, ap (λ k. k.used) s.flow.now_is, ap (λ k. k.plan.flow) s.flow.now_is) (good_first b series (behind_flow b series m t) (deliver_lines b m) (out_lines b m ++ (call_lines b m ++ (due_lines dues ++ (closing_lines b m ++ (line.End ∷ []))))) g5);
-      balance = balance_out b series m (behind_out b series m t) a s.out.now_is (outflows_balance b series (λ x. slice_index m.plan.out x) (behind_deliver b series m t) outlet (good_first b series (behind_deliver b series m t) (out_lines b m) (call_lines b m ++ (due_lines dues ++ (closing_lines b m ++ (line.End ∷ [])))) g6));
-      sets = right_sets b series m (behind_out b series m t) (behind_called b series m dues t) a s.out.now_is calls_here called.0 settled past.all;
-      closing = good_section b series (Behind b series (callers_due b m) m.plan.take) _ (λ x. line.Closing x (slice_index m.closing x))
-          (closings b series (callers_due b m) m.plan.take (λ x. slice_index m.closing x)) (places_of b.reservoirs) (behind_called b series m dues t) stands closings_here;
-    }, called.1)
+    } in (
+      record {
+        opening = good_section b series (section.Behind before) _ (λ x. line.Opening x (slice_index m.opening x)) (section.openings b series before (λ x. slice_index m.opening x)) (places_of b.reservoirs) (t) (at.calling, at.months) (good_first b series t (opening_lines b m) (evaporated_lines b m ++ (returned_lines b m ++ (used_lines b m ++ (flow_lines b m ++ (deliver_lines b m ++ (out_lines b m ++ (call_lines b m ++ (due_lines dues ++ (closing_lines b m ++ (line.End ∷ [])))))))))) g0);
+        evaporated = good_section b series (section.Opened m.index m.opening) _ (λ x. line.Evaporated x (slice_index m.evaporated x)) (section.evaporations b series m.index m.opening (λ x. slice_index m.evaporated x)) (places_of b.reservoirs) (behind_opening b series m t) (s.opening.calling, ap (λ k. k.index) s.opening.now_is, ap (λ k. k.opening) s.opening.now_is) (good_first b series (behind_opening b series m t) (evaporated_lines b m) (returned_lines b m ++ (used_lines b m ++ (flow_lines b m ++ (deliver_lines b m ++ (out_lines b m ++ (call_lines b m ++ (due_lines dues ++ (closing_lines b m ++ (line.End ∷ []))))))))) g1);
+        returned = good_section b series (section.BehindAt before m.index) _ (λ x. line.Returned x (slice_index m.returned x)) (section.returns b series before m.index (λ x. slice_index m.returned x)) (return_nodes b) (behind_evaporated b series m t) (s.evaporated.calling, s.evaporated.months, ap (λ k. k.index) s.evaporated.now_is) (good_first b series (behind_evaporated b series m t) (returned_lines b m) (used_lines b m ++ (flow_lines b m ++ (deliver_lines b m ++ (out_lines b m ++ (call_lines b m ++ (due_lines dues ++ (closing_lines b m ++ (line.End ∷ [])))))))) g2);
+        used = good_section b series (section.BehindAt before m.index) _ (λ x. line.Used x (slice_index m.used x)) (section.uses b series before m.index (λ x. slice_index m.used x)) (rights_with_volume b) (behind_returned b series m t) (s.returned.calling, s.returned.months, ap (λ k. k.index) s.returned.now_is) (good_first b series (behind_returned b series m t) (used_lines b m) (flow_lines b m ++ (deliver_lines b m ++ (out_lines b m ++ (call_lines b m ++ (due_lines dues ++ (closing_lines b m ++ (line.End ∷ []))))))) g3);
+        flow = good_section b series (section.InMonth m.month) _ (λ x. line.Flow x (slice_index m.plan.flow x)) (section.flows b series m.month (λ x. slice_index m.plan.flow x)) (places_of b.links) (behind_used b series m t) (s.used.calling, ap (λ k. k.month) s.used.now_is) (good_first b series (behind_used b series m t) (flow_lines b m) (deliver_lines b m ++ (out_lines b m ++ (call_lines b m ++ (due_lines dues ++ (closing_lines b m ++ (line.End ∷ [])))))) g4);
+        deliver = good_section b series (section.Flows m.index m.used m.plan.flow) _ (λ x. line.Deliver x (slice_index m.delivered x) (slice_index m.want x)) (section.deliveries b series m.index m.used m.plan.flow (λ x. slice_index m.delivered x) (λ x. slice_index m.want x)) (seniors_first b) (behind_flow b series m t) (s.flow.calling, ap (λ k. k.index) s.flow.now_is, ap (λ k. k.used) s.flow.now_is, ap (λ k. k.plan.flow) s.flow.now_is) (good_first b series (behind_flow b series m t) (deliver_lines b m) (out_lines b m ++ (call_lines b m ++ (due_lines dues ++ (closing_lines b m ++ (line.End ∷ []))))) g5);
+        balance = balance_out b series m (behind_out b series m t) a s.out.now_is (outflows_balance b series (λ x. slice_index m.plan.out x) (behind_deliver b series m t) outlet (good_first b series (behind_deliver b series m t) (out_lines b m) (call_lines b m ++ (due_lines dues ++ (closing_lines b m ++ (line.End ∷ [])))) g6));
+        sets = right_sets b series m (behind_out b series m t) (behind_called b series m dues t) a s.out.now_is calls_here called.0 settled past.all;
+        closing = good_section b series (Behind b series (callers_due b m) m.plan.take) _ (λ x. line.Closing x (slice_index m.closing x))
+            (closings b series (callers_due b m) m.plan.take (λ x. slice_index m.closing x)) (places_of b.reservoirs) (behind_called b series m dues t) stands closings_here;
+      },
+      called.1,
+    )

@@ -12,3 +12,4 @@ pub mod Follows
 pub mod Verdicts
 pub mod RunGood
 pub mod Amounts
+pub mod HistoriesGiveYes

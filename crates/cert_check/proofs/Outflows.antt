@@ -111,9 +111,10 @@ outflows_good b series a (x ∷ []) done t is rises h balance =
     in_balance : list_any (λ node. not (balances b (with_supply b series (tell b series t (line.Outflow x (a x))).now) node)) (places_of b.nodes) ≡ false
     in_balance = none_fails b (with_supply b series (tell b series t (line.Outflow x (a x))).now) (places_of b.nodes)
         (λ n k. balance n (omega (arith, (numbers_from-below 0 (length b.nodes) n k).1)))
-outflows_good b series a (x ∷ y ∷ ys) done t is rises h balance =
-    (out_good b series t x (a x) h (ap (λ q. q && list_any (λ node. not (balances b (with_supply b series (tell b series t (line.Outflow x (a x))).now) node)) (places_of b.nodes)) not_last),
-    outflows_good b series a (y ∷ ys) (done ++ x ∷ []) (tell b series t (line.Outflow x (a x))) (is ∙ sym (append_assoc done (x ∷ []) (y ∷ ys))) rises.1 refl balance)
+outflows_good b series a (x ∷ y ∷ ys) done t is rises h balance = (
+  out_good b series t x (a x) h (ap (λ q. q && list_any (λ node. not (balances b (with_supply b series (tell b series t (line.Outflow x (a x))).now) node)) (places_of b.nodes)) not_last),
+  outflows_good b series a (y ∷ ys) (done ++ x ∷ []) (tell b series t (line.Outflow x (a x))) (is ∙ sym (append_assoc done (x ∷ []) (y ∷ ys))) rises.1 refl balance,
+)
   where
     not_last : list_all (λ other. nat_le other x) (outlets b) ≡ false
     not_last = greater_fails (outlets b) x y (rw is (has_behind done (x ∷ y ∷ ys) y (inr (inl refl)))) (rises.0 y (inl refl))

@@ -123,9 +123,10 @@ months_good b series records before (m ∷ ms) valid history texts is told t c m
     let later : behind.months ≡ map without_room (before ++ m ∷ []) =
     month_told b series m (calling_right b m) t (f.index ∙ sym count) told.1 ∙ (ap (λ xs. xs ++ without_room m ∷ []) months ∙ map_more before m) in
     let rest = months_good b series records (before ++ m ∷ []) ms valid history texts (is ∙ sym (append_assoc before (m ∷ []) ms))
-    (subst (λ (i : ℕ). AreAllTold b series i ms) (sym (length-append before (m ∷ []))) told.2) behind still later in
-    (good_both b series t (items_of_month b m) (flat_map (items_of_month b) ms) here rest.0,
-    ap (λ u. u.calling) (fold-both (tell b series) t (items_of_month b m) (flat_map (items_of_month b) ms)) ∙ rest.1)
+    (subst (λ (i : ℕ). AreAllTold b series i ms) (sym (length-append before (m ∷ []))) told.2) behind still later in (
+      good_both b series t (items_of_month b m) (flat_map (items_of_month b) ms) here rest.0,
+      ap (λ u. u.calling) (fold-both (tell b series) t (items_of_month b m) (flat_map (items_of_month b) ms)) ∙ rest.1,
+    )
   where
     map_more : (xs : List MonthRecord) (m : MonthRecord) → map without_room xs ++ without_room m ∷ [] ≡ map without_room (xs ++ m ∷ [])
     map_more [] m = refl
@@ -134,10 +135,14 @@ months_good b series records before (m ∷ ms) valid history texts is told t c m
 run_items_good : (b : Basin) (series : Inflows) (records : List MonthRecord) → IsValidBasin b → IsPartialHistory b series records → AreTextMonths b series records →
     AreGood b series (nothing_told b) (items_of b records)
 run_items_good b series records valid history texts =
-    let months = months_good b series records [] records valid history texts refl (are_all_told b series records texts) (nothing_told b) refl refl in
-    (title_good b series (nothing_told b) refl, (run_good b series (nothing_told b) refl,
-    good_both b series (nothing_told b) (flat_map (items_of_month b) records) (line.Done b.months ∷ []) months.0
-    (last_good b series (fold (tell b series) (nothing_told b) (flat_map (items_of_month b) records)) b.months months.1, tt)))
+    let months = months_good b series records [] records valid history texts refl (are_all_told b series records texts) (nothing_told b) refl refl in (
+      title_good b series (nothing_told b) refl,
+      (
+        run_good b series (nothing_told b) refl,
+        good_both b series (nothing_told b) (flat_map (items_of_month b) records) (line.Done b.months ∷ []) months.0
+            (last_good b series (fold (tell b series) (nothing_told b) (flat_map (items_of_month b) records)) b.months months.1, tt),
+      ),
+    )
 
 -- Only the last line of a text is `done`.
 

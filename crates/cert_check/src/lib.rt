@@ -4,6 +4,7 @@
 //! what the lines before it tell, and each set of nodes that a text gives for a short right is tested as a cut.
 #![tactic(auto)]
 
+pub mod laws;
 mod refuted;
 
 pub use refuted::{Refuted, RefutedKind};

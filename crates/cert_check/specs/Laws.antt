@@ -1,0 +1,16 @@
+-- What a yes says.
+use Rattle.std.specs.Prelude.{◌≡◌, ℕ, List, [], map, Ok}
+use Rattle.water_model.specs.History.{IsHistory}
+use Rattle.water_model.specs.Spelling.{line_of}
+use Rattle.water_model.specs.Text.{items_of}
+use Rattle.water_model.specs.Valid.{IsValidBasin, IsSeriesOf}
+use Rattle.water_model.specs.declared.types.Basin.{Basin}
+use Rattle.water_model.specs.declared.types.Inflows.{Inflows}
+use Rattle.water_model.specs.declared.types.MonthRecord.{MonthRecord}
+use Rattle.cert_check.specs.Checking.{verdict}
+
+-- A history gives a yes. The text of each history is accepted, whoever wrote it and whatever tight cuts it shows.
+abbrev pub HistoriesGiveYes : Type 0
+HistoriesGiveYes =
+    (b : Basin) (series : Inflows) (records : List MonthRecord) → IsValidBasin b → IsSeriesOf b series → IsHistory b series records →
+    verdict b series (map (line_of b) (items_of b records)) [] ≡ Ok (items_of b records)
