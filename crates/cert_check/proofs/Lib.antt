@@ -13,3 +13,5 @@ pub mod Verdicts
 pub mod RunGood
 pub mod Amounts
 pub mod HistoriesGiveYes
+pub mod Sets
+pub mod GoodFollows
