@@ -15,3 +15,6 @@ pub mod Amounts
 pub mod HistoriesGiveYes
 pub mod Sets
 pub mod GoodFollows
+pub mod Inverts
+pub mod SomeOutlet
+pub mod Sheets
