@@ -18,3 +18,4 @@ pub mod GoodFollows
 pub mod Inverts
 pub mod SomeOutlet
 pub mod Sheets
+pub mod MonthLines

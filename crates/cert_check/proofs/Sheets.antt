@@ -32,12 +32,12 @@ use Rattle.cert_check.proofs.Sets.{set_in, length-put_sets, put_sets-has, put_se
 
 -- No place comes twice in the lists that sections go over.
 
-places_apart : (from n : ℕ) → AreApart (numbers_from from n)
+pub places_apart : (from n : ℕ) → AreApart (numbers_from from n)
 unfolding numbers_from
 places_apart from zero = tt
 places_apart from (suc n) = (λ h. omega (arith, (numbers_from-below (suc from) n from h).0), places_apart (suc from) n)
 
-filter_apart : (p : ℕ → Bool) (xs : List ℕ) → AreApart xs → AreApart (filter p xs)
+pub filter_apart : (p : ℕ → Bool) (xs : List ℕ) → AreApart xs → AreApart (filter p xs)
 filter_apart p [] h = tt
 filter_apart p (x ∷ xs) h = by_test (p x) refl (filter_apart p xs h.1)
   where
@@ -49,7 +49,7 @@ ordered_apart : (b : Basin) (xs : List ℕ) → IsOrdered b.rights xs → AreApa
 ordered_apart b [] h = tt
 ordered_apart b (x ∷ xs) h = (once_in_order b x xs h, ordered_apart b xs h.1)
 
-seniors_apart : (b : Basin) → IsValidBasin b → AreApart (seniors_first b)
+pub seniors_apart : (b : Basin) → IsValidBasin b → AreApart (seniors_first b)
 seniors_apart b valid = ordered_apart b (seniors_first b) (seniors_ordered b.rights valid.roll.strict)
 
 -- what a month's lines give
