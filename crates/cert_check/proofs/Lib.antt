@@ -19,3 +19,4 @@ pub mod Inverts
 pub mod SomeOutlet
 pub mod Sheets
 pub mod MonthLines
+pub mod RunSound

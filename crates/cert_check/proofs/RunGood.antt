@@ -60,7 +60,7 @@ delivered_without [] = refl
 delivered_without (m ∷ ms) = ap (λ xs. m.delivered ∷ xs) (delivered_without ms)
 
 -- behind the last line of a month no call is open
-Calm : Basin → Inflows → List Item → Type 0
+unfoldable pub Calm : Basin → Inflows → List Item → Type 0
 Calm b series items = (t : Told) → (fold (tell b series) t items).calling ≡ None
 
 calm_behind : (b : Basin) (series : Inflows) (xs ys : List Item) → Calm b series ys → Calm b series (xs ++ ys)
@@ -71,13 +71,13 @@ end_calm : (b : Basin) (series : Inflows) → Calm b series (line.End ∷ [])
 unfolding Calm
 end_calm b series t = refl
 
-inner_calm : (b : Basin) (series : Inflows) (m : MonthRecord) (dues : List (ℕ × ℕ)) → Calm b series (inner_lines b m dues)
+pub inner_calm : (b : Basin) (series : Inflows) (m : MonthRecord) (dues : List (ℕ × ℕ)) → Calm b series (inner_lines b m dues)
 inner_calm b series m dues =
     calm_behind b series (opening_lines b m) _ (calm_behind b series (evaporated_lines b m) _ (calm_behind b series (returned_lines b m) _ (calm_behind b series (used_lines b m) _
     (calm_behind b series (flow_lines b m) _ (calm_behind b series (deliver_lines b m) _ (calm_behind b series (out_lines b m) _ (calm_behind b series (call_lines b m) _
     (calm_behind b series (due_lines dues) _ (calm_behind b series (closing_lines b m) _ (end_calm b series))))))))))
 
-calm : (b : Basin) (series : Inflows) (items : List Item) (t : Told) → Calm b series items → (fold (tell b series) t items).calling ≡ None
+pub calm : (b : Basin) (series : Inflows) (items : List Item) (t : Told) → Calm b series items → (fold (tell b series) t items).calling ≡ None
 unfolding Calm
 calm b series items t h = h t
 
@@ -97,7 +97,7 @@ follows_of b series records before ms m h is =
     subst (λ (xs : List MonthRecord). Follows b series xs m) (ap (take (length before)) is ∙ take_before before (m ∷ ms))
     (h.each (length before) m (ap (λ xs. slice_get xs (length before)) is ∙ get_behind before ms m))
 
-items_are : (b : Basin) (m : MonthRecord) → items_of_month b m ≡ line.Month m.month ∷ inner_lines b m (callers_due b m)
+pub items_are : (b : Basin) (m : MonthRecord) → items_of_month b m ≡ line.Month m.month ∷ inner_lines b m (callers_due b m)
 items_are b m = month_lines b m (calling_right b m)
 
 months_good : (b : Basin) (series : Inflows) (records before ms : List MonthRecord) → IsValidBasin b → IsPartialHistory b series records → AreTextMonths b series records →
@@ -146,7 +146,7 @@ run_items_good b series records valid history texts =
 
 -- Only the last line of a text is `done`.
 
-open_both : (xs ys : List Item) → is_whole xs ≡ false → is_whole ys ≡ false → is_whole (xs ++ ys) ≡ false
+pub open_both : (xs ys : List Item) → is_whole xs ≡ false → is_whole ys ≡ false → is_whole (xs ++ ys) ≡ false
 open_both xs ys h k = list_any-append is_done xs ys ∙ either (is_whole xs) (is_whole ys) h k
   where
     either : (p q : Bool) → p ≡ false → q ≡ false → p || q ≡ false
