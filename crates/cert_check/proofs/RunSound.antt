@@ -22,7 +22,8 @@ use Rattle.result_reader.specs.Telling.{Told, tell, told_by, nothing_told, blank
 use Rattle.result_reader.specs.declared.shape.Shape.{Shape}
 use Rattle.result_reader.specs.declared.shape.Shape.TheVariants as shape
 use Rattle.result_reader.proofs.WholeMonth.{IsAllTold, month_told}
-use Rattle.cert_check.specs.Checking.{callers_due, is_done, is_whole, verdict}
+use Rattle.cert_check.specs.Checking.{callers_due, rows, is_done, is_whole}
+use Rattle.cert_check.specs.Laws.{YesGivesHistory}
 use Rattle.cert_check.proofs.GoodFollows.{good_follows}
 use Rattle.cert_check.proofs.GoodMonth.{HasOutlet, inner_is_good}
 use Rattle.cert_check.proofs.Inverts.{OneLine, one_line}
@@ -206,3 +207,82 @@ months_sound b valid series (suc n) i before t items at all stands h g =
       partial = subst (IsPartialHistory b series) (append_assoc before (m ∷ []) later.records) later.partial;
       are = here ∙ (ap (λ ys. items_of_month b m ++ ys) later.are ∙ sym (append_assoc (items_of_month b m) (flat_map (items_of_month b) later.records) (line.Done b.months ∷ [])));
     }
+
+-- The whole text.
+
+-- the first two lines, and the months behind them
+record Head (b : Basin) (items : List Item) : Type 0 where
+  others : List Item
+  first : Item
+  not_done : is_done first ≡ false
+  is_run : (t : Told) (series : Inflows) → NoneHolds (rows b series t first) → first ≡ line.Run b.first b.months
+  are : items ≡ line.Title ∷ first ∷ others
+  rest : Fills b (from_month b 0 b.months) others
+
+head_of : (b : Basin) (items : List Item) → Fills b (due b) items → Head b items
+unfolding due
+head_of b items h =
+    let title = one_line b shape.Title (shape.Run ∷ from_month b 0 b.months) items refl h in
+    let run = one_line b shape.Run (from_month b 0 b.months) title.others refl title.rest in
+    record {
+      others = run.others;
+      first = line.Run run.fields.first run.fields.one;
+      not_done = refl;
+      is_run = λ t series n. (let e = head_is b series t run.fields.first run.fields.one n in rw (e.0, e.1) refl);
+      are = title.are ∙ (ap (λ ms. line.Title ∷ (ms ++ title.others)) title.followed
+          ∙ ap (λ ys. line.Title ∷ ys) (run.are ∙ ap (λ ms. line.Run run.fields.first run.fields.one ∷ (ms ++ run.others)) run.followed));
+      rest = run.rest;
+    }
+
+-- lines that begin a whole text, and have its last line, are one
+whole_fills : (b : Basin) → IsValidBasin b → Inflows → (items : List Item) → is_whole items ≡ true → IsFront b items → Fills b (due b) items
+whole_fills b valid series items whole front =
+    let head = head_of b (items ++ front.rest) front.whole in
+    let ends = months_end b valid series b.months 0 head.others head.rest in
+    let none : front.rest ≡ [] = nothing_behind (line.Title ∷ head.first ∷ ends.front) items front.rest (line.Done b.months)
+    (head.are ∙ ap (λ ys. line.Title ∷ head.first ∷ ys) ends.are) (first_open head.first ends.front (head_open head) ends.open_yet) whole in
+    subst (λ (xs : List Item). Fills b (due b) xs) (ap (λ ys. items ++ ys) none ∙ append-nil items) front.whole
+  where
+    first_open : (i : Item) (xs : List Item) → is_done i ≡ false → is_whole xs ≡ false → is_done i || is_whole xs ≡ false
+    first_open i xs e f = rw (e, f) refl
+
+    head_open : (h : Head b (items ++ front.rest)) → is_done h.first ≡ false
+    head_open h = h.not_done
+
+-- a yes is for the text of a history
+pub record IsOfHistory (b : Basin) (series : Inflows) (items : List Item) : Type 0 where
+  pub records : List MonthRecord
+  pub history : IsHistory b series records
+  pub are : items ≡ items_of b records
+
+pub items_sound : (b : Basin) → IsValidBasin b → (series : Inflows) (items : List Item) → is_whole items ≡ true → IsFront b items → AreGood b series (nothing_told b) items →
+    IsOfHistory b series items
+items_sound b valid series items whole front g =
+    let head = head_of b items (whole_fills b valid series items whole front) in
+    let good = subst (λ (xs : List Item). AreGood b series (nothing_told b) xs) head.are g in
+    let run = head.is_run (tell b series (nothing_told b) line.Title) series good.1.0 in
+    let good_run = subst (λ (i : Item). AreGood b series (nothing_told b) (line.Title ∷ i ∷ head.others)) run good in
+    let months = months_sound b valid series b.months 0 [] (nothing_told b) head.others refl (omega arith) (record {
+      calling = refl;
+      months = refl;
+      partial = nothing_is_partial b series;
+      opens = length-map b.reservoirs (λ v. v.opening);
+    }) head.rest good_run.1.1 in
+    record {
+      records = months.records;
+      history = record { partial = months.partial; whole = months.count };
+      are = head.are ∙ (ap (λ i. line.Title ∷ i ∷ head.others) run ∙ ap (λ ys. line.Title ∷ line.Run b.first b.months ∷ ys) months.are);
+    }
+
+pub yes_gives_history : YesGivesHistory
+yes_gives_history b series lines rest items valid h =
+    let yes' = yes_says b series lines rest items h in
+    let said = verdict_says b valid series [] items lines yes'.lines_good in
+    by_front yes' said said.front
+  where
+    by_front : IsYes b series lines rest items → (said : AreJudged b series [] items lines) → (said.more ≡ []) ⊎ IsFront b items →
+        (records : List MonthRecord) × IsHistory b series records × (lines ≡ map (line_of b) (items_of b records)) × (rest ≡ []) × (items ≡ items_of b records)
+    by_front y said (inl none) = let never : false ≡ true = sym (ap is_whole (said.are ∙ none)) ∙ y.whole in cc
+    by_front y said (inr front) =
+        let sound = items_sound b valid series items y.whole front (subst (λ (xs : List Item). AreGood b series (nothing_told b) xs) (sym said.are) said.good) in
+        (sound.records, sound.history, said.spelled ∙ ap (map (line_of b)) (sym said.are ∙ sound.are), y.no_rest, sound.are)
