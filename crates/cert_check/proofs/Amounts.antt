@@ -1,18 +1,17 @@
 -- The amounts of a history are those of a text.
-use Rattle.std.proofs.Common.{◌≡◌, ℕ, zero, suc, ◌+◌, ◌-◌, ◌*◌, ◌^◌, ◌<◌, ◌≤◌, refl, sym, ap, subst, ◌∙◌, arith, inl, inr, List, [], ◌∷◌, length, map, take, length-take}
-use Rattle.std.specs.Prelude.{Option, Some, None, All, min, option_map, unwrap_or, slice_get, slice_index}
+use Rattle.std.proofs.Common.{◌≡◌, ℕ, zero, suc, ◌+◌, ◌-◌, ◌*◌, ◌^◌, ◌<◌, ◌≤◌, refl, sym, ap, subst, ◌∙◌, arith, List, [], ◌∷◌, length, map, take}
+use Rattle.std.specs.Prelude.{Option, Some, None, option_map, unwrap_or, slice_get, slice_index}
 use Rattle.std.proofs.lemmas.List.Elements.{All-from_get_or}
 use Rattle.std.proofs.lemmas.Option.{get_or_from_slice_get}
-use Rattle.place_sums.specs.Sums.{total, total_where}
+use Rattle.place_sums.specs.Sums.{total}
 use Rattle.place_sums.proofs.Totals.{term_le_total, total_same}
 use Rattle.cut_cert.proofs.Bounds.{carry_most, all_most}
 use Rattle.month_terms.proofs.Amounts.{want_is, want_most, nothing_used, follows_small, deliveries_small, supply_small}
 use Rattle.month_terms.proofs.Bounds.{returns_small}
 use Rattle.result_text.proofs.Whole.{IsMonth-run_month}
 use Rattle.water_text.specs.Months.{IsMonth}
-use Rattle.water_model.specs.History.{IsPartialHistory, IsHistory, Follows, opening_after, is_zone_of}
+use Rattle.water_model.specs.History.{IsPartialHistory, Follows, opening_after, is_zone_of}
 use Rattle.water_model.specs.Hydrology.{inflow_at, returned_at, stored_at, evaporation, in_year}
-use Rattle.water_model.specs.Lookups.{of_entry}
 use Rattle.water_model.specs.Valid.{IsValidBasin, IsValidReservoir, IsSeriesOf}
 use Rattle.water_model.specs.declared.types.Basin.{Basin}
 use Rattle.water_model.specs.declared.types.Inflows.{Inflows}

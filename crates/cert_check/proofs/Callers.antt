@@ -1,11 +1,10 @@
 -- What the rows say of `called` lines, and of the lines behind them.
-use Rattle.std.proofs.Common.{◌≡◌, ℕ, ◌+◌, ◌<◌, ◌≤◌, Bool, true, false, refl, sym, ap, subst, ◌∙◌, arith, inl, inr, List, [], ◌∷◌, ◌++◌, length, map, fold, append_assoc, append-nil, length-append}
-use Rattle.std.specs.Prelude.{Option, Some, None, ◌&&◌, ◌==◌, not, is_none, nat_lt, slice_get, slice_index}
+use Rattle.std.proofs.Common.{◌≡◌, ℕ, ◌+◌, ◌<◌, ◌≤◌, Bool, true, false, refl, sym, ap, ◌∙◌, arith, List, [], ◌∷◌, ◌++◌, length, map, fold, append_assoc, append-nil, length-append}
+use Rattle.std.specs.Prelude.{Option, Some, None, ◌&&◌, ◌==◌, not, nat_lt, slice_get, slice_index}
 use Rattle.std.specs.List.{flat_map}
 use Rattle.std.proofs.lemmas.Bool.Decides.{nat_tests}
 use Rattle.place_sums.specs.Sums.{total_where}
 use Rattle.water_model.specs.History.{cut_of, is_zone_of}
-use Rattle.water_model.specs.Places.{seniors_first}
 use Rattle.water_model.specs.Text.{calls, calling_right, called_items}
 use Rattle.water_model.specs.declared.item.Item.{Item}
 use Rattle.water_model.specs.declared.item.Item.TheVariants as line
@@ -13,7 +12,7 @@ use Rattle.water_model.specs.declared.types.Basin.{Basin}
 use Rattle.water_model.specs.declared.types.Inflows.{Inflows}
 use Rattle.water_model.specs.declared.types.MonthRecord.{MonthRecord}
 use Rattle.result_reader.specs.Telling.{Told, tell}
-use Rattle.cert_check.specs.Checking.{rows, is_short, is_behind_calls, passes, caller_due, callers_due, is_due, cut_missing}
+use Rattle.cert_check.specs.Checking.{rows, is_short, caller_due, callers_due, is_due}
 use Rattle.cert_check.proofs.Rows.{NoneHolds, AreGood, Section, is_same, same_is}
 use Rattle.cert_check.proofs.Calls.{IsSettled, loose_fails, settled, missing_fails, none_missing}
 

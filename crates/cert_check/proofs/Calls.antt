@@ -1,17 +1,15 @@
 -- What the rows say of `call` lines and of the nodes of their sets.
-use Rattle.std.proofs.Common.{◌≡◌, ℕ, zero, suc, ◌+◌, ◌<◌, Bool, true, false, refl, sym, ap, subst, ◌∙◌, arith, inl, inr, List, [], ◌∷◌, ◌++◌, length, map, fold}
-use Rattle.std.specs.Prelude.{Option, Some, None, ◌&&◌, ◌||◌, not, is_none, is_some, nat_lt, slice_index, slice_set}
+use Rattle.std.proofs.Common.{◌≡◌, ℕ, zero, suc, ◌+◌, ◌<◌, Bool, true, false, refl, sym, ap, subst, ◌∙◌, arith, inl, inr, List, [], ◌∷◌, ◌++◌, length, fold}
+use Rattle.std.specs.Prelude.{Option, Some, None, ◌&&◌, ◌||◌, not, is_none, slice_set}
 use Rattle.std.specs.List.{list_any, flat_map}
 use Rattle.std.specs.Option.{option_map_or}
 use Rattle.std.proofs.lemmas.Bool.{cases_eq}
 use Rattle.std.proofs.Math.ListN.{length-set}
-use Rattle.water_text.specs.declared.month.Month.{Month}
 use Rattle.water_model.specs.Basin.{is_senior}
 use Rattle.water_model.specs.CutSets.{CutSets, set_of, with_set}
 use Rattle.water_model.specs.History.{cut_of}
 use Rattle.water_model.specs.Lookups.{of_entry}
 use Rattle.water_model.specs.Places.{places_of, members_from}
-use Rattle.water_model.specs.Rights.{is_senior_in}
 use Rattle.water_model.specs.Text.{call_items}
 use Rattle.water_model.specs.declared.item.Item.{Item}
 use Rattle.water_model.specs.declared.item.Item.TheVariants as line
@@ -24,8 +22,8 @@ use Rattle.water_model.proofs.Seniority.{senior_trans}
 use Rattle.result_reader.specs.Due.{is_member}
 use Rattle.result_reader.specs.Telling.{Told, tell, with_supply}
 use Rattle.result_reader.proofs.Telling.{Sets, entry_set, tell_call, put_cut, fold-both}
-use Rattle.cert_check.specs.Checking.{rows, is_short, has_tight, is_tight, passes, cut_missing, is_behind_calls}
-use Rattle.cert_check.proofs.Rows.{NoneHolds, AreGood, nothing_passed, members_good, good_both, good_first, good_rest}
+use Rattle.cert_check.specs.Checking.{rows, is_short, has_tight, is_tight, passes, cut_missing}
+use Rattle.cert_check.proofs.Rows.{NoneHolds, AreGood, members_good, good_both, good_rest}
 
 clash : {X : Type 0} → true ≡ false → X
 clash h = cc

@@ -1,13 +1,11 @@
 -- A month that follows others is good.
-use Rattle.std.proofs.Common.{◌≡◌, ℕ, ◌+◌, ◌<◌, ◌≤◌, Bool, true, false, refl, sym, ap, subst, ◌∙◌, arith, inl, inr, List, [], ◌∷◌, length, map}
-use Rattle.std.specs.Prelude.{Option, Some, None, ◌&&◌, ◌==◌, not, min, nat_lt, slice_index}
+use Rattle.std.proofs.Common.{◌≡◌, ℕ, ◌+◌, ◌<◌, ◌≤◌, Bool, true, false, refl, ap, arith, List, length}
+use Rattle.std.specs.Prelude.{Option, Some, None, ◌&&◌, ◌==◌, min, nat_lt, slice_index}
 use Rattle.std.proofs.lemmas.Bool.Decides.{nat_tests}
-use Rattle.water_text.specs.declared.month.Month.{Month}
-use Rattle.water_model.specs.Basin.{is_outlet, taking_node, instream_link}
-use Rattle.water_model.specs.Cuts.{Separates, IsCut, IsTight, node_within, leaves, cut_capacity, cut_kept}
-use Rattle.water_model.specs.History.{Follows, cut_of}
-use Rattle.water_model.specs.Hydrology.{want_of}
-use Rattle.water_model.specs.Places.{places_of, seniors_first, return_nodes, outlets, rights_with_volume}
+use Rattle.water_model.specs.Basin.{taking_node, instream_link}
+use Rattle.water_model.specs.Cuts.{Separates, IsTight, leaves, cut_capacity, cut_kept}
+use Rattle.water_model.specs.History.{Follows}
+use Rattle.water_model.specs.Places.{places_of, seniors_first}
 use Rattle.water_model.specs.Plans.{carry_of, delivery_by_link, inflow_to, outflow_from, taken_at}
 use Rattle.water_model.specs.declared.types.Basin.{Basin}
 use Rattle.water_model.specs.declared.types.Inflows.{Inflows}
@@ -15,7 +13,7 @@ use Rattle.water_model.specs.declared.types.MonthRecord.{MonthRecord}
 use Rattle.water_model.proofs.Order.{Has, numbers_from-below, seniors_below}
 use Rattle.result_reader.specs.Records.{IsTextMonth}
 use Rattle.result_reader.proofs.AllTold.{filter-has, has_set}
-use Rattle.cert_check.specs.Checking.{is_short, is_tight, separates, amount_wrong, balances}
+use Rattle.cert_check.specs.Checking.{is_tight, separates, amount_wrong}
 use Rattle.cert_check.proofs.Calls.{HasRightSets}
 use Rattle.cert_check.proofs.Month.{IsGoodMonth}
 use Rattle.cert_check.proofs.Rows.{same_is}

@@ -1,6 +1,6 @@
 -- A good month follows those before it.
-use Rattle.std.proofs.Common.{◌≡◌, ◌≢◌, ℕ, zero, suc, ◌+◌, ◌<◌, ◌≤◌, Bool, true, false, refl, sym, ap, subst, ◌∙◌, arith, inl, inr, List, [], ◌∷◌, length, map, replicate}
-use Rattle.std.specs.Prelude.{Option, Some, None, ◌||◌, ◌==◌, ◌⊎◌, not, min, is_some, nat_lt, slice_get, slice_index, filter, if◌then◌else◌}
+use Rattle.std.proofs.Common.{◌≡◌, ℕ, zero, suc, ◌+◌, ◌<◌, ◌≤◌, Bool, true, false, refl, sym, ap, ◌∙◌, arith, inl, inr, List, [], ◌∷◌, length, map, replicate}
+use Rattle.std.specs.Prelude.{Option, Some, None, ◌||◌, ◌==◌, ◌⊎◌, min, is_some, nat_lt, slice_get, slice_index, filter, if◌then◌else◌}
 use Rattle.std.specs.List.{list_any}
 use Rattle.std.proofs.lemmas.Bool.{cases_Bool}
 use Rattle.std.proofs.lemmas.Bool.Decides.{nat_tests}
@@ -9,11 +9,11 @@ use Rattle.std.proofs.lemmas.List.{length-replicate, length-map}
 use Rattle.place_sums.proofs.Totals.{total_zero}
 use Rattle.month_terms.proofs.Amounts.{nothing_used}
 use Rattle.water_model.specs.Basin.{is_outlet, taking_node, taking_node_of_kind, instream_link, link_of_kind}
-use Rattle.water_model.specs.History.{Follows, FitsBasin, IsShort, cut_of, opening_after}
+use Rattle.water_model.specs.History.{Follows, cut_of, opening_after}
 use Rattle.water_model.specs.Hydrology.{run_month, inflow_at, stored_at, returned_at, returned_by, used_of}
 use Rattle.water_model.specs.Lookups.{of_entry}
 use Rattle.water_model.specs.Places.{numbers_from, places_of, seniors_first, return_nodes, outlets, rights_with_volume}
-use Rattle.water_model.specs.Plans.{IsPlan, carry_of, delivery_by_link, inflow_to, outflow_from, taken_at}
+use Rattle.water_model.specs.Plans.{carry_of, delivery_by_link, inflow_to, outflow_from, taken_at}
 use Rattle.water_model.specs.Valid.{IsValidBasin, HasValidPlace}
 use Rattle.water_model.specs.declared.types.Basin.{Basin}
 use Rattle.water_model.specs.declared.types.Inflows.{Inflows}
@@ -24,10 +24,10 @@ use Rattle.water_model.specs.declared.types.RightKind.TheVariants as kind
 use Rattle.water_model.proofs.Balance.{entry_at, kind_is}
 use Rattle.water_model.proofs.Order.{Has, length-numbers_from, numbers_from-has, seniors_have}
 use Rattle.result_reader.proofs.AllTold.{has-filter, filter-has}
-use Rattle.result_reader.proofs.MonthTold.{put_sets, take_of}
+use Rattle.result_reader.proofs.MonthTold.{take_of}
 use Rattle.result_reader.proofs.Telling.{set_all, length-set_all, set_all-has, set_all-other}
 use Rattle.result_reader.proofs.WholeMonth.{IsAllTold}
-use Rattle.cert_check.specs.Checking.{is_short, amount_wrong}
+use Rattle.cert_check.specs.Checking.{amount_wrong}
 use Rattle.cert_check.proofs.Follows.{is_tight_is}
 use Rattle.cert_check.proofs.Month.{IsGoodMonth}
 use Rattle.cert_check.proofs.Rows.{is_same}

@@ -1,9 +1,8 @@
 -- A month whose lines are not refuted is good.
-use Rattle.std.proofs.Common.{◌≡◌, ℕ, zero, suc, ◌+◌, ◌<◌, ◌≤◌, Bool, true, false, refl, sym, ap, subst, ◌∙◌, arith, inl, inr, List, [], ◌∷◌, ◌++◌, length, map, fold, append-nil, length-append}
+use Rattle.std.proofs.Common.{◌≡◌, ℕ, ◌<◌, ◌≤◌, Bool, true, false, refl, sym, ap, subst, ◌∙◌, arith, List, [], ◌∷◌, ◌++◌, length, map, fold, append-nil, length-append}
 use Rattle.std.specs.Prelude.{Option, Some, None, slice_index}
-use Rattle.water_model.specs.History.{cut_of, opening_after}
+use Rattle.water_model.specs.History.{cut_of}
 use Rattle.water_model.specs.Places.{places_of, seniors_first, return_nodes, outlets, rights_with_volume}
-use Rattle.water_model.specs.declared.item.Item.{Item}
 use Rattle.water_model.specs.declared.item.Item.TheVariants as line
 use Rattle.water_model.specs.declared.types.Basin.{Basin}
 use Rattle.water_model.specs.declared.types.Inflows.{Inflows}
@@ -15,9 +14,9 @@ use Rattle.cert_check.specs.Checking.{is_short, is_tight, balances, callers_due}
 use Rattle.cert_check.proofs.Rows.{AreGood, good_section, good_first, good_rest}
 use Rattle.cert_check.proofs.Sections as section
 use Rattle.cert_check.proofs.Outflows.{IsInBalance, outflows_told}
-use Rattle.cert_check.proofs.Calls.{HasRightSets, IsSettled, told_short, calls_told}
+use Rattle.cert_check.proofs.Calls.{HasRightSets, IsSettled, calls_told}
 use Rattle.cert_check.proofs.Callers.{AllCalled, Behind, IsPast, called_told, settled_called, closings, closing_past, end_past}
-use Rattle.cert_check.proofs.Month.{At, BehindCalls, IsGoodMonth, Stages, stages, begun, with_out, with_calls, told_balance, told_sees, told_callers, calls_stage, inner_lines, opening_lines, evaporated_lines, returned_lines, used_lines, flow_lines, deliver_lines, out_lines, call_lines, due_lines, closing_lines, behind_opening, behind_evaporated, behind_returned, behind_used, behind_flow, behind_deliver, behind_out, behind_calls, behind_called, behind_closing}
+use Rattle.cert_check.proofs.Month.{At, BehindCalls, IsGoodMonth, stages, begun, with_out, with_calls, told_balance, told_sees, told_callers, calls_stage, inner_lines, opening_lines, evaporated_lines, returned_lines, used_lines, flow_lines, deliver_lines, out_lines, call_lines, due_lines, closing_lines, behind_opening, behind_evaporated, behind_returned, behind_used, behind_flow, behind_deliver, behind_out, behind_calls, behind_called}
 
 balance_out : (b : Basin) (series : Inflows) (m : MonthRecord) (t : Told) → IsAllTold b series m → t.now ≡ with_out b m → IsInBalance b series t.now →
     (n : ℕ) → n < length b.nodes → balances b m n ≡ true

@@ -1,32 +1,29 @@
 -- The lines of a month are not refuted exactly where its record is right.
-use Rattle.std.proofs.Common.{◌≡◌, ℕ, ◌+◌, ◌<◌, Bool, true, false, refl, sym, ap, subst, ◌∙◌, arith, inl, inr, List, [], ◌∷◌, ◌++◌, length, map, fold, replicate, append_assoc, append-nil}
-use Rattle.std.specs.Prelude.{Option, Some, None, slice_index, nat_lt, is_none}
+use Rattle.std.proofs.Common.{◌≡◌, ℕ, ◌<◌, Bool, true, false, refl, sym, ap, subst, ◌∙◌, arith, inl, inr, List, [], ◌∷◌, ◌++◌, length, map, fold}
+use Rattle.std.specs.Prelude.{Option, Some, None, slice_index, nat_lt}
 use Rattle.std.specs.List.{flat_map}
 use Rattle.std.proofs.lemmas.List.{length-replicate}
 use Rattle.place_sums.specs.Sums.{total_where}
 use Rattle.water_model.specs.Basin.{instream_link}
 use Rattle.water_model.specs.History.{cut_of, opening_after, is_zone_of}
-use Rattle.water_model.specs.Hydrology.{in_year, inflow_at, stored_at, evaporation, returned_at, used_of, want_of}
+use Rattle.water_model.specs.Hydrology.{in_year, evaporation, returned_at, used_of, want_of}
 use Rattle.water_model.specs.Lookups.{of_entry}
 use Rattle.water_model.specs.Places.{places_of, seniors_first, return_nodes, outlets, rights_with_volume}
 use Rattle.water_model.specs.Plans.{carry_of}
-use Rattle.water_model.specs.Text.{calling_right, call_items, called_items, month_sections}
+use Rattle.water_model.specs.Text.{call_items, month_sections}
 use Rattle.water_model.specs.declared.item.Item.{Item}
 use Rattle.water_model.specs.declared.item.Item.TheVariants as line
 use Rattle.water_model.specs.declared.types.Basin.{Basin}
 use Rattle.water_model.specs.declared.types.Inflows.{Inflows}
 use Rattle.water_model.specs.declared.types.MonthRecord.{MonthRecord}
-use Rattle.water_model.proofs.Order.{Has, IsOrdered, seniors_below}
+use Rattle.water_model.proofs.Order.{Has, seniors_below}
 use Rattle.result_reader.specs.Telling.{Told, tell, blank_month, with_supply}
-use Rattle.result_reader.proofs.MonthTold.{Makes, makes_openings, makes_evaporations, makes_returns, makes_used, makes_flows, makes_deliveries, makes_outflows, makes_closings, tells_calls, put_sets, with_sets, take_of}
-use Rattle.result_reader.proofs.Telling.{set_all, tell_call, fold-both}
+use Rattle.result_reader.proofs.MonthTold.{Makes, makes_openings, makes_evaporations, makes_returns, makes_used, makes_flows, makes_deliveries, makes_outflows, tells_calls, put_sets, with_sets}
+use Rattle.result_reader.proofs.Telling.{tell_call, fold-both}
 use Rattle.result_reader.proofs.WholeMonth.{IsAllTold}
-use Rattle.cert_check.specs.Checking.{is_short, balances, callers_due, caller_due, amount_wrong}
-use Rattle.cert_check.proofs.Rows.{NoneHolds, AreGood, Section, section_good, good_section, section_keeps, good_both, good_first, good_rest}
-use Rattle.cert_check.proofs.Sections as section
-use Rattle.cert_check.proofs.Outflows.{IsInBalance, outlets_rise, outflows_good, outflows_told}
-use Rattle.cert_check.proofs.Calls.{Sees, IsSettled, Calling, HasRightSets, sees_more, calls_good, calls_told, behind_call}
-use Rattle.cert_check.proofs.Callers.{Callers, AllCalled, Behind, IsPast, called_line, called_lines, called_good, called_told, same_callers, settled_called, closings, end_good, closing_past, end_past}
+use Rattle.cert_check.specs.Checking.{balances, callers_due, caller_due, amount_wrong}
+use Rattle.cert_check.proofs.Calls.{Sees, HasRightSets, sees_more, behind_call}
+use Rattle.cert_check.proofs.Callers.{called_line, called_lines, same_callers}
 
 -- what stands behind some lines of a month: no open call, the months before, and the month so far
 pub record At (b : Basin) (before : List MonthRecord) (now : MonthRecord) (t : Told) : Type 0 where

@@ -1,7 +1,7 @@
 -- The lines of a good month are not refuted.
-use Rattle.std.proofs.Common.{◌≡◌, ℕ, zero, suc, ◌<◌, Bool, true, false, refl, sym, ap, ◌∙◌, List, [], ◌∷◌, ◌++◌, length, map, fold, replicate}
+use Rattle.std.proofs.Common.{◌≡◌, ℕ, zero, suc, ◌<◌, Bool, true, refl, sym, ap, ◌∙◌, List, [], ◌∷◌, ◌++◌, length, fold, replicate}
 use Rattle.std.specs.Prelude.{Option, Some, None, slice_index}
-use Rattle.water_model.specs.History.{cut_of, opening_after}
+use Rattle.water_model.specs.History.{cut_of}
 use Rattle.water_model.specs.Lookups.{of_entry}
 use Rattle.water_model.specs.Places.{places_of, seniors_first, return_nodes, outlets, rights_with_volume}
 use Rattle.water_model.specs.Rights.{AreStrict}
@@ -18,7 +18,7 @@ use Rattle.cert_check.proofs.Sections as section
 use Rattle.cert_check.proofs.Outflows.{IsInBalance, outlets_rise, outflows_good}
 use Rattle.cert_check.proofs.Calls.{Calling, HasRightSets, told_short, calls_good}
 use Rattle.cert_check.proofs.Callers.{Callers, Behind, called_line, called_good, closings, end_good}
-use Rattle.cert_check.proofs.Month.{At, BehindCalls, IsGoodMonth, Stages, stages, begun, with_out, told_balance, told_sees, told_callers, calls_stage, inner_lines, opening_lines, evaporated_lines, returned_lines, used_lines, flow_lines, deliver_lines, out_lines, call_lines, due_lines, closing_lines, behind_opening, behind_evaporated, behind_returned, behind_used, behind_flow, behind_deliver, behind_out, behind_calls, behind_called, behind_closing}
+use Rattle.cert_check.proofs.Month.{At, BehindCalls, IsGoodMonth, stages, begun, with_out, told_balance, told_sees, told_callers, calls_stage, inner_lines, opening_lines, evaporated_lines, returned_lines, used_lines, flow_lines, deliver_lines, out_lines, call_lines, due_lines, closing_lines, behind_opening, behind_evaporated, behind_returned, behind_used, behind_flow, behind_deliver, behind_out, behind_calls, behind_called, behind_closing}
 
 out_balance : (b : Basin) (series : Inflows) (m : MonthRecord) (t : Told) → IsAllTold b series m → t.now ≡ with_out b m → ((n : ℕ) → n < length b.nodes → balances b m n ≡ true) →
     IsInBalance b series t.now

@@ -1,19 +1,18 @@
 -- The lines that fill what is due for a month.
-use Rattle.std.proofs.Common.{◌≡◌, ℕ, Bool, false, refl, sym, ap, subst, ◌∙◌, List, [], ◌∷◌, ◌++◌, length, map, append_assoc}
-use Rattle.std.specs.Prelude.{Option, Some, None}
+use Rattle.std.proofs.Common.{◌≡◌, ℕ, Bool, refl, sym, ap, subst, ◌∙◌, List, [], ◌∷◌, ◌++◌, length, map, append_assoc}
+use Rattle.std.specs.Prelude.{Option, Some}
 use Rattle.std.specs.List.{flat_map}
-use Rattle.water_model.specs.Hydrology.{run_month}
 use Rattle.water_model.specs.Places.{places_of, seniors_first, return_nodes, outlets, rights_with_volume}
 use Rattle.water_model.specs.Text.{call_items}
 use Rattle.water_model.specs.Valid.{IsValidBasin}
 use Rattle.water_model.specs.declared.item.Item.{Item}
 use Rattle.water_model.specs.declared.item.Item.TheVariants as line
 use Rattle.water_model.specs.declared.types.Basin.{Basin}
-use Rattle.result_reader.specs.Form.{Fills, due_in_month, due_for_month, takers}
+use Rattle.result_reader.specs.Form.{Fills, due_in_month, takers}
 use Rattle.result_reader.specs.declared.shape.Shape.{Shape}
 use Rattle.result_reader.specs.declared.shape.Shape.TheVariants as shape
 use Rattle.cert_check.proofs.Callers.{called_line}
-use Rattle.cert_check.proofs.Inverts.{Fields, OneLine, one_line, Lines, each_line, CallLines, each_call, CalledLines, each_called}
+use Rattle.cert_check.proofs.Inverts.{Fields, one_line, each_line, each_call, each_called}
 use Rattle.cert_check.proofs.Sheets.{Sheet, sheet_lines, places_apart, filter_apart, seniors_apart}
 
 -- what is due for a month, and behind it
@@ -339,7 +338,7 @@ pub inner_filled : (b : Basin) → IsValidBasin b → (ds : List Shape) (items :
 inner_filled b valid ds items h =
     let t = from_opening b valid ds items (subst (λ (xs : List Shape). Fills b xs items) (due_then b ds) h) in
     record {
-      sheet = record { opening = t.opening; evaporated = t.evaporated; returned = t.returned; used = t.used; flow = t.flow; deliver = t.deliver; out = t.out; closing = t.closing; cut = t.cut; };
+      sheet = record { opening = t.opening; evaporated = t.evaporated; returned = t.returned; used = t.used; flow = t.flow; deliver = t.deliver; out = t.out; closing = t.closing; cut = t.cut };
       dues = t.dues;
       sized = t.sized;
       others = t.others;

@@ -1,6 +1,6 @@
 -- Lines that no row holds of.
-use Rattle.std.proofs.Common.{◌≡◌, ℕ, Bool, true, false, refl, sym, ap, ◌∙◌, arith, inl, inr, List, [], ◌∷◌, ◌++◌, map, fold}
-use Rattle.std.specs.Prelude.{Option, Some, None, ◌&&◌, ◌||◌, ◌==◌, not, find, option_map, is_none, nat_lt, slice_index}
+use Rattle.std.proofs.Common.{◌≡◌, ℕ, Bool, true, false, refl, sym, arith, inl, inr, List, [], ◌∷◌, ◌++◌, map, fold}
+use Rattle.std.specs.Prelude.{Some, None, ◌&&◌, ◌==◌, not, find, option_map, is_none}
 use Rattle.std.specs.List.{list_any}
 use Rattle.std.proofs.lemmas.Bool.Decides.{nat_tests}
 use Rattle.water_model.specs.History.{cut_of}
@@ -11,9 +11,7 @@ use Rattle.water_model.specs.declared.types.Basin.{Basin}
 use Rattle.water_model.specs.declared.types.Inflows.{Inflows}
 use Rattle.water_model.proofs.Order.{Has}
 use Rattle.result_reader.specs.Telling.{Told, tell}
-use Rattle.result_reader.proofs.Telling.{fold-both}
 use Rattle.cert_check.specs.Checking.{Row, rows, first_row, is_short, passes}
-use Rattle.cert_check.specs.declared.refuted.RefutedKind.{RefutedKind}
 
 -- no row of the list holds
 abbrev pub NoneHolds : List Row → Type 0

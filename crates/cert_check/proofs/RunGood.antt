@@ -1,26 +1,26 @@
 -- The lines of a history are not refuted.
-use Rattle.std.proofs.Common.{◌≡◌, ℕ, zero, suc, ◌+◌, ◌-◌, ◌<◌, Bool, true, false, refl, sym, ap, subst, ◌∙◌, arith, inl, inr, List, [], ◌∷◌, ◌++◌, length, map, fold, take, append_assoc, append-nil, length-append}
-use Rattle.std.specs.Prelude.{Option, Some, None, Ok, ◌||◌, option_map, unwrap_or, slice_get, slice_index}
-use Rattle.std.specs.List.{flat_map, list_any}
+use Rattle.std.proofs.Common.{◌≡◌, ℕ, zero, suc, ◌-◌, Bool, true, false, refl, sym, ap, subst, ◌∙◌, List, [], ◌∷◌, ◌++◌, length, map, fold, take, append_assoc, length-append}
+use Rattle.std.specs.Prelude.{Option, Some, None, Ok, ◌||◌, slice_get, slice_index}
+use Rattle.std.specs.List.{flat_map}
 use Rattle.std.proofs.lemmas.List.{length-map}
 use Rattle.std.proofs.lemmas.List.Folds.{list_any-append}
 use Rattle.water_model.specs.History.{IsPartialHistory, IsHistory, Follows, cut_of, opening_after}
 use Rattle.water_model.specs.Lookups.{of_entry}
 use Rattle.water_model.specs.Places.{members_from, places_of, seniors_first, return_nodes, outlets, rights_with_volume}
 use Rattle.water_model.specs.Spelling.{line_of}
-use Rattle.water_model.specs.Text.{call_items, calling_right, month_sections, items_of_month, items_of_head, items_of}
+use Rattle.water_model.specs.Text.{call_items, calling_right, items_of_month, items_of_head, items_of}
 use Rattle.water_model.specs.Valid.{IsValidBasin}
 use Rattle.water_model.specs.declared.item.Item.{Item}
 use Rattle.water_model.specs.declared.item.Item.TheVariants as line
 use Rattle.water_model.specs.declared.types.Basin.{Basin}
 use Rattle.water_model.specs.declared.types.Inflows.{Inflows}
 use Rattle.water_model.specs.declared.types.MonthRecord.{MonthRecord}
-use Rattle.result_reader.specs.Records.{IsTextMonth, AreTextMonths, without_room}
-use Rattle.result_reader.specs.Telling.{Told, tell, told_by, nothing_told, blank_month}
+use Rattle.result_reader.specs.Records.{AreTextMonths, without_room}
+use Rattle.result_reader.specs.Telling.{Told, tell, nothing_told, blank_month}
 use Rattle.result_reader.proofs.AllTold.{month_of, are_all_told}
 use Rattle.result_reader.proofs.Telling.{fold-both}
 use Rattle.result_reader.proofs.TextForm.{texts_are_accepted}
-use Rattle.result_reader.proofs.WholeMonth.{IsAllTold, AreAllTold, month_told}
+use Rattle.result_reader.proofs.WholeMonth.{AreAllTold, month_told}
 use Rattle.cert_check.specs.Checking.{callers_due, is_done, is_whole, verdict}
 use Rattle.cert_check.proofs.Callers.{called_line}
 use Rattle.cert_check.proofs.Follows.{follows_good}

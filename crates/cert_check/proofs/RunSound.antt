@@ -1,16 +1,15 @@
 -- The lines that are not refuted are those of a history.
-use Rattle.std.proofs.Common.{◌≡◌, ℕ, zero, suc, ◌+◌, ◌-◌, ◌<◌, ◌≤◌, Bool, true, false, refl, sym, ap, subst, ◌∙◌, arith, inl, inr, List, [], ◌∷◌, ◌++◌, length, map, fold, append_assoc, append-nil, length-append}
-use Rattle.std.specs.Prelude.{Option, Some, None, Result, Ok, ◌||◌, ◌⊎◌, slice_get}
-use Rattle.std.specs.List.{flat_map, list_any}
+use Rattle.std.proofs.Common.{◌≡◌, ℕ, zero, suc, ◌+◌, ◌-◌, ◌<◌, Bool, true, false, refl, sym, ap, subst, ◌∙◌, arith, inl, inr, List, [], ◌∷◌, ◌++◌, length, map, fold, append_assoc, append-nil, length-append}
+use Rattle.std.specs.Prelude.{Some, None, ◌||◌, ◌⊎◌, slice_get}
+use Rattle.std.specs.List.{flat_map}
 use Rattle.std.proofs.lemmas.List.{length-map}
-use Rattle.std.proofs.lemmas.List.Folds.{list_any-append}
 use Rattle.water_model.specs.History.{IsPartialHistory, IsHistory, Follows, opening_after}
 use Rattle.water_model.specs.Hydrology.{run_month}
 use Rattle.water_model.specs.Lookups.{of_entry}
-use Rattle.water_model.specs.Places.{numbers_from, places_of}
+use Rattle.water_model.specs.Places.{numbers_from}
 use Rattle.water_model.specs.Spelling.{line_of}
-use Rattle.water_model.specs.Text.{calling_right, items_of_month, items_of_head, items_of}
-use Rattle.water_model.specs.Valid.{IsValidBasin, IsSeriesOf}
+use Rattle.water_model.specs.Text.{calling_right, items_of_month, items_of}
+use Rattle.water_model.specs.Valid.{IsValidBasin}
 use Rattle.water_model.specs.declared.item.Item.{Item}
 use Rattle.water_model.specs.declared.item.Item.TheVariants as line
 use Rattle.water_model.specs.declared.types.Basin.{Basin}
@@ -18,19 +17,19 @@ use Rattle.water_model.specs.declared.types.Inflows.{Inflows}
 use Rattle.water_model.specs.declared.types.MonthRecord.{MonthRecord}
 use Rattle.water_model.proofs.Histories.{nothing_is_partial, one_month_more}
 use Rattle.result_reader.specs.Form.{Fills, IsFront, due, due_in_month, due_for_month}
-use Rattle.result_reader.specs.Telling.{Told, tell, told_by, nothing_told, blank_month}
+use Rattle.result_reader.specs.Telling.{Told, tell, nothing_told, blank_month}
 use Rattle.result_reader.specs.declared.shape.Shape.{Shape}
 use Rattle.result_reader.specs.declared.shape.Shape.TheVariants as shape
 use Rattle.result_reader.proofs.WholeMonth.{IsAllTold, month_told}
 use Rattle.cert_check.specs.Checking.{callers_due, rows, is_done, is_whole}
 use Rattle.cert_check.specs.Laws.{YesGivesHistory}
 use Rattle.cert_check.proofs.GoodFollows.{good_follows}
-use Rattle.cert_check.proofs.GoodMonth.{HasOutlet, inner_is_good}
-use Rattle.cert_check.proofs.Inverts.{OneLine, one_line}
+use Rattle.cert_check.proofs.GoodMonth.{inner_is_good}
+use Rattle.cert_check.proofs.Inverts.{one_line}
 use Rattle.cert_check.proofs.Month.{At, begun, inner_lines, IsGoodMonth}
-use Rattle.cert_check.proofs.MonthLines.{MonthLines, inner_filled}
+use Rattle.cert_check.proofs.MonthLines.{inner_filled}
 use Rattle.cert_check.proofs.Rows.{NoneHolds, AreGood, good_first, good_rest}
-use Rattle.cert_check.proofs.RunGood.{Calm, calm, inner_calm, items_are, open_both, inner_open}
+use Rattle.cert_check.proofs.RunGood.{calm, inner_calm, items_are, open_both, inner_open}
 use Rattle.cert_check.proofs.Sections.{head_is}
 use Rattle.cert_check.proofs.Sheets.{Sheet, sheet_lines, record_of, record_told, record_lines}
 use Rattle.cert_check.proofs.SomeOutlet.{some_outlet}

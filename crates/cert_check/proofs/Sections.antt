@@ -1,6 +1,6 @@
 -- What the rows say of the lines of a month before its `out` lines.
-use Rattle.std.proofs.Common.{◌≡◌, ℕ, Bool, true, false, refl, sym, ap, ◌∙◌, arith, List, [], ◌∷◌, map}
-use Rattle.std.specs.Prelude.{Option, Some, None, ◌||◌, ◌&&◌, not, ◌==◌, nat_lt, slice_index}
+use Rattle.std.proofs.Common.{◌≡◌, ℕ, Bool, true, false, refl, sym, ap, ◌∙◌, arith, List, map}
+use Rattle.std.specs.Prelude.{None, ◌||◌, ◌&&◌, not, ◌==◌, nat_lt, slice_index}
 use Rattle.std.proofs.lemmas.Bool.Decides.{nat_tests}
 use Rattle.water_text.specs.declared.month.Month.{Month}
 use Rattle.water_model.specs.Basin.{instream_link}
@@ -13,8 +13,8 @@ use Rattle.water_model.specs.declared.item.Item.TheVariants as line
 use Rattle.water_model.specs.declared.types.Basin.{Basin}
 use Rattle.water_model.specs.declared.types.Inflows.{Inflows}
 use Rattle.water_model.specs.declared.types.MonthRecord.{MonthRecord}
-use Rattle.result_reader.specs.Telling.{Told, tell}
-use Rattle.cert_check.specs.Checking.{rows, amount_wrong, head_wrong, is_same_month}
+use Rattle.result_reader.specs.Telling.{Told}
+use Rattle.cert_check.specs.Checking.{rows, amount_wrong, is_same_month}
 use Rattle.cert_check.proofs.Rows.{NoneHolds, Section, nothing_passed, is_same, same_is}
 
 both_fail : (p q : Bool) → p || q ≡ false → (p ≡ false) × (q ≡ false)

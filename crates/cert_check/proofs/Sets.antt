@@ -90,7 +90,6 @@ no_sets zero k = refl
 no_sets (suc n) zero = refl
 no_sets (suc n) (suc k) = no_sets n k
 
-
 -- sets that are the same at the rights that are gone over
 pub put_sets-same : (rs : List ℕ) (cut other : ℕ → Option (List Bool)) (ys : Sets) → ((r : ℕ) → Has rs r → cut r ≡ other r) → put_sets rs cut ys ≡ put_sets rs other ys
 unfolding put_one

@@ -1,5 +1,5 @@
 -- The lines of a month, from its form, are those of a record.
-use Rattle.std.proofs.Common.{◌≡◌, ℕ, zero, suc, ◌+◌, ◌<◌, Bool, true, false, refl, sym, ap, subst, ◌∙◌, arith, inl, inr, List, [], ◌∷◌, ◌++◌, length, map, replicate, filter, append_assoc}
+use Rattle.std.proofs.Common.{◌≡◌, ℕ, zero, suc, ◌+◌, ◌<◌, Bool, true, false, refl, sym, ap, ◌∙◌, arith, inl, inr, List, [], ◌∷◌, ◌++◌, length, map, replicate, filter}
 use Rattle.std.specs.Prelude.{Option, Some, None, option_map, unwrap_or, slice_index, slice_set, is_some, if◌then◌else◌}
 use Rattle.std.specs.List.{flat_map}
 use Rattle.std.proofs.lemmas.Bool.{cases_lt}
@@ -17,16 +17,13 @@ use Rattle.water_model.specs.declared.types.Basin.{Basin}
 use Rattle.water_model.specs.declared.types.Inflows.{Inflows}
 use Rattle.water_model.specs.declared.types.MonthRecord.{MonthRecord}
 use Rattle.water_model.proofs.Order.{Has, IsOrdered, numbers_from-below, seniors_have, seniors_below, seniors_ordered}
-use Rattle.result_reader.specs.Form.{Fills, due_in_month, due_for_month, takers}
-use Rattle.result_reader.specs.declared.shape.Shape.{Shape}
-use Rattle.result_reader.specs.declared.shape.Shape.TheVariants as shape
 use Rattle.result_reader.proofs.AllTold.{filter-has}
 use Rattle.result_reader.proofs.MonthTold.{put_sets, take_of}
 use Rattle.result_reader.proofs.Telling.{set_all, set_all-has}
 use Rattle.result_reader.proofs.WholeMonth.{IsAllTold}
 use Rattle.cert_check.proofs.Callers.{called_line}
 use Rattle.cert_check.proofs.Calls.{once_in_order}
-use Rattle.cert_check.proofs.Inverts.{Fields, with_fields, OneLine, one_line, AreApart, Lines, each_line, CallLines, each_call, CalledLines, each_called, map_same, flat_same}
+use Rattle.cert_check.proofs.Inverts.{Fields, AreApart, map_same, flat_same}
 use Rattle.cert_check.proofs.Month.{inner_lines}
 use Rattle.cert_check.proofs.Sets.{set_in, length-put_sets, put_sets-has, put_sets-same, no_sets}
 

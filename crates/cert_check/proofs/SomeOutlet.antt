@@ -1,11 +1,11 @@
 -- A valid basin has an outlet.
-use Rattle.std.proofs.Common.{◌≡◌, ℕ, zero, suc, ◌+◌, ◌<◌, ◌≤◌, Bool, true, false, refl, sym, ap, ◌∙◌, arith, inl, inr, List, [], ◌∷◌, length, filter}
+use Rattle.std.proofs.Common.{◌≡◌, ℕ, zero, suc, ◌+◌, ◌<◌, ◌≤◌, false, refl, ap, arith, inl, inr, List, [], ◌∷◌, length}
 use Rattle.std.proofs.lemmas.Bool.{cases_Bool}
 use Rattle.place_sums.specs.Sums.{total}
 use Rattle.place_sums.proofs.Totals.{term_le_total}
 use Rattle.river_net.proofs.Ranks.{HasNumbers, forward_numbers}
 use Rattle.water_model.specs.Basin.{is_outlet}
-use Rattle.water_model.specs.Network.{head_in, tail_in, HasRiverOut}
+use Rattle.water_model.specs.Network.{head_in}
 use Rattle.water_model.specs.Places.{places_of, outlets}
 use Rattle.water_model.specs.Valid.{IsValidBasin}
 use Rattle.water_model.specs.declared.types.Basin.{Basin}

@@ -1,11 +1,9 @@
 -- What the verdict on lines says of the lines.
-use Rattle.std.proofs.Common.{◌≡◌, ℕ, ◌+◌, Bool, true, false, refl, sym, ap, subst, ◌∙◌, arith, inl, inr, List, [], ◌∷◌, ◌++◌, length, map, fold, append_assoc, append-nil}
-use Rattle.std.specs.Prelude.{Option, Some, None, Result, Ok, Err, ◌||◌, ◌⊎◌, option_map, if◌then◌else◌}
-use Rattle.std.specs.List.{list_any}
+use Rattle.std.proofs.Common.{◌≡◌, ℕ, ◌+◌, Bool, true, false, refl, sym, ap, subst, ◌∙◌, inl, inr, List, [], ◌∷◌, ◌++◌, length, map, append_assoc, append-nil}
+use Rattle.std.specs.Prelude.{Option, Some, None, Result, Ok, Err, ◌⊎◌, if◌then◌else◌}
 use Rattle.water_model.specs.Spelling.{line_of}
 use Rattle.water_model.specs.Valid.{IsValidBasin}
 use Rattle.water_model.specs.declared.item.Item.{Item}
-use Rattle.water_model.specs.declared.item.Item.TheVariants as line
 use Rattle.water_model.specs.declared.types.Basin.{Basin}
 use Rattle.water_model.specs.declared.types.Inflows.{Inflows}
 use Rattle.result_reader.specs.Form.{IsFront}
@@ -14,7 +12,7 @@ use Rattle.result_reader.specs.Telling.{Told, tell, told_by, nothing_told}
 use Rattle.result_reader.specs.declared.bad_line.BadLine.{BadLine}
 use Rattle.result_reader.proofs.Accepting.{fronts_are_accepted}
 use Rattle.result_reader.proofs.Telling.{fold-both}
-use Rattle.cert_check.specs.Checking.{first_row, judge, judge_row, judge_read, ok_then, verdict_from, verdict_at_end, verdict, is_done, is_whole}
+use Rattle.cert_check.specs.Checking.{first_row, judge, judge_row, judge_read, ok_then, verdict_from, verdict_at_end, verdict, is_whole}
 use Rattle.cert_check.specs.declared.refuted.RefutedKind.{RefutedKind}
 use Rattle.cert_check.specs.declared.refuted.RefutedKind.TheVariants as kind
 use Rattle.cert_check.specs.declared.refuted.Refuted.{Refuted}
