@@ -6,5 +6,6 @@
 
 pub mod laws;
 mod refuted;
+pub mod compare;
 
 pub use refuted::{Refuted, RefutedKind};
