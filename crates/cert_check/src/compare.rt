@@ -9,14 +9,17 @@ ghost use Rattle.result_reader.specs.Telling.{Told};
 ghost use Rattle.water_text.specs.Months.{IsMonth};
 ghost use Rattle.water_model.specs.Basin.{instream_link};
 ghost use Rattle.water_model.specs.History.{FitsBasin, is_zone_of, opening_after};
-ghost use Rattle.water_model.specs.Hydrology.{returned_at};
+ghost use Rattle.water_model.specs.Hydrology.{evaporation, returned_at, run_month};
+ghost use Rattle.water_model.specs.Lookups.{of_entry};
+ghost use Rattle.water_model.specs.declared.types.Inflows.{Inflows};
 ghost use Rattle.water_model.specs.Valid.{IsValidBasin};
 ghost use Rattle.cert_check.specs.Checking as checking;
 ghost use Rattle.cert_check.specs.Shows.{Shows};
 
-use water_model::calls::carry_of;
+use reservoirs::AreaTable;
+use water_model::calls::{carry_of, want_of};
 use water_model::item::Item;
-use water_model::types::{Basin, MonthRecord};
+use water_model::types::{Basin, MonthRecord, RightKind};
 use water_text::month::Month;
 
 /// Whether a line is an `in` line.
@@ -137,6 +140,97 @@ pub fn return_wrong(basin: &Basin, comes: &[u64], item: &Item) -> bool
 {
     match *item {
         Item::Returned { node, amount } => !(amount == comes[node as usize]),
+        _ => false,
+    }
+}
+
+/// What evaporates from a reservoir that opens with an amount, in the month at this place of a list of twelve.
+fn evaporation_of(
+    basin: &Basin,
+    tables: &[AreaTable],
+    reservoir: u32,
+    place: usize,
+    storage: u64,
+) -> u64
+    requires tables { tables.now ≡ map (λ v. v.area) basin.now.reservoirs }
+    requires reservoir { reservoir < length basin.now.reservoirs }
+    requires place { place < 12 }
+    ensures { result ≡ of_entry basin.now.reservoirs reservoir (λ r. evaporation r.area storage (slice_index r.rate place)) 0 }
+{
+    let rate = basin.reservoirs[reservoir as usize].rate[place];
+    tables[reservoir as usize].evaporation(storage, rate)
+}
+
+/// Whether an `evap` line gives another amount than evaporates from what the reservoir opens with. `tables` has the area
+/// table of each.
+pub fn evaporation_wrong(
+    basin: &Basin,
+    tables: &[AreaTable],
+    month: &MonthRecord,
+    item: &Item,
+) -> bool
+    requires tables { tables.now ≡ map (λ v. v.area) basin.now.reservoirs }
+    requires fits { FitsBasin basin.now month.now }
+    requires calendar { IsMonth month.now.month }
+    requires month { month.now.month ≡ run_month basin.now month.now.index }
+    requires item { IsOfBasin basin.now item.now }
+    ensures { (t : Told) → Shows month.now t → result ≡ checking.evaporation_wrong basin.now t item.now }
+{
+    match *item {
+        Item::Evaporated { reservoir, amount } => {
+            let place = month.month.month as usize - 1;
+            let storage = month.opening[reservoir as usize];
+            !(amount == evaporation_of(basin, tables, reservoir, place, storage))
+        }
+        _ => false,
+    }
+}
+
+/// Whether a `used` line gives another amount than the right used of its volume. In a valid basin no right has one.
+pub fn used_wrong(basin: &Basin, item: &Item) -> bool
+    requires basin { IsValidBasin basin.now }
+    requires item { IsOfBasin basin.now item.now }
+    ensures { (t : Told) → result ≡ checking.used_wrong basin.now t item.now }
+{
+    match *item {
+        Item::Used { amount, .. } => !(amount == 0),
+        _ => false,
+    }
+}
+
+/// Whether an amount that is delivered is wrong by the want: a take above it, or of an instream right another amount
+/// than the lesser of want and flow.
+fn amount_wrong(basin: &Basin, flow: &[u64], right: u32, amount: u64, want: u64) -> bool
+    requires basin { IsValidBasin basin.now }
+    requires right { right < length basin.now.rights }
+    requires flow { length flow.now ≡ length basin.now.links }
+    ensures { result ≡ checking.amount_wrong (instream_link basin.now right) flow.now amount want }
+{
+    match basin.rights[right as usize].kind {
+        RightKind::Instream { link } => !(amount == want.min(flow[link as usize])),
+        RightKind::Diversion { .. } => want < amount,
+        RightKind::Zone { .. } => want < amount,
+    }
+}
+
+/// Whether a `deliver` line gives another want than the right's, or an amount that is wrong by it.
+pub fn delivery_wrong(basin: &Basin, month: &MonthRecord, item: &Item) -> bool
+    requires basin { IsValidBasin basin.now }
+    requires flow { length month.now.plan.flow ≡ length basin.now.links }
+    requires calendar { IsMonth month.now.month }
+    requires month { month.now.month ≡ run_month basin.now month.now.index }
+    requires item { IsOfBasin basin.now item.now }
+    ensures { (series : Inflows) (t : Told) → Shows month.now t → result ≡ checking.delivery_wrong basin.now series t item.now }
+{
+    match *item {
+        Item::Deliver {
+            right,
+            amount,
+            want,
+        } => {
+            !(want == want_of(basin, right, month.month))
+                || amount_wrong(basin, month.plan.flow.as_slice(), right, amount, want)
+        }
         _ => false,
     }
 }
