@@ -4,8 +4,8 @@
 //! what the lines before it tell, and each set of nodes that a text gives for a short right is tested as a cut.
 #![tactic(auto)]
 
+pub mod compare;
 pub mod laws;
 mod refuted;
-pub mod compare;
 
 pub use refuted::{Refuted, RefutedKind};
