@@ -1,0 +1,195 @@
+-- A good month follows those before it.
+use Rattle.std.proofs.Common.{◌≡◌, ℕ, zero, suc, ◌+◌, ◌<◌, ◌≤◌, Bool, true, false, refl, sym, ap, ◌∙◌, arith, inl, inr, List, [], ◌∷◌, length, map, replicate}
+use Rattle.std.specs.Prelude.{Option, Some, None, ◌||◌, ◌==◌, ◌⊎◌, min, is_some, nat_lt, slice_get, slice_index, filter, if◌then◌else◌}
+use Rattle.std.specs.List.{list_any}
+use Rattle.std.proofs.lemmas.Bool.{cases_Bool}
+use Rattle.std.proofs.lemmas.Bool.Decides.{nat_tests}
+use Rattle.std.proofs.lemmas.Grind.{same_number_lists}
+use Rattle.std.proofs.lemmas.List.{length-replicate, length-map}
+use Rattle.place_sums.proofs.Totals.{total_zero}
+use Rattle.month_terms.proofs.Amounts.{nothing_used}
+use Rattle.water_model.specs.Basin.{is_outlet, taking_node, taking_node_of_kind, instream_link, link_of_kind}
+use Rattle.water_model.specs.History.{Follows, cut_of, opening_after}
+use Rattle.water_model.specs.Hydrology.{run_month, inflow_at, stored_at, returned_at, returned_by, used_of}
+use Rattle.water_model.specs.Lookups.{of_entry}
+use Rattle.water_model.specs.Places.{numbers_from, places_of, seniors_first, return_nodes, outlets, rights_with_volume}
+use Rattle.water_model.specs.Plans.{carry_of, delivery_by_link, inflow_to, outflow_from, taken_at}
+use Rattle.water_model.specs.Valid.{IsValidBasin, HasValidPlace}
+use Rattle.water_model.specs.declared.types.Basin.{Basin}
+use Rattle.water_model.specs.declared.types.Inflows.{Inflows}
+use Rattle.water_model.specs.declared.types.MonthRecord.{MonthRecord}
+use Rattle.water_model.specs.declared.types.ReturnRow.{ReturnRow}
+use Rattle.water_model.specs.declared.types.RightKind.{RightKind}
+use Rattle.water_model.specs.declared.types.RightKind.TheVariants as kind
+use Rattle.water_model.proofs.Balance.{entry_at, kind_is}
+use Rattle.water_model.proofs.Order.{Has, length-numbers_from, numbers_from-has, seniors_have}
+use Rattle.result_reader.proofs.AllTold.{has-filter, filter-has}
+use Rattle.result_reader.proofs.MonthTold.{take_of}
+use Rattle.result_reader.proofs.Telling.{set_all, length-set_all, set_all-has, set_all-other}
+use Rattle.result_reader.proofs.WholeMonth.{IsAllTold}
+use Rattle.cert_check.specs.Checking.{amount_wrong}
+use Rattle.cert_check.proofs.Follows.{is_tight_is}
+use Rattle.cert_check.proofs.Month.{IsGoodMonth}
+use Rattle.cert_check.proofs.Rows.{is_same}
+use Rattle.cert_check.proofs.Sets.{length-put_sets}
+
+is_most : (x y : ℕ) → nat_lt x y ≡ false → y ≤ x
+is_most x y h = grind (arith, nat_tests)
+
+less_is : (x y : ℕ) → x < y → nat_lt x y ≡ true
+less_is x y h = grind (arith, nat_tests)
+
+not_less : (x y : ℕ) → y ≤ x → nat_lt x y ≡ false
+not_less x y h = grind (arith, nat_tests)
+
+equal : (x y : ℕ) → x == y ≡ true → x ≡ y
+equal x y h = grind (arith, nat_tests)
+
+-- Lists that are told.
+
+zeros : (n k : ℕ) → slice_index (replicate n 0) k ≡ 0
+zeros zero k = refl
+zeros (suc n) zero = refl
+zeros (suc n) (suc k) = zeros n k
+
+told_len : (xs : List ℕ) (a : ℕ → ℕ) (n : ℕ) (ys : List ℕ) → set_all xs a (replicate n 0) ≡ ys → length ys ≡ n
+told_len xs a n ys is = sym (ap length is) ∙ (length-set_all xs a (replicate n 0) ∙ length-replicate n 0)
+
+untold : (xs : List ℕ) (a : ℕ → ℕ) (n : ℕ) (ys : List ℕ) (k : ℕ) → set_all xs a (replicate n 0) ≡ ys → (Has xs k → ⊥) → slice_index ys k ≡ 0
+untold xs a n ys k is none = sym (ap (λ zs. slice_index zs k) is) ∙ (set_all-other xs a (replicate n 0) k none ∙ zeros n k)
+
+told_at : (xs : List ℕ) (a : ℕ → ℕ) (n : ℕ) (ys : List ℕ) (k : ℕ) → set_all xs a (replicate n 0) ≡ ys → k < n → Has xs k → slice_index ys k ≡ a k
+told_at xs a n ys k is l has = sym (ap (λ zs. slice_index zs k) is) ∙ set_all-has xs a (replicate n 0) k (omega (arith, length-replicate {A = ℕ} n 0)) has
+
+has_place : {X : Type 0} (xs : List X) (k : ℕ) → k < length xs → Has (places_of xs) k
+has_place xs k l = numbers_from-has 0 (length xs) k k l (omega arith)
+
+map_at : (f : ℕ → ℕ) (from n k : ℕ) → k < n → slice_index (map f (numbers_from from n)) k ≡ f (from + k)
+unfolding numbers_from
+map_at f from zero k l = absurd (omega arith)
+map_at f from (suc n) zero l = let e : from ≡ from + 0 = omega arith in ap f e
+map_at f from (suc n) (suc k) l = let e : suc from + k ≡ from + suc k = omega arith in map_at f (suc from) n k (omega arith) ∙ ap f e
+
+-- a number of a place that passes a test or is told to be 0
+by_filter : (p : ℕ → Bool) (xs : List ℕ) (k x y : ℕ) → Has xs k → (Has (filter p xs) k → x ≡ y) → ((Has (filter p xs) k → ⊥) → x ≡ 0) → (p k ≡ false → y ≡ 0) → x ≡ y
+by_filter p xs k x y has told none zero_there = elim (cases_Bool (p k)) [
+  | inl passes ↦ told (has-filter p xs k has passes)
+  | inr fails ↦ none (λ h. (let both : false ≡ true = sym fails ∙ (filter-has p xs k h).1 in cc)) ∙ sym (zero_there fails)
+]
+
+-- Returns that no row brings.
+
+none_passes : {X : Type 0} (p : X → Bool) (xs : List X) (k : ℕ) (x : X) → list_any p xs ≡ false → slice_get xs k ≡ Some x → p x ≡ false
+none_passes p [] k x h e = cc
+none_passes p (y ∷ ys) zero x h e = let same : Some y ≡ Some x = e in let is : y ≡ x = cc in rw (← is) (first (p y) (list_any p ys) h)
+  where
+    first : (q r : Bool) → q || r ≡ false → q ≡ false
+    first true r g = cc
+    first false r g = refl
+none_passes p (y ∷ ys) (suc k) x h e = none_passes p ys k x (second (p y) (list_any p ys) h) e
+  where
+    second : (q r : Bool) → q || r ≡ false → r ≡ false
+    second true r g = cc
+    second false r g = g
+
+nothing_returns : (b : Basin) (deliveries : List (List ℕ)) (n i : ℕ) → list_any (λ row. row.node == n) b.returns ≡ false → returned_at b deliveries n i ≡ 0
+nothing_returns b deliveries n i h =
+    total_zero (length b.returns) (λ k. of_entry b.returns k (λ row. if row.node == n then returned_by row deliveries i else 0) 0) (λ k l. at_row k (entry_at b.returns k l))
+  where
+    at_row : (k : ℕ) → (row : ReturnRow) × (slice_get b.returns k ≡ Some row) → of_entry b.returns k (λ row. if row.node == n then returned_by row deliveries i else 0) 0 ≡ 0
+    at_row k (row, is) = rw (is, none_passes (λ row. row.node == n) b.returns k row h is) refl
+
+-- A right takes at a node, or is on a link.
+
+TakesOrStays : Option ℕ → Option ℕ → Type 0
+TakesOrStays taking link = ((is_some taking ≡ true) × (link ≡ None)) ⊎ ((taking ≡ None) × (is_some link ≡ true))
+
+takes_or_stays : (b : Basin) (r : ℕ) → IsValidBasin b → r < length b.rights → TakesOrStays (taking_node b r) (instream_link b r)
+unfolding TakesOrStays
+takes_or_stays b r valid l = (let k = kind_is b valid r l in rw (k.node, k.link) (by_kind k.kind k.place))
+  where
+    by_kind : (k : RightKind) → HasValidPlace b k → ((is_some (taking_node_of_kind b k) ≡ true) × (link_of_kind k ≡ None)) ⊎ ((taking_node_of_kind b k ≡ None) × (is_some (link_of_kind k) ≡ true))
+    by_kind (kind.Diversion at) h = inl (refl, refl)
+    by_kind (kind.Instream link) h = inr (refl, refl)
+    by_kind (kind.Zone reservoir level) h = (let entry = entry_at b.reservoirs reservoir h.0 in inl (rw (entry.1) refl, refl))
+
+-- what a month takes and delivers, by what is told
+
+record IsServed (b : Basin) (m : MonthRecord) (r : ℕ) : Type 0 where
+  most : slice_index m.plan.take r ≤ slice_index m.want r
+  instream : taking_node b r ≡ None → slice_index m.plan.take r ≡ 0
+  delivered : slice_index m.delivered r ≡ delivery_by_link (instream_link b r) (slice_index m.want r) m.plan r
+
+served : (b : Basin) (m : MonthRecord) (r : ℕ) (taking link : Option ℕ) → taking_node b r ≡ taking → instream_link b r ≡ link → TakesOrStays taking link →
+    slice_index m.plan.take r ≡ (if is_some taking then slice_index m.delivered r else 0) → amount_wrong link m.plan.flow (slice_index m.delivered r) (slice_index m.want r) ≡ false →
+    IsServed b m r
+unfolding TakesOrStays
+served b m r (Some node) None t l s take right = record {
+  most = omega (arith, take, is_most (slice_index m.want r) (slice_index m.delivered r) right);
+  instream = λ e. (let never : Some node ≡ None = sym t ∙ e in cc);
+  delivered = rw l (sym take);
+}
+served b m r None (Some link) t l s take right = record {
+  most = omega (arith, take);
+  instream = λ e. take;
+  delivered = rw l (is_same (slice_index m.delivered r) (min (slice_index m.want r) (slice_index m.plan.flow link)) right);
+}
+served b m r None None t l (inl (e, f)) take right = cc
+served b m r None None t l (inr (e, f)) take right = cc
+served b m r (Some node) (Some link) t l (inl (e, f)) take right = cc
+served b m r (Some node) (Some link) t l (inr (e, f)) take right = cc
+
+pub good_follows : (b : Basin) (series : Inflows) (before : List MonthRecord) (m : MonthRecord) → IsValidBasin b → IsAllTold b series m → IsGoodMonth b series before m →
+    m.index ≡ length before → m.month ≡ run_month b m.index → length (opening_after b before) ≡ length b.reservoirs → Follows b series before m
+good_follows b series before m valid a g index month opens = record {
+  fits = record {
+    opening = opening_len;
+    evaporated = told_len (places_of b.reservoirs) _ (length b.reservoirs) m.evaporated a.evaporated;
+    closing = told_len (places_of b.reservoirs) _ (length b.reservoirs) m.closing a.closing;
+    returned = told_len (return_nodes b) _ (length b.nodes) m.returned a.returned;
+    supply = sym (ap length a.supply) ∙ (length-map (places_of b.nodes) supply_of ∙ length-numbers_from 0 (length b.nodes));
+    used = told_len (rights_with_volume b) _ (length b.rights) m.used a.used;
+    want = told_len (seniors_first b) _ (length b.rights) m.want a.want;
+    delivered = told_len (seniors_first b) _ (length b.rights) m.delivered a.delivered;
+    cuts = sym (ap length a.sets) ∙ (length-put_sets (seniors_first b) (λ r. cut_of m r) (replicate (length b.rights) None) ∙ length-replicate (length b.rights) None);
+    cut_nodes = a.nodes;
+  };
+  index = index;
+  month = month;
+  opening = same_number_lists m.opening (opening_after b before) (opening_len ∙ sym opens) (λ k l. g.opening k (has_place b.reservoirs k (omega (arith, opening_len))));
+  evaporated = λ v l. g.evaporated v (has_place b.reservoirs v l);
+  returned = λ n l. by_filter (λ k. list_any (λ row. row.node == k) b.returns) (places_of b.nodes) n (slice_index m.returned n) (returned_at b (map (λ k. k.delivered) before) n m.index)
+      (has_place b.nodes n l) (g.returned n) (untold (return_nodes b) _ (length b.nodes) m.returned n a.returned) (nothing_returns b (map (λ k. k.delivered) before) n m.index);
+  supply = λ n l. sym (ap (λ xs. slice_index xs n) a.supply) ∙ (map_at supply_of 0 (length b.nodes) n l ∙ ap supply_of (zero_more n));
+  used = λ r l. by_filter (λ k. of_entry b.rights k (λ right. is_some right.volume) false) (seniors_first b) r (slice_index m.used r) (used_of b (map (λ k. k.delivered) before) r m.index)
+      (seniors_have b.rights r l) (g.used r) (untold (rights_with_volume b) _ (length b.rights) m.used r a.used) (λ e. nothing_used b (map (λ k. k.delivered) before) r m.index valid l);
+  want = λ r l. (g.deliver r (seniors_have b.rights r l)).0;
+  plan = record {
+    flow_len = told_len (places_of b.links) _ (length b.links) m.plan.flow a.flow;
+    take_len = told_len (seniors_first b) _ (length b.rights) m.plan.take a.take;
+    out_len = told_len (outlets b) _ (length b.nodes) m.plan.out a.out;
+    carries = λ e l. is_most (carry_of b m.month e) (slice_index m.plan.flow e) (g.flow e (has_place b.links e l));
+    wants = λ r l. (right r l).most;
+    instream = λ r l e. (right r l).instream e;
+    outlets = λ n l e. untold (outlets b) _ (length b.nodes) m.plan.out n a.out (λ h. (let both : false ≡ true = sym e ∙ (filter-has (λ k. is_outlet b k) (places_of b.nodes) n h).1 in cc));
+    balance = λ n l. equal (slice_index m.supply n + inflow_to b m.plan.flow n) (outflow_from b m.plan.flow n + taken_at b m.plan.take n + slice_index m.plan.out n) (g.balance n l);
+  };
+  delivered = λ r l. (right r l).delivered;
+  short = λ r l short. (let s = g.sets.short r l (less_is (slice_index m.delivered r) (slice_index m.want r) short) in (s.0, s.1, is_tight_is b m r s.0 s.2));
+  met = λ r l met. g.sets.met r l (not_less (slice_index m.delivered r) (slice_index m.want r) met);
+  closing = λ v l. g.closing v (has_place b.reservoirs v l);
+}
+  where
+    supply_of : ℕ → ℕ
+    supply_of n = inflow_at b series n m.index + slice_index m.returned n + stored_at b m.opening m.evaporated n
+
+    zero_more : (n : ℕ) → 0 + n ≡ n
+    zero_more n = omega arith
+
+    opening_len : length m.opening ≡ length b.reservoirs
+    opening_len = told_len (places_of b.reservoirs) _ (length b.reservoirs) m.opening a.opening
+
+    right : (r : ℕ) → r < length b.rights → IsServed b m r
+    right r l = served b m r (taking_node b r) (instream_link b r) refl refl (takes_or_stays b r valid l)
+        (told_at (seniors_first b) (take_of b (λ k. slice_index m.delivered k)) (length b.rights) m.plan.take r a.take l (seniors_have b.rights r l))
+        (g.deliver r (seniors_have b.rights r l)).1

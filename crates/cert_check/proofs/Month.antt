@@ -1,0 +1,283 @@
+-- The lines of a month are not refuted exactly where its record is right.
+use Rattle.std.proofs.Common.{◌≡◌, ℕ, ◌<◌, Bool, true, false, refl, sym, ap, subst, ◌∙◌, arith, inl, inr, List, [], ◌∷◌, ◌++◌, length, map, fold}
+use Rattle.std.specs.Prelude.{Option, Some, None, slice_index, nat_lt}
+use Rattle.std.specs.List.{flat_map}
+use Rattle.std.proofs.lemmas.List.{length-replicate}
+use Rattle.place_sums.specs.Sums.{total_where}
+use Rattle.water_model.specs.Basin.{instream_link}
+use Rattle.water_model.specs.History.{cut_of, opening_after, is_zone_of}
+use Rattle.water_model.specs.Hydrology.{in_year, evaporation, returned_at, used_of, want_of}
+use Rattle.water_model.specs.Lookups.{of_entry}
+use Rattle.water_model.specs.Places.{places_of, seniors_first, return_nodes, outlets, rights_with_volume}
+use Rattle.water_model.specs.Plans.{carry_of}
+use Rattle.water_model.specs.Text.{call_items, month_sections}
+use Rattle.water_model.specs.declared.item.Item.{Item}
+use Rattle.water_model.specs.declared.item.Item.TheVariants as line
+use Rattle.water_model.specs.declared.types.Basin.{Basin}
+use Rattle.water_model.specs.declared.types.Inflows.{Inflows}
+use Rattle.water_model.specs.declared.types.MonthRecord.{MonthRecord}
+use Rattle.water_model.proofs.Order.{Has, seniors_below}
+use Rattle.result_reader.specs.Telling.{Told, tell, blank_month, with_supply}
+use Rattle.result_reader.proofs.MonthTold.{Makes, makes_openings, makes_evaporations, makes_returns, makes_used, makes_flows, makes_deliveries, makes_outflows, tells_calls, put_sets, with_sets}
+use Rattle.result_reader.proofs.Telling.{tell_call, fold-both}
+use Rattle.result_reader.proofs.WholeMonth.{IsAllTold}
+use Rattle.cert_check.specs.Checking.{balances, callers_due, caller_due, amount_wrong}
+use Rattle.cert_check.proofs.Calls.{Sees, HasRightSets, sees_more, behind_call}
+use Rattle.cert_check.proofs.Callers.{called_line, called_lines, same_callers}
+
+-- what stands behind some lines of a month: no open call, the months before, and the month so far
+pub record At (b : Basin) (before : List MonthRecord) (now : MonthRecord) (t : Told) : Type 0 where
+  pub calling : t.calling ≡ None
+  pub months : t.months ≡ before
+  pub now_is : t.now ≡ now
+  pub called : t.called ≡ 0
+
+same_called : (b : Basin) (series : Inflows) (item : ℕ → Item) → ((x : ℕ) (t : Told) → (tell b series t (item x)).called ≡ t.called) →
+    (xs : List ℕ) (t : Told) → (fold (tell b series) t (map item xs)).called ≡ t.called
+same_called b series item h [] t = refl
+same_called b series item h (x ∷ xs) t = same_called b series item h xs (tell b series t (item x)) ∙ h x t
+
+no_calling : (b : Basin) (series : Inflows) (item : ℕ → Item) → ((x : ℕ) (t : Told) → (tell b series t (item x)).calling ≡ None) →
+    (xs : List ℕ) (t : Told) → t.calling ≡ None → (fold (tell b series) t (map item xs)).calling ≡ None
+no_calling b series item h [] t c = c
+no_calling b series item h (x ∷ xs) t c = no_calling b series item h xs (tell b series t (item x)) (h x t)
+
+-- a section makes of the month what it makes of any
+stage : (b : Basin) (series : Inflows) (before : List MonthRecord) (now next : MonthRecord) (item : ℕ → Item) (xs : List ℕ) (f : MonthRecord → MonthRecord) →
+    ((x : ℕ) (t : Told) → (tell b series t (item x)).called ≡ t.called) → ((x : ℕ) (t : Told) → (tell b series t (item x)).calling ≡ None) →
+    Makes b series (map item xs) f → f now ≡ next → (t : Told) → At b before now t → At b before next (fold (tell b series) t (map item xs))
+stage b series before now next item xs f h k makes is t a = record {
+  calling = no_calling b series item k xs t a.calling;
+  months = (makes t).months_are ∙ a.months;
+  now_is = (makes t).now_is ∙ (ap f a.now_is ∙ is);
+  called = same_called b series item h xs t ∙ a.called;
+}
+
+-- the month so far behind each section
+
+abbrev pub begun : Basin → MonthRecord → MonthRecord
+begun b m = blank_month b m.index m.month
+
+abbrev pub with_opening : Basin → MonthRecord → MonthRecord
+with_opening b m = record (begun b m) { opening = m.opening }
+
+abbrev pub opening_lines : Basin → MonthRecord → List Item
+opening_lines b m = map (λ x. line.Opening x (slice_index m.opening x)) (places_of b.reservoirs)
+
+opening_stage : (b : Basin) (series : Inflows) (before : List MonthRecord) (m : MonthRecord) → IsAllTold b series m → (t : Told) → At b before (begun b m) t →
+    At b before (with_opening b m) (fold (tell b series) t (opening_lines b m))
+opening_stage b series before m a t at =
+    stage b series before (begun b m) (with_opening b m) (λ x. line.Opening x (slice_index m.opening x)) (places_of b.reservoirs) _ (λ x t. refl) (λ x t. refl) (makes_openings b series (λ x. slice_index m.opening x) (places_of b.reservoirs)) (rw a.opening refl) t at
+
+abbrev pub with_evaporated : Basin → MonthRecord → MonthRecord
+with_evaporated b m = record (with_opening b m) { evaporated = m.evaporated }
+
+abbrev pub evaporated_lines : Basin → MonthRecord → List Item
+evaporated_lines b m = map (λ x. line.Evaporated x (slice_index m.evaporated x)) (places_of b.reservoirs)
+
+evaporated_stage : (b : Basin) (series : Inflows) (before : List MonthRecord) (m : MonthRecord) → IsAllTold b series m → (t : Told) → At b before (with_opening b m) t →
+    At b before (with_evaporated b m) (fold (tell b series) t (evaporated_lines b m))
+evaporated_stage b series before m a t at =
+    stage b series before (with_opening b m) (with_evaporated b m) (λ x. line.Evaporated x (slice_index m.evaporated x)) (places_of b.reservoirs) _ (λ x t. refl) (λ x t. refl) (makes_evaporations b series (λ x. slice_index m.evaporated x) (places_of b.reservoirs)) (rw a.evaporated refl) t at
+
+abbrev pub with_returned : Basin → MonthRecord → MonthRecord
+with_returned b m = record (with_evaporated b m) { returned = m.returned }
+
+abbrev pub returned_lines : Basin → MonthRecord → List Item
+returned_lines b m = map (λ x. line.Returned x (slice_index m.returned x)) (return_nodes b)
+
+returned_stage : (b : Basin) (series : Inflows) (before : List MonthRecord) (m : MonthRecord) → IsAllTold b series m → (t : Told) → At b before (with_evaporated b m) t →
+    At b before (with_returned b m) (fold (tell b series) t (returned_lines b m))
+returned_stage b series before m a t at =
+    stage b series before (with_evaporated b m) (with_returned b m) (λ x. line.Returned x (slice_index m.returned x)) (return_nodes b) _ (λ x t. refl) (λ x t. refl) (makes_returns b series (λ x. slice_index m.returned x) (return_nodes b)) (rw a.returned refl) t at
+
+abbrev pub with_used : Basin → MonthRecord → MonthRecord
+with_used b m = record (with_returned b m) { used = m.used }
+
+abbrev pub used_lines : Basin → MonthRecord → List Item
+used_lines b m = map (λ x. line.Used x (slice_index m.used x)) (rights_with_volume b)
+
+used_stage : (b : Basin) (series : Inflows) (before : List MonthRecord) (m : MonthRecord) → IsAllTold b series m → (t : Told) → At b before (with_returned b m) t →
+    At b before (with_used b m) (fold (tell b series) t (used_lines b m))
+used_stage b series before m a t at =
+    stage b series before (with_returned b m) (with_used b m) (λ x. line.Used x (slice_index m.used x)) (rights_with_volume b) _ (λ x t. refl) (λ x t. refl) (makes_used b series (λ x. slice_index m.used x) (rights_with_volume b)) (rw a.used refl) t at
+
+abbrev pub with_flow : Basin → MonthRecord → MonthRecord
+with_flow b m = record (with_used b m) { plan = record (with_used b m).plan { flow = m.plan.flow } }
+
+abbrev pub flow_lines : Basin → MonthRecord → List Item
+flow_lines b m = map (λ x. line.Flow x (slice_index m.plan.flow x)) (places_of b.links)
+
+flow_stage : (b : Basin) (series : Inflows) (before : List MonthRecord) (m : MonthRecord) → IsAllTold b series m → (t : Told) → At b before (with_used b m) t →
+    At b before (with_flow b m) (fold (tell b series) t (flow_lines b m))
+flow_stage b series before m a t at =
+    stage b series before (with_used b m) (with_flow b m) (λ x. line.Flow x (slice_index m.plan.flow x)) (places_of b.links) _ (λ x t. refl) (λ x t. refl) (makes_flows b series (λ x. slice_index m.plan.flow x) (places_of b.links)) (rw a.flow refl) t at
+
+abbrev pub with_deliver : Basin → MonthRecord → MonthRecord
+with_deliver b m = record (with_flow b m) { delivered = m.delivered; want = m.want; plan = record (with_flow b m).plan { take = m.plan.take } }
+
+abbrev pub deliver_lines : Basin → MonthRecord → List Item
+deliver_lines b m = map (λ x. line.Deliver x (slice_index m.delivered x) (slice_index m.want x)) (seniors_first b)
+
+deliver_stage : (b : Basin) (series : Inflows) (before : List MonthRecord) (m : MonthRecord) → IsAllTold b series m → (t : Told) → At b before (with_flow b m) t →
+    At b before (with_deliver b m) (fold (tell b series) t (deliver_lines b m))
+deliver_stage b series before m a t at =
+    stage b series before (with_flow b m) (with_deliver b m) (λ x. line.Deliver x (slice_index m.delivered x) (slice_index m.want x)) (seniors_first b) _ (λ x t. refl) (λ x t. refl) (makes_deliveries b series (λ x. slice_index m.delivered x) (λ x. slice_index m.want x) (seniors_first b)) (rw (a.delivered, a.want, a.take) refl) t at
+
+abbrev pub with_out : Basin → MonthRecord → MonthRecord
+with_out b m = record (with_deliver b m) { plan = record (with_deliver b m).plan { out = m.plan.out } }
+
+abbrev pub out_lines : Basin → MonthRecord → List Item
+out_lines b m = map (λ x. line.Outflow x (slice_index m.plan.out x)) (outlets b)
+
+out_stage : (b : Basin) (series : Inflows) (before : List MonthRecord) (m : MonthRecord) → IsAllTold b series m → (t : Told) → At b before (with_deliver b m) t →
+    At b before (with_out b m) (fold (tell b series) t (out_lines b m))
+out_stage b series before m a t at =
+    stage b series before (with_deliver b m) (with_out b m) (λ x. line.Outflow x (slice_index m.plan.out x)) (outlets b) _ (λ x t. refl) (λ x t. refl) (makes_outflows b series (λ x. slice_index m.plan.out x) (outlets b)) (rw a.out refl) t at
+
+-- the lines of a month's calls, of its callers, and those behind them
+abbrev pub call_lines : Basin → MonthRecord → List Item
+call_lines b m = flat_map (λ r. call_items r (cut_of m r)) (seniors_first b)
+
+abbrev pub closing_lines : Basin → MonthRecord → List Item
+closing_lines b m = map (λ x. line.Closing x (slice_index m.closing x)) (places_of b.reservoirs)
+
+abbrev pub due_lines : List (ℕ × ℕ) → List Item
+due_lines dues = map called_line dues
+
+-- the lines of a month behind its `month` line
+abbrev pub inner_lines : Basin → MonthRecord → List (ℕ × ℕ) → List Item
+inner_lines b m dues =
+    opening_lines b m ++ (evaporated_lines b m ++ (returned_lines b m ++ (used_lines b m ++ (flow_lines b m ++ (deliver_lines b m ++ (out_lines b m
+    ++ (call_lines b m ++ (due_lines dues ++ (closing_lines b m ++ line.End ∷ [])))))))))
+
+pub month_lines : (b : Basin) (m : MonthRecord) (caller_of : ℕ → Option ℕ) →
+    flat_map (λ section. section) (month_sections b m caller_of) ≡ line.Month m.month ∷ inner_lines b m (flat_map (λ r. caller_due r (caller_of r)) (seniors_first b))
+unfolding month_sections
+month_lines b m caller_of =
+    ap (λ xs. line.Month m.month ∷ (opening_lines b m ++ (evaporated_lines b m ++ (returned_lines b m ++ (used_lines b m ++ (flow_lines b m ++ (deliver_lines b m ++ (out_lines b m
+    ++ (call_lines b m ++ (xs ++ (closing_lines b m ++ line.End ∷ []))))))))))) (called_lines caller_of (seniors_first b))
+
+abbrev pub behind_opening : Basin → Inflows → MonthRecord → Told → Told
+behind_opening b series m t = fold (tell b series) t (opening_lines b m)
+
+abbrev pub behind_evaporated : Basin → Inflows → MonthRecord → Told → Told
+behind_evaporated b series m t = fold (tell b series) (behind_opening b series m t) (evaporated_lines b m)
+
+abbrev pub behind_returned : Basin → Inflows → MonthRecord → Told → Told
+behind_returned b series m t = fold (tell b series) (behind_evaporated b series m t) (returned_lines b m)
+
+abbrev pub behind_used : Basin → Inflows → MonthRecord → Told → Told
+behind_used b series m t = fold (tell b series) (behind_returned b series m t) (used_lines b m)
+
+abbrev pub behind_flow : Basin → Inflows → MonthRecord → Told → Told
+behind_flow b series m t = fold (tell b series) (behind_used b series m t) (flow_lines b m)
+
+abbrev pub behind_deliver : Basin → Inflows → MonthRecord → Told → Told
+behind_deliver b series m t = fold (tell b series) (behind_flow b series m t) (deliver_lines b m)
+
+abbrev pub behind_out : Basin → Inflows → MonthRecord → Told → Told
+behind_out b series m t = fold (tell b series) (behind_deliver b series m t) (out_lines b m)
+
+abbrev pub behind_calls : Basin → Inflows → MonthRecord → Told → Told
+behind_calls b series m t = fold (tell b series) (behind_out b series m t) (call_lines b m)
+
+abbrev pub behind_called : Basin → Inflows → MonthRecord → List (ℕ × ℕ) → Told → Told
+behind_called b series m dues t = fold (tell b series) (behind_calls b series m t) (due_lines dues)
+
+abbrev pub behind_closing : Basin → Inflows → MonthRecord → List (ℕ × ℕ) → Told → Told
+behind_closing b series m dues t = fold (tell b series) (behind_called b series m dues t) (closing_lines b m)
+
+-- what stands behind each of the sections
+pub record Stages (b : Basin) (series : Inflows) (before : List MonthRecord) (m : MonthRecord) (t : Told) : Type 0 where
+  pub opening : At b before (with_opening b m) (behind_opening b series m t)
+  pub evaporated : At b before (with_evaporated b m) (behind_evaporated b series m t)
+  pub returned : At b before (with_returned b m) (behind_returned b series m t)
+  pub used : At b before (with_used b m) (behind_used b series m t)
+  pub flow : At b before (with_flow b m) (behind_flow b series m t)
+  pub deliver : At b before (with_deliver b m) (behind_deliver b series m t)
+  pub out : At b before (with_out b m) (behind_out b series m t)
+
+pub stages : (b : Basin) (series : Inflows) (before : List MonthRecord) (m : MonthRecord) → IsAllTold b series m → (t : Told) → At b before (begun b m) t →
+    Stages b series before m t
+stages b series before m a t at =
+    let s0 = opening_stage b series before m a t at in
+    let s1 = evaporated_stage b series before m a (behind_opening b series m t) s0 in
+    let s2 = returned_stage b series before m a (behind_evaporated b series m t) s1 in
+    let s3 = used_stage b series before m a (behind_returned b series m t) s2 in
+    let s4 = flow_stage b series before m a (behind_used b series m t) s3 in
+    let s5 = deliver_stage b series before m a (behind_flow b series m t) s4 in
+    let s6 = out_stage b series before m a (behind_deliver b series m t) s5 in
+    record {
+      opening = s0;
+      evaporated = s1;
+      returned = s2;
+      used = s3;
+      flow = s4;
+      deliver = s5;
+      out = s6;
+    }
+
+-- what a month's record has to keep, by the records before it, so that its lines are not refuted
+pub record IsGoodMonth (b : Basin) (series : Inflows) (before : List MonthRecord) (m : MonthRecord) : Type 0 where
+  pub opening : (x : ℕ) → Has (places_of b.reservoirs) x → slice_index m.opening x ≡ slice_index (opening_after b before) x
+  pub evaporated : (x : ℕ) → Has (places_of b.reservoirs) x → slice_index m.evaporated x
+      ≡ of_entry b.reservoirs x (λ r. evaporation r.area (slice_index m.opening x) (slice_index r.rate (in_year b m.index))) 0
+  pub returned : (x : ℕ) → Has (return_nodes b) x → slice_index m.returned x ≡ returned_at b (map (λ k. k.delivered) before) x m.index
+  pub used : (x : ℕ) → Has (rights_with_volume b) x → slice_index m.used x ≡ used_of b (map (λ k. k.delivered) before) x m.index
+  pub flow : (x : ℕ) → Has (places_of b.links) x → nat_lt (carry_of b m.month x) (slice_index m.plan.flow x) ≡ false
+  pub deliver : (x : ℕ) → Has (seniors_first b) x → (slice_index m.want x ≡ want_of b series x m.index (slice_index m.used x))
+      × (amount_wrong (instream_link b x) m.plan.flow (slice_index m.delivered x) (slice_index m.want x) ≡ false)
+  pub balance : (n : ℕ) → n < length b.nodes → balances b m n ≡ true
+  pub sets : HasRightSets b m
+  pub closing : (x : ℕ) → Has (places_of b.reservoirs) x → slice_index m.closing x
+      ≡ total_where (length b.rights) (λ r. is_zone_of b r x) (λ r. slice_index m.plan.take r)
+
+-- the balance of a month, by what is told
+pub told_balance : (b : Basin) (series : Inflows) (m now : MonthRecord) (n : ℕ) → IsAllTold b series m → now ≡ with_out b m → balances b (with_supply b series now) n ≡ balances b m n
+told_balance b series m now n a is = ap (λ k. balances b (with_supply b series k) n) is ∙ rw (a.supply) refl
+
+pub told_sees : (b : Basin) (series : Inflows) (m now : MonthRecord) → IsAllTold b series m → now ≡ with_out b m → Sees b series m now
+told_sees b series m now a is = record {
+  month = ap (λ k. k.month) is;
+  delivered = ap (λ k. k.delivered) is;
+  want = ap (λ k. k.want) is;
+  supply = ap (λ k. (with_supply b series k).supply) is ∙ a.supply;
+  sets = ap (λ k. length k.cuts.sets) is ∙ length-replicate (length b.rights) None;
+}
+
+-- what stands behind the calls
+abbrev pub with_calls : Basin → MonthRecord → MonthRecord
+with_calls b m = with_sets (with_out b m) m.cuts.sets
+
+pub record BehindCalls (b : Basin) (before : List MonthRecord) (m : MonthRecord) (t : Told) : Type 0 where
+  pub now_is : t.now ≡ with_calls b m
+  pub months : t.months ≡ before
+  pub called : t.called ≡ 0
+
+calls_called : (b : Basin) (series : Inflows) (m : MonthRecord) → ((r : ℕ) (set : List Bool) → cut_of m r ≡ Some set → length set ≡ length b.nodes) → (xs : List ℕ) →
+    ((r : ℕ) → Has xs r → r < length b.rights) → (t : Told) → Sees b series m t.now →
+    (fold (tell b series) t (flat_map (λ r. call_items r (cut_of m r)) xs)).called ≡ t.called
+calls_called b series m sized [] below t s = refl
+calls_called b series m sized (x ∷ xs) below t s = by_set (cut_of m x) refl (λ u v. calls_called b series m sized xs (λ y h. below y (inr h)) u v)
+  where
+    by_set : (o : Option (List Bool)) → cut_of m x ≡ o → ((u : Told) → Sees b series m u.now → (fold (tell b series) u (flat_map (λ r. call_items r (cut_of m r)) xs)).called ≡ u.called) →
+        (fold (tell b series) t (call_items x o ++ flat_map (λ r. call_items r (cut_of m r)) xs)).called ≡ t.called
+    by_set None e further = further t s
+    by_set (Some set) e further =
+        ap (λ u. u.called) (fold-both (tell b series) t (call_items x (Some set)) (flat_map (λ r. call_items r (cut_of m r)) xs))
+        ∙ (ap (λ u. (fold (tell b series) u (flat_map (λ r. call_items r (cut_of m r)) xs)).called) (tell_call b series x set t (omega (arith, below x (inl refl), s.sets)) (sized x set e))
+        ∙ further (behind_call t x set) (sees_more b series m t x set s))
+
+pub calls_stage : (b : Basin) (series : Inflows) (before : List MonthRecord) (m : MonthRecord) → IsAllTold b series m → (t : Told) → At b before (with_out b m) t →
+    BehindCalls b before m (fold (tell b series) t (call_lines b m))
+calls_stage b series before m a t at =
+    let told = tells_calls b series (λ r. cut_of m r) a.sized (seniors_first b) t (λ r set e. (let l = a.within r set e in subst (λ (n : ℕ). r < n) (sym (ap (λ k. length k.cuts.sets) at.now_is)) l)) in
+    record {
+      now_is = told.now_is ∙ (ap (λ (k : MonthRecord). with_sets k (put_sets (seniors_first b) (λ r. cut_of m r) k.cuts.sets)) at.now_is ∙ ap (λ sets. with_sets (with_out b m) sets) a.sets);
+      months = told.months_are ∙ at.months;
+      called = calls_called b series m a.sized (seniors_first b) (λ r h. seniors_below b.rights r h) t (told_sees b series m t.now a at.now_is) ∙ at.called;
+    }
+
+pub told_callers : (b : Basin) (m now : MonthRecord) → now ≡ with_calls b m → callers_due b now ≡ callers_due b m
+told_callers b m now is = ap (λ k. callers_due b k) is ∙ same_callers b (with_calls b m) m refl refl refl

@@ -1,0 +1,137 @@
+-- What the rows say of `out` lines.
+use Rattle.std.proofs.Common.{◌≡◌, ℕ, zero, suc, ◌<◌, ◌≤◌, Bool, true, false, refl, sym, ap, ◌∙◌, arith, inl, inr, List, [], ◌∷◌, ◌++◌, length, map, fold, filter, append_assoc}
+use Rattle.std.specs.Prelude.{None, ◌&&◌, ◌||◌, not, nat_le}
+use Rattle.std.specs.List.{list_all, list_any}
+use Rattle.std.proofs.lemmas.Bool.Decides.{nat_tests}
+use Rattle.water_model.specs.Basin.{is_outlet}
+use Rattle.water_model.specs.Places.{numbers_from, places_of, outlets}
+use Rattle.water_model.specs.declared.item.Item.TheVariants as line
+use Rattle.water_model.specs.declared.types.Basin.{Basin}
+use Rattle.water_model.specs.declared.types.Inflows.{Inflows}
+use Rattle.water_model.specs.declared.types.MonthRecord.{MonthRecord}
+use Rattle.water_model.proofs.Order.{Has, numbers_from-has, numbers_from-below}
+use Rattle.result_reader.specs.Telling.{Told, tell, with_supply}
+use Rattle.result_reader.proofs.AllTold.{filter-has}
+use Rattle.cert_check.specs.Checking.{rows, balances}
+use Rattle.cert_check.proofs.Rows.{NoneHolds, AreGood, nothing_passed}
+
+clash : {X : Type 0} → true ≡ false → X
+clash h = cc
+
+-- numbers that rise
+abbrev pub Rises : List ℕ → Type 0
+Rises [] = Unit {0}
+Rises (x ∷ xs) = ((y : ℕ) → Has xs y → x < y) × Rises xs
+
+numbers_rise : (from n : ℕ) → Rises (numbers_from from n)
+unfolding numbers_from
+numbers_rise from zero = tt
+numbers_rise from (suc n) = (λ y h. omega (arith, (numbers_from-below (suc from) n y h).0), numbers_rise (suc from) n)
+
+filter_rises : (p : ℕ → Bool) (xs : List ℕ) → Rises xs → Rises (filter p xs)
+filter_rises p [] h = tt
+filter_rises p (x ∷ xs) h = by_test (p x) refl (filter_rises p xs h.1)
+  where
+    by_test : (t : Bool) → p x ≡ t → Rises (filter p xs) → Rises (filter p (x ∷ xs))
+    by_test true e further = rw e (λ y m. h.0 y (filter-has p xs y m).0, further)
+    by_test false e further = rw e further
+
+pub outlets_rise : (b : Basin) → Rises (outlets b)
+outlets_rise b = filter_rises (λ n. is_outlet b n) (places_of b.nodes) (numbers_rise 0 (length b.nodes))
+
+pub has_behind : (xs ys : List ℕ) (y : ℕ) → Has ys y → Has (xs ++ ys) y
+has_behind [] ys y h = h
+has_behind (x ∷ xs) ys y h = inr (has_behind xs ys y h)
+
+last_greatest : (xs : List ℕ) (x y : ℕ) → Rises (xs ++ x ∷ []) → Has (xs ++ x ∷ []) y → y ≤ x
+last_greatest [] x y h (inl is) = omega arith
+last_greatest [] x y h (inr m) = absurd m
+last_greatest (z ∷ xs) x y h (inl is) = omega (arith, h.0 x (has_behind xs (x ∷ []) x (inl refl)))
+last_greatest (z ∷ xs) x y h (inr m) = last_greatest xs x y h.1 m
+
+greater_fails : (xs : List ℕ) (x y : ℕ) → Has xs y → x < y → list_all (λ other. nat_le other x) xs ≡ false
+greater_fails [] x y h l = absurd h
+greater_fails (z ∷ xs) x y (inl is) l = rw (fails z x (omega arith)) refl
+  where
+    fails : (z x : ℕ) → x < z → nat_le z x ≡ false
+    fails z x h = grind (arith, nat_tests)
+greater_fails (z ∷ xs) x y (inr m) l = rw (greater_fails xs x y m l) (never (nat_le z x))
+  where
+    never : (p : Bool) → p && false ≡ false
+    never true = refl
+    never false = refl
+
+all_at_most : (xs : List ℕ) (x : ℕ) → ((y : ℕ) → Has xs y → y ≤ x) → list_all (λ other. nat_le other x) xs ≡ true
+all_at_most [] x h = refl
+all_at_most (z ∷ xs) x h = rw (passes z x (h z (inl refl)), all_at_most xs x (λ y m. h y (inr m))) refl
+  where
+    passes : (z x : ℕ) → z ≤ x → nat_le z x ≡ true
+    passes z x k = grind (arith, nat_tests)
+
+-- every node is in balance, by what is told
+unfoldable pub IsInBalance : Basin → Inflows → MonthRecord → Type 0
+IsInBalance b series now = (n : ℕ) → n < length b.nodes → balances b (with_supply b series now) n ≡ true
+
+none_fails : (b : Basin) (m : MonthRecord) (xs : List ℕ) → ((n : ℕ) → Has xs n → balances b m n ≡ true) → list_any (λ n. not (balances b m n)) xs ≡ false
+none_fails b m [] h = refl
+none_fails b m (x ∷ xs) h = rw (h x (inl refl)) (none_fails b m xs (λ n k. h n (inr k)))
+
+fails_none : (b : Basin) (m : MonthRecord) (xs : List ℕ) → list_any (λ n. not (balances b m n)) xs ≡ false → (n : ℕ) → Has xs n → balances b m n ≡ true
+fails_none b m [] h n k = absurd k
+fails_none b m (x ∷ xs) h n k = by_place k (parts (balances b m x) (list_any (λ n. not (balances b m n)) xs) h) (λ q l. fails_none b m xs q n l)
+  where
+    parts : (p q : Bool) → not p || q ≡ false → (p ≡ true) × (q ≡ false)
+    parts true q e = (refl, e)
+    parts false q e = clash e
+
+    by_place : Has (x ∷ xs) n → (balances b m x ≡ true) × (list_any (λ n. not (balances b m n)) xs ≡ false) →
+        (list_any (λ n. not (balances b m n)) xs ≡ false → Has xs n → balances b m n ≡ true) → balances b m n ≡ true
+    by_place (inl is) p further = ap (λ k. balances b m k) is ∙ p.0
+    by_place (inr l) p further = further p.1 l
+
+out_good : (b : Basin) (series : Inflows) (t : Told) (n amount : ℕ) → t.calling ≡ None →
+    list_all (λ other. nat_le other n) (outlets b) && list_any (λ node. not (balances b (with_supply b series (tell b series t (line.Outflow n amount)).now) node)) (places_of b.nodes) ≡ false →
+    NoneHolds (rows b series t (line.Outflow n amount))
+out_good b series t n amount h balance =
+    (rw h refl, (nothing_passed b t (line.Outflow n amount) (λ r. refl) (places_of b.rights), (refl, (refl, (refl, (refl, (refl, (refl, (refl, (refl, (refl, (balance, (refl, tt)))))))))))))
+
+-- `out` lines aren't refuted where all nodes are in balance behind them
+pub outflows_good : (b : Basin) (series : Inflows) (a : ℕ → ℕ) (xs done : List ℕ) (t : Told) → outlets b ≡ done ++ xs → Rises xs → t.calling ≡ None →
+    IsInBalance b series (fold (tell b series) t (map (λ n. line.Outflow n (a n)) xs)).now → AreGood b series t (map (λ n. line.Outflow n (a n)) xs)
+unfolding IsInBalance
+outflows_good b series a [] done t is rises h balance = tt
+outflows_good b series a (x ∷ []) done t is rises h balance =
+    (out_good b series t x (a x) h (ap (λ q. list_all (λ other. nat_le other x) (outlets b) && q) in_balance ∙ never (list_all (λ other. nat_le other x) (outlets b))), tt)
+  where
+    never : (p : Bool) → p && false ≡ false
+    never true = refl
+    never false = refl
+
+    in_balance : list_any (λ node. not (balances b (with_supply b series (tell b series t (line.Outflow x (a x))).now) node)) (places_of b.nodes) ≡ false
+    in_balance = none_fails b (with_supply b series (tell b series t (line.Outflow x (a x))).now) (places_of b.nodes)
+        (λ n k. balance n (omega (arith, (numbers_from-below 0 (length b.nodes) n k).1)))
+outflows_good b series a (x ∷ y ∷ ys) done t is rises h balance = (
+  out_good b series t x (a x) h (ap (λ q. q && list_any (λ node. not (balances b (with_supply b series (tell b series t (line.Outflow x (a x))).now) node)) (places_of b.nodes)) not_last),
+  outflows_good b series a (y ∷ ys) (done ++ x ∷ []) (tell b series t (line.Outflow x (a x))) (is ∙ sym (append_assoc done (x ∷ []) (y ∷ ys))) rises.1 refl balance,
+)
+  where
+    not_last : list_all (λ other. nat_le other x) (outlets b) ≡ false
+    not_last = greater_fails (outlets b) x y (rw is (has_behind done (x ∷ y ∷ ys) y (inr (inl refl)))) (rises.0 y (inl refl))
+
+-- and where they aren't refuted, all nodes are in balance behind the last
+pub outflows_told : (b : Basin) (series : Inflows) (a : ℕ → ℕ) (x : ℕ) (xs done : List ℕ) (t : Told) → outlets b ≡ done ++ (x ∷ xs) →
+    AreGood b series t (map (λ n. line.Outflow n (a n)) (x ∷ xs)) → IsInBalance b series (fold (tell b series) t (map (λ n. line.Outflow n (a n)) (x ∷ xs))).now
+unfolding IsInBalance
+outflows_told b series a x [] done t is g n l =
+    fails_none b (with_supply b series (tell b series t (line.Outflow x (a x))).now) (places_of b.nodes)
+    (second (list_all (λ other. nat_le other x) (outlets b)) (list_any (λ node. not (balances b (with_supply b series (tell b series t (line.Outflow x (a x))).now) node)) (places_of b.nodes))
+    is_last g.0.1.1.1.1.1.1.1.1.1.1.1.0) n (numbers_from-has 0 (length b.nodes) n n l (omega arith))
+  where
+    second : (p q : Bool) → p ≡ true → p && q ≡ false → q ≡ false
+    second true q e h = h
+    second false q e h = clash (sym e)
+
+    is_last : list_all (λ other. nat_le other x) (outlets b) ≡ true
+    is_last = all_at_most (outlets b) x (λ y m. last_greatest done x y (rw (← is) (outlets_rise b)) (rw (← is) m))
+outflows_told b series a x (y ∷ ys) done t is g n l =
+    outflows_told b series a y ys (done ++ x ∷ []) (tell b series t (line.Outflow x (a x))) (is ∙ sym (append_assoc done (x ∷ []) (y ∷ ys))) g.1 n l

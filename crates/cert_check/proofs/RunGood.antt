@@ -1,0 +1,207 @@
+-- The lines of a history are not refuted.
+use Rattle.std.proofs.Common.{◌≡◌, ℕ, zero, suc, ◌-◌, Bool, true, false, refl, sym, ap, subst, ◌∙◌, List, [], ◌∷◌, ◌++◌, length, map, fold, take, append_assoc, length-append}
+use Rattle.std.specs.Prelude.{Option, Some, None, Ok, ◌||◌, slice_get, slice_index}
+use Rattle.std.specs.List.{flat_map}
+use Rattle.std.proofs.lemmas.List.{length-map}
+use Rattle.std.proofs.lemmas.List.Folds.{list_any-append}
+use Rattle.water_model.specs.History.{IsPartialHistory, IsHistory, Follows, cut_of, opening_after}
+use Rattle.water_model.specs.Lookups.{of_entry}
+use Rattle.water_model.specs.Places.{members_from, places_of, seniors_first, return_nodes, outlets, rights_with_volume}
+use Rattle.water_model.specs.Spelling.{line_of}
+use Rattle.water_model.specs.Text.{call_items, calling_right, items_of_month, items_of_head, items_of}
+use Rattle.water_model.specs.Valid.{IsValidBasin}
+use Rattle.water_model.specs.declared.item.Item.{Item}
+use Rattle.water_model.specs.declared.item.Item.TheVariants as line
+use Rattle.water_model.specs.declared.types.Basin.{Basin}
+use Rattle.water_model.specs.declared.types.Inflows.{Inflows}
+use Rattle.water_model.specs.declared.types.MonthRecord.{MonthRecord}
+use Rattle.result_reader.specs.Records.{AreTextMonths, without_room}
+use Rattle.result_reader.specs.Telling.{Told, tell, nothing_told, blank_month}
+use Rattle.result_reader.proofs.AllTold.{month_of, are_all_told}
+use Rattle.result_reader.proofs.Telling.{fold-both}
+use Rattle.result_reader.proofs.TextForm.{texts_are_accepted}
+use Rattle.result_reader.proofs.WholeMonth.{AreAllTold, month_told}
+use Rattle.cert_check.specs.Checking.{callers_due, is_done, is_whole, verdict}
+use Rattle.cert_check.proofs.Callers.{called_line}
+use Rattle.cert_check.proofs.Follows.{follows_good}
+use Rattle.cert_check.proofs.Month.{At, IsGoodMonth, begun, month_lines, inner_lines, opening_lines, evaporated_lines, returned_lines, used_lines, flow_lines, deliver_lines, out_lines, call_lines, due_lines, closing_lines}
+use Rattle.cert_check.proofs.MonthGood.{inner_good}
+use Rattle.cert_check.proofs.Rows.{AreGood, good_both}
+use Rattle.cert_check.proofs.Sections.{title_good, run_good, month_good, last_good}
+use Rattle.cert_check.proofs.Verdicts.{verdict_good, says_yes}
+
+-- a month is good by what its records before it closed with and delivered
+good_along : (b : Basin) (series : Inflows) (before others : List MonthRecord) (m : MonthRecord) → opening_after b before ≡ opening_after b others →
+    map (λ k. k.delivered) before ≡ map (λ k. k.delivered) others → IsGoodMonth b series before m → IsGoodMonth b series others m
+good_along b series before others m o d g = record {
+  opening = λ x h. rw (← o) (g.opening x h);
+  evaporated = g.evaporated;
+  returned = λ x h. rw (← d) (g.returned x h);
+  used = λ x h. rw (← d) (g.used x h);
+  flow = g.flow;
+  deliver = g.deliver;
+  balance = g.balance;
+  sets = g.sets;
+  closing = g.closing;
+}
+
+entry-map : {X Y Z : Type 0} (f : X → Y) (g : Y → Z) (d : Z) (xs : List X) (k : ℕ) → of_entry (map f xs) k g d ≡ of_entry xs k (λ x. g (f x)) d
+entry-map f g d [] k = refl
+entry-map f g d (x ∷ xs) zero = refl
+entry-map f g d (x ∷ xs) (suc k) = entry-map f g d xs k
+
+pub opening_without : (b : Basin) (before : List MonthRecord) → opening_after b before ≡ opening_after b (map without_room before)
+opening_without b before =
+    sym (ap (λ n. of_entry (map without_room before) (n - 1) (λ m. m.closing) (map (λ v. v.opening) b.reservoirs)) (length-map before without_room)
+    ∙ entry-map without_room (λ m. m.closing) (map (λ v. v.opening) b.reservoirs) before (length before - 1))
+
+pub delivered_without : (before : List MonthRecord) → map (λ k. k.delivered) before ≡ map (λ k. k.delivered) (map without_room before)
+delivered_without [] = refl
+delivered_without (m ∷ ms) = ap (λ xs. m.delivered ∷ xs) (delivered_without ms)
+
+-- behind the last line of a month no call is open
+unfoldable pub Calm : Basin → Inflows → List Item → Type 0
+Calm b series items = (t : Told) → (fold (tell b series) t items).calling ≡ None
+
+calm_behind : (b : Basin) (series : Inflows) (xs ys : List Item) → Calm b series ys → Calm b series (xs ++ ys)
+unfolding Calm
+calm_behind b series xs ys h t = ap (λ u. u.calling) (fold-both (tell b series) t xs ys) ∙ h (fold (tell b series) t xs)
+
+end_calm : (b : Basin) (series : Inflows) → Calm b series (line.End ∷ [])
+unfolding Calm
+end_calm b series t = refl
+
+pub inner_calm : (b : Basin) (series : Inflows) (m : MonthRecord) (dues : List (ℕ × ℕ)) → Calm b series (inner_lines b m dues)
+inner_calm b series m dues =
+    calm_behind b series (opening_lines b m) _ (calm_behind b series (evaporated_lines b m) _ (calm_behind b series (returned_lines b m) _ (calm_behind b series (used_lines b m) _
+    (calm_behind b series (flow_lines b m) _ (calm_behind b series (deliver_lines b m) _ (calm_behind b series (out_lines b m) _ (calm_behind b series (call_lines b m) _
+    (calm_behind b series (due_lines dues) _ (calm_behind b series (closing_lines b m) _ (end_calm b series))))))))))
+
+pub calm : (b : Basin) (series : Inflows) (items : List Item) (t : Told) → Calm b series items → (fold (tell b series) t items).calling ≡ None
+unfolding Calm
+calm b series items t h = h t
+
+-- The months of a history.
+
+get_behind : (before ms : List MonthRecord) (m : MonthRecord) → slice_get (before ++ m ∷ ms) (length before) ≡ Some m
+get_behind [] ms m = refl
+get_behind (x ∷ before) ms m = get_behind before ms m
+
+take_before : (before ms : List MonthRecord) → take (length before) (before ++ ms) ≡ before
+take_before [] ms = refl
+take_before (x ∷ before) ms = ap (λ xs. x ∷ xs) (take_before before ms)
+
+pub follows_of : (b : Basin) (series : Inflows) (records before ms : List MonthRecord) (m : MonthRecord) → IsPartialHistory b series records → records ≡ before ++ m ∷ ms →
+    Follows b series before m
+follows_of b series records before ms m h is =
+    subst (λ (xs : List MonthRecord). Follows b series xs m) (ap (take (length before)) is ∙ take_before before (m ∷ ms))
+    (h.each (length before) m (ap (λ xs. slice_get xs (length before)) is ∙ get_behind before ms m))
+
+pub items_are : (b : Basin) (m : MonthRecord) → items_of_month b m ≡ line.Month m.month ∷ inner_lines b m (callers_due b m)
+items_are b m = month_lines b m (calling_right b m)
+
+months_good : (b : Basin) (series : Inflows) (records before ms : List MonthRecord) → IsValidBasin b → IsPartialHistory b series records → AreTextMonths b series records →
+    records ≡ before ++ ms → AreAllTold b series (length before) ms → (t : Told) → t.calling ≡ None → t.months ≡ map without_room before →
+    AreGood b series t (flat_map (items_of_month b) ms) × ((fold (tell b series) t (flat_map (items_of_month b) ms)).calling ≡ None)
+months_good b series records before [] valid history texts is told t c months = (tt, c)
+months_good b series records before (m ∷ ms) valid history texts is told t c months =
+    let f = follows_of b series records before ms m history is in
+    let text = month_of b series records before ms m texts is in
+    let count : length t.months ≡ length before = ap length months ∙ length-map before without_room in
+    let at : At b (map without_room before) (begun b m) (tell b series t (line.Month m.month)) = record {
+      calling = refl;
+      months = months;
+      now_is = ap (λ n. blank_month b n m.month) (count ∙ sym f.index);
+      called = refl;
+    } in
+    let good = good_along b series before (map without_room before) m (opening_without b before) (delivered_without before) (follows_good b series before m f text) in
+    let inner = inner_good b series (map without_room before) m valid.roll.strict told.1 good (tell b series t (line.Month m.month)) at in
+    let here : AreGood b series t (items_of_month b m) = subst (λ (xs : List Item). AreGood b series t xs) (sym (items_are b m)) (month_good b series t m.month c, inner) in
+    let behind : Told = fold (tell b series) t (items_of_month b m) in
+    let still : behind.calling ≡ None = ap (λ xs. (fold (tell b series) t xs).calling) (items_are b m)
+    ∙ calm b series (inner_lines b m (callers_due b m)) (tell b series t (line.Month m.month)) (inner_calm b series m (callers_due b m)) in
+    let later : behind.months ≡ map without_room (before ++ m ∷ []) =
+    month_told b series m (calling_right b m) t (f.index ∙ sym count) told.1 ∙ (ap (λ xs. xs ++ without_room m ∷ []) months ∙ map_more before m) in
+    let rest = months_good b series records (before ++ m ∷ []) ms valid history texts (is ∙ sym (append_assoc before (m ∷ []) ms))
+    (subst (λ (i : ℕ). AreAllTold b series i ms) (sym (length-append before (m ∷ []))) told.2) behind still later in (
+      good_both b series t (items_of_month b m) (flat_map (items_of_month b) ms) here rest.0,
+      ap (λ u. u.calling) (fold-both (tell b series) t (items_of_month b m) (flat_map (items_of_month b) ms)) ∙ rest.1,
+    )
+  where
+    map_more : (xs : List MonthRecord) (m : MonthRecord) → map without_room xs ++ without_room m ∷ [] ≡ map without_room (xs ++ m ∷ [])
+    map_more [] m = refl
+    map_more (x ∷ xs) m = ap (λ ys. without_room x ∷ ys) (map_more xs m)
+
+run_items_good : (b : Basin) (series : Inflows) (records : List MonthRecord) → IsValidBasin b → IsPartialHistory b series records → AreTextMonths b series records →
+    AreGood b series (nothing_told b) (items_of b records)
+run_items_good b series records valid history texts =
+    let months = months_good b series records [] records valid history texts refl (are_all_told b series records texts) (nothing_told b) refl refl in (
+      title_good b series (nothing_told b) refl,
+      (
+        run_good b series (nothing_told b) refl,
+        good_both b series (nothing_told b) (flat_map (items_of_month b) records) (line.Done b.months ∷ []) months.0
+            (last_good b series (fold (tell b series) (nothing_told b) (flat_map (items_of_month b) records)) b.months months.1, tt),
+      ),
+    )
+
+-- Only the last line of a text is `done`.
+
+pub open_both : (xs ys : List Item) → is_whole xs ≡ false → is_whole ys ≡ false → is_whole (xs ++ ys) ≡ false
+open_both xs ys h k = list_any-append is_done xs ys ∙ either (is_whole xs) (is_whole ys) h k
+  where
+    either : (p q : Bool) → p ≡ false → q ≡ false → p || q ≡ false
+    either p q e f = rw (e, f) refl
+
+open_each : {X : Type 0} (item : X → Item) → ((x : X) → is_done (item x) ≡ false) → (xs : List X) → is_whole (map item xs) ≡ false
+open_each item h [] = refl
+open_each item h (x ∷ xs) = rw (h x) (open_each item h xs)
+
+open_calls : (m : MonthRecord) (xs : List ℕ) → is_whole (flat_map (λ r. call_items r (cut_of m r)) xs) ≡ false
+open_calls m [] = refl
+open_calls m (x ∷ xs) = by_set (cut_of m x) (open_calls m xs)
+  where
+    by_set : (o : Option (List Bool)) → is_whole (flat_map (λ r. call_items r (cut_of m r)) xs) ≡ false → is_whole (call_items x o ++ flat_map (λ r. call_items r (cut_of m r)) xs) ≡ false
+    by_set None h = h
+    by_set (Some set) h = open_both (map (λ n. line.Member n) (members_from 0 set)) (flat_map (λ r. call_items r (cut_of m r)) xs) (open_each (λ n. line.Member n) (λ n. refl) (members_from 0 set)) h
+
+pub inner_open : (b : Basin) (m : MonthRecord) (dues : List (ℕ × ℕ)) → is_whole (inner_lines b m dues) ≡ false
+inner_open b m dues =
+    open_both (opening_lines b m) _ (open_each {X = ℕ} (λ x. line.Opening x (slice_index m.opening x)) (λ x. refl) (places_of b.reservoirs)) (open_both (evaporated_lines b m) _ (open_each {X = ℕ} (λ x. line.Evaporated x (slice_index m.evaporated x)) (λ x. refl) (places_of b.reservoirs)) (open_both (returned_lines b m) _ (open_each {X = ℕ} (λ x. line.Returned x (slice_index m.returned x)) (λ x. refl) (return_nodes b))
+    (open_both (used_lines b m) _ (open_each {X = ℕ} (λ x. line.Used x (slice_index m.used x)) (λ x. refl) (rights_with_volume b)) (open_both (flow_lines b m) _ (open_each {X = ℕ} (λ x. line.Flow x (slice_index m.plan.flow x)) (λ x. refl) (places_of b.links)) (open_both (deliver_lines b m) _ (open_each {X = ℕ} (λ x. line.Deliver x (slice_index m.delivered x) (slice_index m.want x)) (λ x. refl) (seniors_first b))
+    (open_both (out_lines b m) _ (open_each {X = ℕ} (λ x. line.Outflow x (slice_index m.plan.out x)) (λ x. refl) (outlets b)) (open_both (call_lines b m) _ (open_calls m (seniors_first b)) (open_both (due_lines dues) _ (open_each called_line (λ x. refl) dues)
+    (open_both (closing_lines b m) _ (open_each {X = ℕ} (λ x. line.Closing x (slice_index m.closing x)) (λ x. refl) (places_of b.reservoirs)) refl)))))))))
+
+months_open : (b : Basin) (ms : List MonthRecord) → is_whole (flat_map (items_of_month b) ms) ≡ false
+months_open b [] = refl
+months_open b (m ∷ ms) = open_both (items_of_month b m) (flat_map (items_of_month b) ms) (ap is_whole (items_are b m) ∙ inner_open b m (callers_due b m)) (months_open b ms)
+
+front_open : (xs x y : List Item) (d i : Item) → xs ++ d ∷ [] ≡ x ++ i ∷ y → is_whole xs ≡ false → is_whole x ≡ false
+front_open xs [] y d i e h = refl
+front_open [] (z ∷ []) y d i e h = cc
+front_open [] (z ∷ w ∷ x) y d i e h = cc
+front_open (v ∷ xs) (z ∷ x) y d i e h =
+    let head : v ≡ z = cc in
+    let tail : xs ++ d ∷ [] ≡ x ++ i ∷ y = cc in
+    let two = both (is_done v) (is_whole xs) h in
+    rw (← head, two.0) (front_open xs x y d i tail two.1)
+  where
+    both : (p q : Bool) → p || q ≡ false → (p ≡ false) × (q ≡ false)
+    both true q k = cc
+    both false q k = (refl, k)
+
+ends_whole : (xs : List Item) (n : ℕ) → is_whole (xs ++ line.Done n ∷ []) ≡ true
+ends_whole xs n = list_any-append is_done xs (line.Done n ∷ []) ∙ or_true (is_whole xs)
+  where
+    or_true : (p : Bool) → p || true ≡ true
+    or_true true = refl
+    or_true false = refl
+
+-- the verdict on the text of records of a history
+pub text_good : (b : Basin) (series : Inflows) (records : List MonthRecord) → IsValidBasin b → IsHistory b series records → AreTextMonths b series records →
+    verdict b series (map (line_of b) (items_of b records)) [] ≡ Ok (items_of b records)
+text_good b series records valid history texts =
+    says_yes b series (map (line_of b) (items_of b records)) (items_of b records)
+    (verdict_good b series (items_of b records) (items_of b records) [] refl (λ x y i e. texts_are_accepted b series records x y i valid texts history.whole e)
+    (λ x y i e. front_open (items_of_head b ++ flat_map (items_of_month b) records) x y (line.Done b.months) i e (months_open b records))
+    (run_items_good b series records valid history.partial texts))
+    (ends_whole (items_of_head b ++ flat_map (items_of_month b) records) b.months)

@@ -1,0 +1,5 @@
+use Rattle.cert_check.proofs.HistoriesGiveYes.{histories_give_yes}
+use Rattle.cert_check.proofs.laws.histories_give_yes.Goals as goal
+
+pub returns : goal.returns
+returns c = histories_give_yes

@@ -1,0 +1,208 @@
+-- What a checker refutes.
+use Rattle.std.specs.Prelude.{ℕ, ◌+◌, ◌-◌, Bool, true, false, ◌&&◌, ◌||◌, not, List, [], ◌∷◌, ◌++◌, map, find, length, reverse, min, Option, Some, None, Result, Ok, Err, option_map, is_none, nat_le, nat_lt, ◌==◌, if◌then◌else◌, slice_index, slice_get}
+use Rattle.std.specs.List.{list_all, list_any, flat_map}
+use Rattle.std.specs.Option.{option_map_or}
+use Rattle.place_sums.specs.Sums.{total_where}
+use Rattle.water_text.specs.declared.month.Month.{Month}
+use Rattle.water_model.specs.Basin.{is_senior, taking_node, instream_link}
+use Rattle.water_model.specs.Cuts.{cut_capacity, cut_kept, node_within, leaves}
+use Rattle.water_model.specs.History.{cut_of, opening_after, is_zone_of}
+use Rattle.water_model.specs.Hydrology.{in_year, evaporation, returned_at, used_of, want_of}
+use Rattle.water_model.specs.Lookups.{of_entry}
+use Rattle.water_model.specs.Places.{places_of, seniors_first, outlets}
+use Rattle.water_model.specs.Plans.{carry_of, inflow_to, outflow_from, taken_at}
+use Rattle.water_model.specs.Text.{calling_right}
+use Rattle.water_model.specs.declared.item.Item.{Item}
+use Rattle.water_model.specs.declared.item.Item.TheVariants as line
+use Rattle.water_model.specs.declared.types.Basin.{Basin}
+use Rattle.water_model.specs.declared.types.Inflows.{Inflows}
+use Rattle.water_model.specs.declared.types.MonthRecord.{MonthRecord}
+use Rattle.result_reader.specs.Due.{is_member}
+use Rattle.result_reader.specs.Reading.{read_line}
+use Rattle.result_reader.specs.Telling.{Told, tell, told_by, with_supply}
+use Rattle.cert_check.specs.declared.refuted.RefutedKind.{RefutedKind}
+use Rattle.cert_check.specs.declared.refuted.RefutedKind.TheVariants as kind
+use Rattle.cert_check.specs.declared.refuted.Refuted.{Refuted}
+
+-- The rows. Each is of what the lines before tell, what is told with this line, and this line.
+
+abbrev pub is_short : MonthRecord → ℕ → Bool
+is_short m r = nat_lt (slice_index m.delivered r) (slice_index m.want r)
+
+abbrev pub separates : Basin → Option ℕ → Option ℕ → List Bool → Bool
+separates b taking None cut = node_within taking cut
+separates b taking (Some link) cut = nat_lt link (length b.links) && leaves b cut link
+
+-- whether a set is a tight cut of a right
+abbrev pub is_tight : Basin → MonthRecord → ℕ → List Bool → Bool
+is_tight b m r cut =
+    length cut == length b.nodes && separates b (taking_node b r) (instream_link b r) cut
+    && cut_capacity b m.month m.supply cut == slice_index m.delivered r + cut_kept b m.delivered r cut
+
+-- whether a line stands behind the `call` lines of a month
+abbrev pub is_behind_calls : Item → Bool
+is_behind_calls (line.Called r caller) = true
+is_behind_calls (line.Closing v amount) = true
+is_behind_calls line.End = true
+is_behind_calls other = false
+
+-- whether a line stands behind the place of a right's `call` line
+abbrev pub passes : Basin → Item → ℕ → Bool
+passes b (line.Call r) right = is_senior b right r
+passes b other right = is_behind_calls other
+
+-- whether a right has a set in the record that is a tight cut of it
+abbrev pub has_tight : Basin → MonthRecord → ℕ → Bool
+has_tight b m r = option_map_or (λ cut. is_tight b m r cut) (cut_of m r) false
+
+abbrev pub cut_loose : Basin → Inflows → Told → Item → Bool
+cut_loose b series t item =
+    not (is_member item) && option_map_or (λ r. not (has_tight b (with_supply b series t.now) r)) t.calling false
+
+abbrev pub cut_missing : Basin → Told → Item → Bool
+cut_missing b t item = list_any (λ r. is_short t.now r && is_none (cut_of t.now r) && passes b item r) (places_of b.rights)
+
+abbrev pub cut_needless : Told → Item → Bool
+cut_needless t (line.Call r) = not (is_short t.now r)
+cut_needless t other = false
+
+-- the `called` lines that are due, as the right and its caller
+abbrev pub caller_due : ℕ → Option ℕ → List (ℕ × ℕ)
+caller_due r None = []
+caller_due r (Some caller) = (r, caller) ∷ []
+
+abbrev pub callers_due : Basin → MonthRecord → List (ℕ × ℕ)
+callers_due b m = flat_map (λ r. caller_due r (calling_right b m r)) (seniors_first b)
+
+abbrev pub is_due : ℕ → ℕ → Option (ℕ × ℕ) → Bool
+is_due r caller None = false
+is_due r caller (Some due) = due.0 == r && due.1 == caller
+
+abbrev pub called_wrong : Basin → Told → Item → Bool
+called_wrong b t (line.Called r caller) = not (is_due r caller (slice_get (callers_due b t.now) t.called))
+called_wrong b t other = is_behind_calls other && nat_lt t.called (length (callers_due b t.now))
+
+abbrev pub is_same_month : Month → Month → Bool
+is_same_month m n = m.year == n.year && m.month == n.month
+
+abbrev pub head_wrong : Basin → Item → Bool
+head_wrong b (line.Run first months) = not (is_same_month first b.first && months == b.months)
+head_wrong b other = false
+
+abbrev pub opening_wrong : Basin → Told → Item → Bool
+opening_wrong b t (line.Opening v amount) = not (amount == slice_index (opening_after b t.months) v)
+opening_wrong b t other = false
+
+abbrev pub evaporation_wrong : Basin → Told → Item → Bool
+evaporation_wrong b t (line.Evaporated v amount) =
+    not (amount == of_entry b.reservoirs v (λ r. evaporation r.area (slice_index t.now.opening v) (slice_index r.rate (in_year b t.now.index))) 0)
+evaporation_wrong b t other = false
+
+abbrev pub return_wrong : Basin → Told → Item → Bool
+return_wrong b t (line.Returned n amount) = not (amount == returned_at b (map (λ m. m.delivered) t.months) n t.now.index)
+return_wrong b t other = false
+
+abbrev pub used_wrong : Basin → Told → Item → Bool
+used_wrong b t (line.Used r amount) = not (amount == used_of b (map (λ m. m.delivered) t.months) r t.now.index)
+used_wrong b t other = false
+
+abbrev pub flow_wrong : Basin → Told → Item → Bool
+flow_wrong b t (line.Flow e amount) = nat_lt (carry_of b t.now.month e) amount
+flow_wrong b t other = false
+
+abbrev pub amount_wrong : Option ℕ → List ℕ → ℕ → ℕ → Bool
+amount_wrong None flow amount want = nat_lt want amount
+amount_wrong (Some link) flow amount want = not (amount == min want (slice_index flow link))
+
+abbrev pub delivery_wrong : Basin → Inflows → Told → Item → Bool
+delivery_wrong b series t (line.Deliver r amount want) =
+    not (want == want_of b series r t.now.index (slice_index t.now.used r))
+    || amount_wrong (instream_link b r) t.now.plan.flow amount want
+delivery_wrong b series t other = false
+
+-- whether a node is in balance
+abbrev pub balances : Basin → MonthRecord → ℕ → Bool
+balances b m n =
+    slice_index m.supply n + inflow_to b m.plan.flow n
+    == outflow_from b m.plan.flow n + taken_at b m.plan.take n + slice_index m.plan.out n
+
+-- at the last `out` line, with its amount
+abbrev pub balance_wrong : Basin → Inflows → Told → Item → Bool
+balance_wrong b series with_line (line.Outflow n amount) =
+    list_all (λ other. nat_le other n) (outlets b)
+    && list_any (λ node. not (balances b (with_supply b series with_line.now) node)) (places_of b.nodes)
+balance_wrong b series with_line other = false
+
+abbrev pub closing_wrong : Basin → Told → Item → Bool
+closing_wrong b t (line.Closing v amount) =
+    not (amount == total_where (length b.rights) (λ r. is_zone_of b r v) (λ r. slice_index t.now.plan.take r))
+closing_wrong b t other = false
+
+abbrev pub Row : Type 0
+Row = RefutedKind × Bool
+
+-- the rows in their order
+abbrev pub rows : Basin → Inflows → Told → Item → List Row
+rows b series t item =
+    (kind.CutLoose, cut_loose b series t item) ∷ (kind.CutMissing, cut_missing b t item) ∷ (kind.CutNeedless, cut_needless t item)
+    ∷ (kind.Called, called_wrong b t item) ∷ (kind.Head, head_wrong b item) ∷ (kind.Opening, opening_wrong b t item)
+    ∷ (kind.Evaporation, evaporation_wrong b t item) ∷ (kind.Return, return_wrong b t item) ∷ (kind.Used, used_wrong b t item)
+    ∷ (kind.Flow, flow_wrong b t item) ∷ (kind.Delivery, delivery_wrong b series t item)
+    ∷ (kind.Balance, balance_wrong b series (tell b series t item) item) ∷ (kind.Closing, closing_wrong b t item) ∷ []
+
+-- the first row that holds of a line, by what the lines before it tell
+unfoldable pub first_row : Basin → Inflows → Told → Item → Option RefutedKind
+first_row b series t item = option_map (λ row. row.0) (find (λ row. row.1) (rows b series t item))
+
+-- how many lines stand behind the last `call`
+abbrev pub members_first : List Item → ℕ
+members_first [] = 0
+members_first (item ∷ items) = if is_member item then members_first items + 1 else 0
+
+-- the line that a row names: of a loose cut its `call` line, and else this line
+abbrev pub named_line : List Item → RefutedKind → ℕ
+named_line before kind.CutLoose = length before - members_first (reverse before)
+named_line before other = length before + 1
+
+-- whether a line is the last
+abbrev pub is_done : Item → Bool
+is_done (line.Done months) = true
+is_done other = false
+
+abbrev pub is_whole : List Item → Bool
+is_whole items = list_any is_done items
+
+-- what a line is refuted for behind others, or the item that it says
+abbrev pub judge_row : List Item → Item → Option RefutedKind → Result Item Refuted
+judge_row before item None = Ok item
+judge_row before item (Some kind) = Err (record { line = named_line before kind; kind = kind })
+
+abbrev pub judge_read : {E : Type 0} → Basin → Inflows → List Item → Result Item E → Result Item Refuted
+judge_read b series before (Ok item) = judge_row before item (first_row b series (told_by b series before) item)
+judge_read b series before (Err why) = Err (record { line = length before + 1; kind = kind.BadLine })
+
+unfoldable pub judge : Basin → Inflows → List Item → List ℕ → Result Item Refuted
+judge b series before bytes =
+    if is_whole before then Err (record { line = length before + 1; kind = kind.AfterEnd })
+    else judge_read b series before (read_line b before bytes)
+
+-- what f makes of a good answer
+abbrev pub ok_then : {X Y : Type 0} → (X → Result Y Refuted) → Result X Refuted → Result Y Refuted
+ok_then f (Ok x) = f x
+ok_then f (Err e) = Err e
+
+-- the verdict on the lines behind some that are good: the items of all, or the first line at fault with its first row
+abbrev pub verdict_from : Basin → Inflows → List Item → List (List ℕ) → Result (List Item) Refuted
+verdict_from b series before [] = Ok before
+verdict_from b series before (bytes ∷ lines) =
+    ok_then (λ item. verdict_from b series (before ++ item ∷ []) lines) (judge b series before bytes)
+
+-- the verdict at the end of a text whose lines are good. The rest is what stands behind the last line feed
+abbrev pub verdict_at_end : List ℕ → List Item → Result (List Item) Refuted
+verdict_at_end [] items = if is_whole items then Ok items else Err (record { line = length items + 1; kind = kind.EarlyEnd })
+verdict_at_end rest items =
+    Err (record { line = length items + 1; kind = if is_whole items then kind.AfterEnd else kind.EarlyEnd })
+
+-- the verdict on a text: its lines, and its rest
+abbrev pub verdict : Basin → Inflows → List (List ℕ) → List ℕ → Result (List Item) Refuted
+verdict b series lines rest = ok_then (verdict_at_end rest) (verdict_from b series [] lines)

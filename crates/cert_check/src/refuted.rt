@@ -1,0 +1,46 @@
+//! Why a text is refuted, and at which line.
+
+/// Why a text is refuted. Of several causes at one line the first of this order is answered.
+#[derive(Clone, Copy, Debug, PartialEq, Eq)]
+pub enum RefutedKind {
+    /// Something stands behind the `done` line.
+    AfterEnd,
+    /// A reader of texts refuses the line.
+    BadLine,
+    /// The line ends the nodes of a `call` whose set isn't a tight cut of its right. The `call` line is named.
+    CutLoose,
+    /// The line passes over a short right that has no `call`.
+    CutMissing,
+    /// The line is the `call` of a right that isn't short.
+    CutNeedless,
+    /// The line is a `called` line other than the one that is due, or another line where a `called` line is due.
+    Called,
+    /// `run` names another first month or number of months than the basin has.
+    Head,
+    /// A reservoir opens with another amount than it closed with in the month before, or than the basin gives.
+    Opening,
+    /// What evaporates from a reservoir is another amount.
+    Evaporation,
+    /// What comes back to a node is another amount.
+    Return,
+    /// What a right used of its volume is another amount.
+    Used,
+    /// The flow is above what the link carries.
+    Flow,
+    /// The want is another amount, or a take is above the want, or an instream right's amount isn't the lesser of want and
+    /// flow.
+    Delivery,
+    /// At the last `out` line of a month, some node has more or less water than leaves it.
+    Balance,
+    /// A reservoir closes with another amount than its zones take.
+    Closing,
+    /// The text ends before its `done` line. The line behind the last one is named.
+    EarlyEnd,
+}
+
+/// The first line of a text at fault, counted from 1, and why.
+#[derive(Clone, Copy, Debug, PartialEq, Eq)]
+pub struct Refuted {
+    pub line: u64,
+    pub kind: RefutedKind,
+}
