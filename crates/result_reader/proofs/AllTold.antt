@@ -23,13 +23,9 @@ use Rattle.water_model.specs.declared.types.RightKind.{RightKind}
 use Rattle.water_model.specs.declared.types.RightKind.TheVariants as kind
 use Rattle.result_reader.specs.Records.{IsTextMonth, AreTextMonths}
 use Rattle.result_reader.proofs.MonthTold.{put_sets, take_of}
+use Rattle.result_reader.proofs.NameLaws.{get_there}
 use Rattle.result_reader.proofs.Telling.{set_all, set_all-whole, Sets, entry_set}
 use Rattle.result_reader.proofs.WholeMonth.{IsAllTold, AreAllTold}
-
-get_there : {X : Type 0} (xs : List X) (k : ℕ) → k < length xs → (x : X) × (slice_get xs k ≡ Some x)
-get_there [] k l = absurd (omega arith)
-get_there (x ∷ xs) zero l = (x, refl)
-get_there (x ∷ xs) (suc k) l = get_there xs k (omega arith)
 
 zeros : (n k : ℕ) → slice_index (replicate n 0) k ≡ 0
 zeros zero k = refl

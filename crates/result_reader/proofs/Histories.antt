@@ -1,10 +1,10 @@
 -- Months that follow others are months that a text tells.
-use Rattle.std.proofs.Common.{◌≡◌, ℕ, zero, suc, ◌<◌, ◌≤◌, Bool, true, false, refl, List, [], ◌∷◌, length}
-use Rattle.std.specs.Prelude.{Option, Some, None, ◌&&◌, not, slice_index}
+use Rattle.std.proofs.Common.{◌≡◌, ℕ, zero, suc, Bool, true, false, refl, List, [], ◌∷◌}
+use Rattle.std.specs.Prelude.{Option, Some, None, ◌&&◌, not}
 use Rattle.std.specs.List.{list_any}
 use Rattle.water_model.specs.Basin.{taking_node, instream_link, tail_of, head_of}
-use Rattle.water_model.specs.Cuts.{Separates, IsTight}
-use Rattle.water_model.specs.History.{Follows, IsShort, cut_of}
+use Rattle.water_model.specs.Cuts.{Separates}
+use Rattle.water_model.specs.History.{Follows}
 use Rattle.water_model.specs.Lookups.{has}
 use Rattle.water_model.specs.declared.types.Basin.{Basin}
 use Rattle.water_model.specs.declared.types.Inflows.{Inflows}

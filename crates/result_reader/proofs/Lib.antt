@@ -20,3 +20,4 @@ pub mod OneReading
 mod Examples
 pub mod TextForm
 pub mod Histories
+pub mod SmallBasin

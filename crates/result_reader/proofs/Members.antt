@@ -14,7 +14,7 @@ use Rattle.result_reader.specs.declared.shape.Shape.{Shape}
 use Rattle.result_reader.specs.declared.shape.Shape.TheVariants as shape
 use Rattle.result_reader.specs.declared.place.Place.{Place}
 use Rattle.result_reader.specs.declared.place.Place.TheVariants as place
-use Rattle.result_reader.proofs.Grammar.{member_only, fits_itself, take_fits, take_skips, step_open, step_shut, has_no_members, no_member_due, plain, IsPlain, call, other}
+use Rattle.result_reader.proofs.Grammar.{member_only, fits_itself, take_fits, take_skips, step_open, has_no_members, no_member_due, plain, IsPlain, call, other}
 use Rattle.result_reader.proofs.Fronts.{from_no_members, in_month_no_members, append_no_members}
 
 fits_not : (b : Basin) (k : ℕ) (i : Item) → (i ≡ line.Member k → ⊥) → fits b (shape.Member k) i ≡ false
@@ -112,9 +112,6 @@ pub other_step : (b : Basin) (ds : List Shape) (o : Option ℕ) (i : Item) → i
     step b false (members_due b o ++ ds) i ≡ take_line b ds i
 other_step b ds None i h = refl
 other_step b ds (Some next) i h = skip_members b ds i h (length b.nodes - next) next
-
-pub must_step : (b : Basin) (ds : List Shape) (must : Bool) (i : Item) → must ≡ true → is_member i ≡ false → step b must ds i ≡ None
-must_step b ds must i m h = step_shut b must ds i (rw (m, h) refl)
 
 pub call_opens : (b : Basin) (i : Item) → is_call i ≡ true → opened b i ≡ members_due b (Some 0)
 call_opens b i h = by_item (plain b i)

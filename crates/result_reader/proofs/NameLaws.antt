@@ -54,24 +54,6 @@ added t old new place updates absent q =
     or_none None = refl
     or_none (Some n) = refl
 
--- a name that is kept keeps its place
-pub kept : {S : Type 0} (t : List ℕ) (old : IndexMap (Bor (List ℕ)) ℕ S) (place : ℕ) → is_some (kept_at old t) ≡ true →
-    (q : List ℕ) → kept_at old q ≡ option_or (kept_at old q) (if bytes_eq q t then Some place else None)
-kept t old place there q = elim (cases_Bool (bytes_eq q t)) [
-  | inl same ↦ (let eq : t ≡ q = sym ((bytes_eq-Decides q t).0 same) in
-      let found : is_some (kept_at old q) ≡ true = rw (← eq) there in
-      stays (kept_at old q) _ found)
-  | inr other ↦ rw other (or_none (kept_at old q))
-]
-  where
-    stays : (r s : Option ℕ) → is_some r ≡ true → r ≡ option_or r s
-    stays None s h = cc
-    stays (Some n) s h = refl
-
-    or_none : (r : Option ℕ) → r ≡ option_or r None
-    or_none None = refl
-    or_none (Some n) = refl
-
 -- one number more
 numbers_more : (from n : ℕ) → numbers_from from (suc n) ≡ numbers_from from n ++ (from + n) ∷ []
 unfolding numbers_from
@@ -93,7 +75,8 @@ kept-none places q e = rw e refl
 
 -- Names of a valid basin.
 
-get_there : {X : Type 0} (xs : List X) (k : ℕ) → k < length xs → (x : X) × (slice_get xs k ≡ Some x)
+-- an entry below the length is there
+pub get_there : {X : Type 0} (xs : List X) (k : ℕ) → k < length xs → (x : X) × (slice_get xs k ≡ Some x)
 get_there [] k l = absurd (omega arith)
 get_there (x ∷ xs) zero l = (x, refl)
 get_there (x ∷ xs) (suc k) l = get_there xs k (omega arith)

@@ -1,18 +1,17 @@
 -- The steps of a reader's place.
-use Rattle.std.proofs.Common.{◌≡◌, ℕ, zero, suc, ◌+◌, ◌-◌, ◌<◌, ◌≤◌, Bool, true, false, refl, sym, ap, subst, ◌∙◌, arith, List, [], ◌∷◌, ◌++◌, length, drop, get_or, add-one, append_assoc}
+use Rattle.std.proofs.Common.{◌≡◌, ℕ, zero, suc, ◌+◌, ◌-◌, ◌<◌, ◌≤◌, Bool, true, false, refl, sym, ap, subst, ◌∙◌, arith, [], ◌∷◌, ◌++◌, add-one, append_assoc}
 use Rattle.std.specs.Prelude.{Some, None, IsTrue, ◌↔◌}
 use Rattle.std.specs.List.{flat_map}
-use Rattle.std.proofs.Math.Seq.{drop-cons}
 use Rattle.water_model.specs.Hydrology.{run_month}
 use Rattle.water_model.specs.declared.types.Basin.{Basin}
 use Rattle.water_model.specs.Places.{numbers_from}
-use Rattle.result_reader.specs.Form.{is_same_shape, is_optional, fits, due_in_month, due_for_month}
+use Rattle.result_reader.specs.Form.{is_same_shape, fits, due_in_month, due_for_month}
 use Rattle.result_reader.specs.Due.{opened, take_line}
 use Rattle.result_reader.specs.Progress.{months_due}
 use Rattle.water_model.specs.declared.item.Item.{Item}
 use Rattle.result_reader.specs.declared.shape.Shape.{Shape}
 use Rattle.result_reader.specs.declared.shape.Shape.TheVariants as shape
-use Rattle.result_reader.proofs.Grammar.{same_shape_is, same_shape_itself, take_fits, take_skips, take_stops}
+use Rattle.result_reader.proofs.Grammar.{same_shape_is, same_shape_itself, take_fits, take_stops}
 
 pub same_result : (r : Bool) (a b : Shape) → (IsTrue r ↔ (a ≡ b)) → r ≡ is_same_shape a b
 same_result r a b h = by_both r refl (is_same_shape a b) refl
@@ -24,26 +23,6 @@ same_result r a b h = by_both r refl (is_same_shape a b) refl
         let same : a ≡ b = h.0 e in
         let itself : is_same_shape a b ≡ true = subst (λ (x : Shape). is_same_shape a x ≡ true) same (same_shape_itself a) in cc
     by_both false e true f = let yes : r ≡ true = h.1 (same_shape_is a b f) in cc
-
--- the lines from a place on begin with the line there
-pub drop_at : (dues : List Shape) (at : ℕ) (d : Shape) → at < length dues → d ≡ get_or dues at d → (others : List Shape) →
-    drop at dues ++ others ≡ d ∷ (drop (at + 1) dues ++ others)
-drop_at dues at d l is others =
-    ap (λ xs. xs ++ others) (drop-cons dues at d l)
-    ∙ (ap (λ x. x ∷ (drop (suc at) dues ++ others)) (sym is) ∙ ap (λ k. d ∷ (drop k dues ++ others)) (sym (add-one at)))
-
-pub found_at : (b : Basin) (dues : List Shape) (at : ℕ) (d : Shape) (i : Item) → at < length dues → d ≡ get_or dues at d → fits b d i ≡ true →
-    (others : List Shape) → take_line b (drop at dues ++ others) i ≡ Some (opened b i ++ (drop (at + 1) dues ++ others))
-found_at b dues at d i l is f others = rw (drop_at dues at d l is others) (take_fits b d (drop (at + 1) dues ++ others) i f)
-
-pub blocked_at : (b : Basin) (dues : List Shape) (at : ℕ) (d : Shape) (i : Item) → at < length dues → d ≡ get_or dues at d → fits b d i ≡ false →
-    is_optional d ≡ false → (others : List Shape) → take_line b (drop at dues ++ others) i ≡ None
-blocked_at b dues at d i l is f o others = rw (drop_at dues at d l is others) (take_stops b d (drop (at + 1) dues ++ others) i f o)
-
-pub passed_at : (b : Basin) (dues : List Shape) (at : ℕ) (d : Shape) (i : Item) → at < length dues → d ≡ get_or dues at d → fits b d i ≡ false →
-    is_optional d ≡ true → (others : List Shape) → take_line b (drop at dues ++ others) i ≡ take_line b (drop (at + 1) dues ++ others) i
-passed_at b dues at d i l is f o others =
-    ap (λ xs. take_line b xs i) (drop_at dues at d l is others) ∙ take_skips b d (drop (at + 1) dues ++ others) i f o
 
 -- the first of what is due behind some months
 pub month_is_due : (b : Basin) (begun : ℕ) → begun < b.months →

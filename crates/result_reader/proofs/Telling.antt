@@ -1,17 +1,16 @@
 -- What the lines of a month tell.
 use Rattle.std.proofs.Common.{◌≡◌, ℕ, zero, suc, ◌<◌, Bool, true, false, refl, sym, ap, ◌∙◌, arith, inl, inr, List, [], ◌∷◌, ◌++◌, length, map, fold, replicate, append_assoc, length-append}
-use Rattle.std.specs.Prelude.{Option, Some, None, option_map, ◌⊎◌, is_some, slice_index, slice_set, if◌then◌else◌}
+use Rattle.std.specs.Prelude.{Option, Some, None, option_map, ◌⊎◌, slice_index, slice_set}
 use Rattle.std.proofs.Math.ListN.{length-set}
 use Rattle.std.proofs.lemmas.Bool.{cases_eq}
 use Rattle.std.proofs.lemmas.List.{get_or-set_other}
 use Rattle.std.proofs.lemmas.Grind.{get_or-set_at}
 use Rattle.std.proofs.lemmas.Grind.{same_number_lists}
-use Rattle.water_model.specs.Basin.{taking_node}
 use Rattle.water_model.specs.declared.types.Basin.{Basin}
 use Rattle.water_model.specs.declared.types.Inflows.{Inflows}
 use Rattle.water_model.specs.Places.{members_from}
 use Rattle.water_model.specs.Text.{call_items}
-use Rattle.result_reader.specs.Telling.{Told, tell, with_now, with_member}
+use Rattle.result_reader.specs.Telling.{Told, tell, with_member}
 use Rattle.water_model.specs.CutSets.{set_of, with_set}
 use Rattle.water_model.specs.Lookups.{of_entry}
 use Rattle.water_model.specs.declared.item.Item.TheVariants as line
@@ -56,82 +55,6 @@ set_all-whole xs ys zs len each =
     by_place : (k : ℕ) → k < length ys → Has xs k ⊎ ((Has xs k → ⊥) × (slice_index ys k ≡ slice_index zs k)) → slice_index (set_all xs (λ k. slice_index zs k) ys) k ≡ slice_index zs k
     by_place k l (inl h) = set_all-has xs (λ k. slice_index zs k) ys k l h
     by_place k l (inr (other, same)) = set_all-other xs (λ k. slice_index zs k) ys k other ∙ same
-
--- Section by section.
-
-pub tell_openings : (b : Basin) (series : Inflows) (a : ℕ → ℕ) (xs : List ℕ) (t : Told) → t.calling ≡ None →
-    fold (tell b series) t (map (λ v. line.Opening v (a v)) xs) ≡ record t { now = record t.now { opening = set_all xs a t.now.opening } }
-tell_openings b series a [] t h = refl
-tell_openings b series a (x ∷ xs) t h =
-    tell_openings b series a xs (with_now t (record t.now { opening = slice_set t.now.opening x (a x) })) refl
-    ∙ ap (λ c. record t { now = record t.now { opening = set_all xs a (slice_set t.now.opening x (a x)) }; calling = c }) (sym h)
-
-pub tell_flows : (b : Basin) (series : Inflows) (a : ℕ → ℕ) (xs : List ℕ) (t : Told) → t.calling ≡ None →
-    fold (tell b series) t (map (λ e. line.Flow e (a e)) xs) ≡ record t { now = record t.now { plan = record t.now.plan { flow = set_all xs a t.now.plan.flow } } }
-tell_flows b series a [] t h = refl
-tell_flows b series a (x ∷ xs) t h =
-    tell_flows b series a xs (with_now t (record t.now { plan = record t.now.plan { flow = slice_set t.now.plan.flow x (a x) } })) refl
-    ∙ ap (λ c. record t { now = record t.now { plan = record t.now.plan { flow = set_all xs a (slice_set t.now.plan.flow x (a x)) } }; calling = c }) (sym h)
-
-pub tell_deliveries : (b : Basin) (series : Inflows) (a w : ℕ → ℕ) (xs : List ℕ) (t : Told) → t.calling ≡ None →
-    fold (tell b series) t (map (λ r. line.Deliver r (a r) (w r)) xs)
-    ≡ record t {
-      now = record t.now {
-        delivered = set_all xs a t.now.delivered;
-        want = set_all xs w t.now.want;
-        plan = record t.now.plan { take = set_all xs (λ r. if is_some (taking_node b r) then a r else 0) t.now.plan.take };
-      };
-    }
-tell_deliveries b series a w [] t h = refl
-tell_deliveries b series a w (x ∷ xs) t h =
-    tell_deliveries b series a w xs (with_now t (record t.now {
-      delivered = slice_set t.now.delivered x (a x);
-      want = slice_set t.now.want x (w x);
-      plan = record t.now.plan { take = slice_set t.now.plan.take x (if is_some (taking_node b x) then a x else 0) };
-    })) refl
-    ∙ ap (λ c. record t {
-      now = record t.now {
-        delivered = set_all xs a (slice_set t.now.delivered x (a x));
-        want = set_all xs w (slice_set t.now.want x (w x));
-        plan = record t.now.plan { take = set_all xs (λ r. if is_some (taking_node b r) then a r else 0) (slice_set t.now.plan.take x (if is_some (taking_node b x) then a x else 0)) };
-      };
-      calling = c;
-    }) (sym h)
-
-pub tell_evaporations : (b : Basin) (series : Inflows) (a : ℕ → ℕ) (xs : List ℕ) (t : Told) → t.calling ≡ None →
-    fold (tell b series) t (map (λ v. line.Evaporated v (a v)) xs) ≡ record t { now = record t.now { evaporated = set_all xs a t.now.evaporated } }
-tell_evaporations b series a [] t h = refl
-tell_evaporations b series a (x ∷ xs) t h =
-    tell_evaporations b series a xs (with_now t (record t.now { evaporated = slice_set t.now.evaporated x (a x) })) refl
-    ∙ ap (λ c. record t { now = record t.now { evaporated = set_all xs a (slice_set t.now.evaporated x (a x)) }; calling = c }) (sym h)
-
-pub tell_returns : (b : Basin) (series : Inflows) (a : ℕ → ℕ) (xs : List ℕ) (t : Told) → t.calling ≡ None →
-    fold (tell b series) t (map (λ n. line.Returned n (a n)) xs) ≡ record t { now = record t.now { returned = set_all xs a t.now.returned } }
-tell_returns b series a [] t h = refl
-tell_returns b series a (x ∷ xs) t h =
-    tell_returns b series a xs (with_now t (record t.now { returned = slice_set t.now.returned x (a x) })) refl
-    ∙ ap (λ c. record t { now = record t.now { returned = set_all xs a (slice_set t.now.returned x (a x)) }; calling = c }) (sym h)
-
-pub tell_used : (b : Basin) (series : Inflows) (a : ℕ → ℕ) (xs : List ℕ) (t : Told) → t.calling ≡ None →
-    fold (tell b series) t (map (λ r. line.Used r (a r)) xs) ≡ record t { now = record t.now { used = set_all xs a t.now.used } }
-tell_used b series a [] t h = refl
-tell_used b series a (x ∷ xs) t h =
-    tell_used b series a xs (with_now t (record t.now { used = slice_set t.now.used x (a x) })) refl
-    ∙ ap (λ c. record t { now = record t.now { used = set_all xs a (slice_set t.now.used x (a x)) }; calling = c }) (sym h)
-
-pub tell_outflows : (b : Basin) (series : Inflows) (a : ℕ → ℕ) (xs : List ℕ) (t : Told) → t.calling ≡ None →
-    fold (tell b series) t (map (λ n. line.Outflow n (a n)) xs) ≡ record t { now = record t.now { plan = record t.now.plan { out = set_all xs a t.now.plan.out } } }
-tell_outflows b series a [] t h = refl
-tell_outflows b series a (x ∷ xs) t h =
-    tell_outflows b series a xs (with_now t (record t.now { plan = record t.now.plan { out = slice_set t.now.plan.out x (a x) } })) refl
-    ∙ ap (λ c. record t { now = record t.now { plan = record t.now.plan { out = set_all xs a (slice_set t.now.plan.out x (a x)) } }; calling = c }) (sym h)
-
-pub tell_closings : (b : Basin) (series : Inflows) (a : ℕ → ℕ) (xs : List ℕ) (t : Told) → t.calling ≡ None →
-    fold (tell b series) t (map (λ v. line.Closing v (a v)) xs) ≡ record t { now = record t.now { closing = set_all xs a t.now.closing } }
-tell_closings b series a [] t h = refl
-tell_closings b series a (x ∷ xs) t h =
-    tell_closings b series a xs (with_now t (record t.now { closing = slice_set t.now.closing x (a x) })) refl
-    ∙ ap (λ c. record t { now = record t.now { closing = set_all xs a (slice_set t.now.closing x (a x)) }; calling = c }) (sym h)
 
 -- The sets of a month.
 

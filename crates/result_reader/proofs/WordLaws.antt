@@ -4,9 +4,7 @@ use Rattle.std.specs.Prelude.{find, slice_get}
 use Rattle.std.specs.Str.{bytes_eq}
 use Rattle.std.proofs.lemmas.Slice.Eq.{bytes_eq-Decides}
 use Rattle.result_reader.specs.Words.{spelling_of, words, word_of}
-use Rattle.result_reader.specs.declared.words.Amount.TheVariants as amount
 use Rattle.result_reader.specs.declared.words.Word.{Word}
-use Rattle.result_reader.specs.declared.words.Word.TheVariants as word
 
 -- the search goes on behind an element that fails
 pub find-next : {X : Type 0} (p : X → Bool) (xs : List X) (i : ℕ) (x : X) (answer : Option X) → slice_get xs i ≡ Some x → p x ≡ false →
@@ -26,27 +24,7 @@ find-Some p (y ∷ ys) x h = by_test (p y) refl (find-Some p ys x)
     by_test true e further = let here : Some y ≡ Some x = rw e at h in let is : y ≡ x = cc in rw (← is) e
     by_test false e further = further (rw e at h)
 
--- a word is the one that it spells
-pub word_of-spelling : (w : Word) → word_of (spelling_of w) ≡ Some w
-unfolding word_of
-word_of-spelling word.Title = refl
-word_of-spelling word.Run = refl
-word_of-spelling word.Month = refl
-word_of-spelling (word.Amount amount.Opening) = refl
-word_of-spelling (word.Amount amount.Evaporated) = refl
-word_of-spelling (word.Amount amount.Returned) = refl
-word_of-spelling (word.Amount amount.Used) = refl
-word_of-spelling (word.Amount amount.Flow) = refl
-word_of-spelling (word.Amount amount.Outflow) = refl
-word_of-spelling (word.Amount amount.Closing) = refl
-word_of-spelling word.Deliver = refl
-word_of-spelling word.Call = refl
-word_of-spelling word.Member = refl
-word_of-spelling word.Called = refl
-word_of-spelling word.End = refl
-word_of-spelling word.Done = refl
-
--- and what is read as a word is its spelling
+-- what is read as a word is its spelling
 pub word_spelled : (bytes : List ℕ) (w : Word) → word_of bytes ≡ Some w → bytes ≡ spelling_of w
 unfolding word_of
 word_spelled bytes w h = sym ((bytes_eq-Decides (spelling_of w) bytes).0 (find-Some (λ w. bytes_eq (spelling_of w) bytes) words w h))

@@ -1,10 +1,8 @@
 //! The lines that are due in each month.
-ghost use Rattle.std.specs.Prelude.{◌≡◌, ◌<◌, ◌++◌, ◌==◌, false, length, is_some, IfOk, OnOk};
-ghost use Rattle.std.specs.List.{list_any};
+ghost use Rattle.std.specs.Prelude.{◌≡◌, ◌<◌, ◌++◌, length, is_some, IfOk, OnOk};
 ghost use Rattle.std.specs.Option.{option_to_list};
 ghost use Rattle.rights_roll.specs.Rolls.{IsRollOf};
 ghost use Rattle.water_model.specs.Basin.{taking_node};
-ghost use Rattle.water_model.specs.Lookups.{has};
 ghost use Rattle.water_model.specs.Places.{numbers_from, seniors_first};
 ghost use Rattle.water_model.specs.Valid.{IsValidBasin};
 ghost use Rattle.result_reader.specs.Form.{due_in_month};

@@ -89,7 +89,10 @@ impl<'b> ResultReader<'b> {
     /// none of a text's; else as `BadField` where its fields aren't those of its word, spelled as names, months, amounts
     /// up to 10^15 or numbers of months from 1 to 1,200; and else as `OutOfPlace` exactly where it names what the basin
     /// doesn't have, or the lines accepted so far and this one aren't the front of a whole text. A refused line changes
-    /// nothing. No memory is taken.
+    /// nothing.
+    ///
+    /// No memory is taken. The cost is the line's length, a look-up of each name, and a step for each line that is due,
+    /// may be left out and is passed over.
     pub fn line(&mut self, text: &[u8]) -> Result<Item, BadLine>
         ensures answer { (items : List Item) → StandsFor self.old items → result ≡ read_line self.old.basin items text.now }
         ensures accepted { IfOk result (λ item. (items : List Item) → StandsFor self.old items → StandsFor self.new (items ++ item ∷ [])) }
