@@ -7,5 +7,6 @@
 pub mod compare;
 pub mod laws;
 mod refuted;
+pub mod told;
 
 pub use refuted::{Refuted, RefutedKind};
