@@ -14,13 +14,14 @@ use Rattle.water_model.specs.declared.types.Inflows.{Inflows}
 use Rattle.water_model.specs.declared.types.MonthRecord.{MonthRecord}
 use Rattle.water_model.proofs.Histories.{all_months}
 use Rattle.water_model.proofs.Balance.{balanced}
+use Rattle.water_model.proofs.Returns.{covered}
 use Rattle.water_model.proofs.Greatest.{cuts_make_greatest, nobody_could_get_more}
 use Rattle.month_fold.specs.Runs.{RunSeen, StandsFor}
 use Rattle.result_text.specs.Begun.{begun_bytes}
 use Rattle.result_text.specs.Range.{FitsText}
 use Rattle.result_text.proofs.Whole.{FitsText-follows, Puts-head, Puts-month, Puts-tail}
 use Rattle.basin_cli.specs.Drafts.{IsDraftOf}
-use Rattle.basin_cli.specs.Headline.{KeepsPriority, most_pushes, run_pushes}
+use Rattle.basin_cli.specs.Headline.{KeepsPriority, most_pushes, run_pushes, deliveries_of}
 use Rattle.month_fold.specs.Reaches.{HaveReaches}
 use Rattle.std.specs.List.{flat_map}
 
@@ -84,6 +85,7 @@ whole_run b series run records valid same fits stands done =
       reaches = reaches;
       no_more = λ i m at q plan right l serves. nobody_could_get_more b series records partial i m at q plan right l serves;
       balanced = balanced b series records valid partial;
+      covered = λ right i l. covered b (deliveries_of records) right i valid l;
     }
 
 -- the pushes of some months and of one more are within those of a run

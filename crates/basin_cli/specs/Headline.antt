@@ -1,9 +1,10 @@
 -- What the records of a run are: the theorem of the program.
-use Rattle.std.specs.Prelude.{◌≡◌, ℕ, ◌+◌, ◌*◌, ◌<◌, ◌≤◌, List, length, slice_index, slice_get, Some}
+use Rattle.std.specs.Prelude.{◌≡◌, ℕ, ◌+◌, ◌*◌, ◌<◌, ◌≤◌, List, map, length, slice_index, slice_get, Some}
 use Rattle.month_fold.specs.Reaches.{HaveReaches}
 use Rattle.senior_hold.specs.MonthNetwork.{arc_count}
-use Rattle.water_model.specs.Balance.{IsBalanced}
+use Rattle.water_model.specs.Balance.{IsBalanced, returned_before}
 use Rattle.water_model.specs.History.{IsHistory}
+use Rattle.water_model.specs.Hydrology.{delivered_before}
 use Rattle.water_model.specs.Laws.{ServesSeniors}
 use Rattle.water_model.specs.Plans.{IsPlan, IsGreatest, delivery}
 use Rattle.water_model.specs.declared.types.Basin.{Basin}
@@ -16,6 +17,10 @@ abbrev pub NobodyCouldGetMore : Basin → MonthRecord → Type 0
 NobodyCouldGetMore b m =
     (q : Plan) → IsPlan b m.month m.supply m.want q → (right : ℕ) → right < length b.rights →
     ServesSeniors b m.delivered m.want q right → delivery b m.want q right ≤ slice_index m.delivered right
+
+-- the deliveries of each month, by right
+abbrev pub deliveries_of : List MonthRecord → List (List ℕ)
+deliveries_of records = map (λ m. m.delivered) records
 
 -- the records of a run of a basin with a series, which keep the priority of rights and lose no water
 pub record KeepsPriority (b : Basin) (series : Inflows) (records : List MonthRecord) : Type 0 where
@@ -30,6 +35,9 @@ pub record KeepsPriority (b : Basin) (series : Inflows) (records : List MonthRec
   pub no_more : (i : ℕ) (m : MonthRecord) → slice_get records i ≡ Some m → NobodyCouldGetMore b m
   -- no water is made or lost
   pub balanced : IsBalanced b series records
+  -- and what comes back of a diversion's water, up to a month, is at most what it was delivered before that month
+  pub covered : (right i : ℕ) → right < length b.rights →
+      returned_before b (deliveries_of records) right (i + 1) ≤ delivered_before (deliveries_of records) right i
 
 -- the most pushes in a month, and in all months of a run
 abbrev pub most_pushes : Basin → ℕ
