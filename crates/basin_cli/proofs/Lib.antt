@@ -1,6 +1,8 @@
 pub mod Drafting
 pub mod Missing
 pub mod Names
-pub mod Outcomes
 pub mod Reading
-pub mod Written
+pub mod OneSeries
+pub mod Judged
+pub mod Outcomes
+pub mod Answering

@@ -1,5 +1,8 @@
 -- The words of a refusal are short.
 use Rattle.std.proofs.Common.{◌≡◌, ℕ, ◌+◌, ◌≤◌, List, ◌++◌, length, ap, ◌∙◌, arith, length-append}
+use Rattle.cert_check.specs.KindNames.{kind_name}
+use Rattle.cert_check.specs.declared.refuted.RefutedKind.{RefutedKind}
+use Rattle.cert_check.specs.declared.refuted.RefutedKind.TheVariants as kind
 use Rattle.inflow_file.specs.FaultNames as series
 use Rattle.inflow_file.specs.declared.refused.SeriesFault.{SeriesFault}
 use Rattle.inflow_file.specs.declared.refused.SeriesFault.TheVariants as fault_of
@@ -56,6 +59,7 @@ pub file_name_short : (f : File) → length (file_name f) ≤ 6
 unfolding file_name
 file_name_short file.Basin = omega arith
 file_name_short file.Series = omega arith
+file_name_short file.Result = omega arith
 
 pub series_fault_short : (f : SeriesFault) → length (series.fault_name f) ≤ 16
 unfolding series.fault_name
@@ -66,3 +70,22 @@ series_fault_short fault_of.NoSuchNode = omega arith
 series_fault_short fault_of.NotGauged = omega arith
 series_fault_short fault_of.BadAmount = omega arith
 series_fault_short fault_of.Repeated = omega arith
+
+pub kind_name_short : (k : RefutedKind) → length (kind_name k) ≤ 16
+unfolding kind_name
+kind_name_short kind.AfterEnd = omega arith
+kind_name_short kind.BadLine = omega arith
+kind_name_short kind.CutLoose = omega arith
+kind_name_short kind.CutMissing = omega arith
+kind_name_short kind.CutNeedless = omega arith
+kind_name_short kind.Called = omega arith
+kind_name_short kind.Head = omega arith
+kind_name_short kind.Opening = omega arith
+kind_name_short kind.Evaporation = omega arith
+kind_name_short kind.Return = omega arith
+kind_name_short kind.Used = omega arith
+kind_name_short kind.Flow = omega arith
+kind_name_short kind.Delivery = omega arith
+kind_name_short kind.Balance = omega arith
+kind_name_short kind.Closing = omega arith
+kind_name_short kind.EarlyEnd = omega arith

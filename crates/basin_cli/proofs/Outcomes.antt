@@ -1,55 +1,40 @@
 -- From the cause of an ending: where nothing is refused and nothing fails, the call is done.
-use Rattle.std.proofs.Common.{◌≡◌, ◌⊎◌, inl, inr, refl, ℕ, List, [], Option, Some, None, arith, append-nil, sym, ◌∙◌, ap, subst}
+use Rattle.std.proofs.Common.{◌≡◌, ◌⊎◌, inl, inr, refl, ℕ, ◌≤◌, List, [], Option, Some, None, arith, append-nil, sym, ◌∙◌, ap, subst, length}
 use Rattle.std.specs.Prelude.{IfSome, IsTrue, Bool, true, false}
 use Rattle.std.specs.Option.{option_and_then}
 use Rattle.std.specs.Io.KnownBytes.{Appends}
-use Rattle.basin_file.specs.BasinFaults.{Spells}
-use Rattle.basin_file.specs.Spelled.{basin_of}
 use Rattle.inflow_file.specs.SeriesFaults.{series_fault}
 use Rattle.basin_tree.specs.declared.walk.Finding.{Finding}
-use Rattle.water_model.specs.declared.types.Basin.{Basin}
+use Rattle.cert_check.specs.declared.refuted.Refuted.{Refuted}
 use Rattle.basin_cli.specs.declared.status.Status.{Status}
 use Rattle.basin_cli.specs.declared.status.Status.TheVariants as its
 use Rattle.basin_cli.specs.declared.ending.Ending.{Ending}
-use Rattle.basin_cli.specs.declared.ending.Ending.TheVariants.{Done, Usage, BasinRefused, SeriesRefused, ReadFault, WriteFault, OutOfMemory, InputTooLong}
+use Rattle.basin_cli.specs.declared.ending.Ending.TheVariants as ending
 use Rattle.basin_cli.specs.declared.ending.File.TheVariants as file
 use Rattle.basin_cli.specs.declared.ending.SeriesFinding.{SeriesFinding}
-use Rattle.basin_cli.specs.Command.{Command, run}
+use Rattle.basin_cli.specs.Command.{Command, Files, run, check, report, trial}
 use Rattle.basin_cli.specs.Ending.{line_of, status_of, finding_of}
-use Rattle.basin_cli.specs.Outcome.{IsGoodBasin, IsGoodSeries, IsRefusedFor, IsSeriesRefusedFor, IsTooLong, EndingHasCause, Completes, IsQuiet, Tells}
+use Rattle.basin_cli.specs.Outcome.{IsGoodBasin, IsGoodSeries, IsHistoryText, IsAccepted, IsRefuted, IsRefusedFor, IsSeriesRefusedFor, IsTooLong, IsDone, IsJudged, Told, StopsReading, HasSolvingCause, HasCheckingCause, HasTrialCause, EndingHasCause, Completes, CompletesBehind, IsQuiet, Tells, file_limit, series_told}
+use Rattle.basin_cli.proofs.OneSeries.{one_basin}
 
--- bytes spell one basin
-pub one_basin : (bytes : List ℕ) (b c : Basin) → Spells bytes b → Spells bytes c → b ≡ c
-one_basin bytes b c one other =
-    let same : Some one.tree ≡ Some other.tree = sym one.document ∙ other.document in
-    let tree : one.tree ≡ other.tree = cc in
-    one.basin_is ∙ (ap basin_of tree ∙ sym other.basin_is)
-
--- what is to be shown of a status, by what is told of the two files
-abbrev Whole : Option (List ℕ) → Option (List ℕ) → Status → Type 0 → Type 0 → Type 0
-Whole told series status read write =
-    IfSome told (λ bytes. IsGoodBasin bytes →
-    IfSome series (λ s. IsGoodSeries bytes s → (read → ⊥) → (write → ⊥) → (status ≡ its.Done) ⊎ (status ≡ its.OutOfMemory)))
+-- what is to be shown of what is told of two files
+abbrev Shown : Option (List ℕ) → Option (List ℕ) → (List ℕ → List ℕ → Type 0) → Type 0
+Shown told series P = IfSome told (λ bytes. IsGoodBasin bytes → IfSome series (λ s. IsGoodSeries bytes s → P bytes s))
 
 abbrev Behind : Option (List ℕ) → Option (List ℕ) → (List ℕ → List ℕ → Type 0) → Type 0
 Behind told series P = IfSome told (λ bytes. IsGoodBasin bytes × IfSome series (P bytes))
 
-done : (told series : Option (List ℕ)) (read write : Type 0) → Whole told series its.Done read write
-done None series read write = tt
-done (Some bytes) None read write = λ _. tt
-done (Some bytes) (Some s) read write = λ _ _ _ _. inl refl
-
-memory : (told series : Option (List ℕ)) (read write : Type 0) → Whole told series its.OutOfMemory read write
-memory None series read write = tt
-memory (Some bytes) None read write = λ _. tt
-memory (Some bytes) (Some s) read write = λ _ _ _ _. inr refl
+-- it holds of all files
+always : (told series : Option (List ℕ)) (P : List ℕ → List ℕ → Type 0) → ((bytes s : List ℕ) → P bytes s) → Shown told series P
+always None series P h = tt
+always (Some bytes) None P h = λ _. tt
+always (Some bytes) (Some s) P h = λ _ _. h bytes s
 
 -- a basin that is refused is no good basin
-not_good : (told series : Option (List ℕ)) (status : Status) (read write : Type 0) → IfSome told (λ bytes. IsGoodBasin bytes → ⊥) →
-    Whole told series status read write
-not_good None series status read write h = tt
-not_good (Some bytes) None status read write h = λ good. absurd (h good)
-not_good (Some bytes) (Some s) status read write h = λ good. absurd (h good)
+not_good : (told series : Option (List ℕ)) (P : List ℕ → List ℕ → Type 0) → IfSome told (λ bytes. IsGoodBasin bytes → ⊥) → Shown told series P
+not_good None series P h = tt
+not_good (Some bytes) None P h = λ good. absurd (h good)
+not_good (Some bytes) (Some s) P h = λ good. absurd (h good)
 
 refused : (told : Option (List ℕ)) (finding : Finding) → IfSome told (IsRefusedFor finding) → IfSome told (λ bytes. IsGoodBasin bytes → ⊥)
 refused None finding h = tt
@@ -60,11 +45,10 @@ too_long None h = tt
 too_long (Some bytes) h = λ good. omega (arith, good.within, h.beyond)
 
 -- a series that is refused is no good series
-not_good_series : (told series : Option (List ℕ)) (status : Status) (read write : Type 0) → Behind told series (λ bytes s. IsGoodSeries bytes s → ⊥) →
-    Whole told series status read write
-not_good_series None series status read write h = tt
-not_good_series (Some bytes) None status read write h = λ _. tt
-not_good_series (Some bytes) (Some s) status read write h = λ _ good _ _. absurd (h.1 good)
+not_good_series : (told series : Option (List ℕ)) (P : List ℕ → List ℕ → Type 0) → Behind told series (λ bytes s. IsGoodSeries bytes s → ⊥) → Shown told series P
+not_good_series None series P h = tt
+not_good_series (Some bytes) None P h = λ _. tt
+not_good_series (Some bytes) (Some s) P h = λ _ good. absurd (h.1 good)
 
 series_refused : (told series : Option (List ℕ)) (finding : SeriesFinding) → Behind told series (IsSeriesRefusedFor finding) →
     Behind told series (λ bytes s. IsGoodSeries bytes s → ⊥)
@@ -84,29 +68,129 @@ series_too_long None series h = tt
 series_too_long (Some bytes) None h = (h.0, tt)
 series_too_long (Some bytes) (Some s) h = (h.0, λ good. omega (arith, good.within, h.1.beyond))
 
-read_fault : (told series : Option (List ℕ)) (status : Status) (read write : Type 0) → read → Whole told series status read write
-read_fault None series status read write h = tt
-read_fault (Some bytes) None status read write h = λ _. tt
-read_fault (Some bytes) (Some s) status read write h = λ _ _ no_read _. absurd (no_read h)
+-- where reading stopped, something was refused or failed, or memory ran out
+stopped : (files : Files) (how : Ending) (told : Told) (read : Type 0) (P : List ℕ → List ℕ → Type 0) → (read → (bytes s : List ℕ) → P bytes s) →
+    (how ≡ ending.OutOfMemory → (bytes s : List ℕ) → P bytes s) → StopsReading files how told read → CompletesBehind told files P
+stopped files (ending.BasinRefused finding) told read P by_read by_memory h = not_good (told files.basin) _ P (refused (told files.basin) finding h)
+stopped files (ending.SeriesRefused finding) told read P by_read by_memory h =
+    not_good_series (told files.basin) (series_told told files.series) P (series_refused (told files.basin) _ finding h)
+stopped files (ending.ReadFault file.Basin) told read P by_read by_memory h = always (told files.basin) _ P (by_read h)
+stopped files (ending.ReadFault file.Series) told read P by_read by_memory h = always (told files.basin) _ P (by_read h.0)
+stopped files (ending.ReadFault file.Result) told read P by_read by_memory h = absurd h
+stopped files (ending.InputTooLong file.Basin) told read P by_read by_memory h = not_good (told files.basin) _ P (too_long (told files.basin) h)
+stopped files (ending.InputTooLong file.Series) told read P by_read by_memory h =
+    not_good_series (told files.basin) (series_told told files.series) P (series_too_long (told files.basin) _ h)
+stopped files (ending.InputTooLong file.Result) told read P by_read by_memory h = absurd h
+stopped files ending.OutOfMemory told read P by_read by_memory h = always (told files.basin) _ P (by_memory refl)
+stopped files ending.Done told read P by_read by_memory h = absurd h
+stopped files (ending.Refuted refuted) told read P by_read by_memory h = absurd h
+stopped files ending.Usage told read P by_read by_memory h = absurd h
+stopped files ending.WriteFault told read P by_read by_memory h = absurd h
 
-write_fault : (told series : Option (List ℕ)) (status : Status) (read write : Type 0) → write → Whole told series status read write
-write_fault None series status read write h = tt
-write_fault (Some bytes) None status read write h = λ _. tt
-write_fault (Some bytes) (Some s) status read write h = λ _ _ _ no_write. absurd (no_write h)
+-- a command that solves the months of a basin
+abbrev Solved : Status → Type 0 → Type 0 → List ℕ → List ℕ → Type 0
+Solved status read write bytes s = (read → ⊥) → (write → ⊥) → IsDone status
 
-pub completes : (command : Option Command) (how : Ending) (told : List ℕ → Option (List ℕ)) (read write : Type 0) →
+memory_done : (how : Ending) (read write : Type 0) → how ≡ ending.OutOfMemory → (bytes s : List ℕ) → Solved (status_of how) read write bytes s
+memory_done how read write e bytes s = λ _ _. inr (ap status_of e)
+
+solving : (files : Files) (how : Ending) (told : Told) (read write : Type 0) → HasSolvingCause files how told read write →
+    CompletesBehind told files (Solved (status_of how) read write)
+solving files ending.Done told read write h = always (told files.basin) _ (Solved its.Done read write) (λ _ _ _ _. inl refl)
+solving files ending.WriteFault told read write h = always (told files.basin) _ (Solved its.WriteFault read write) (λ _ _ _ no_write. absurd (no_write h.0))
+solving files (ending.BasinRefused finding) told read write h =
+    stopped files (ending.BasinRefused finding) told read (Solved its.BasinRefused read write) (λ is _ _ no_read _. absurd (no_read is)) (memory_done (ending.BasinRefused finding) read write) h
+solving files (ending.SeriesRefused finding) told read write h =
+    stopped files (ending.SeriesRefused finding) told read (Solved its.SeriesRefused read write) (λ is _ _ no_read _. absurd (no_read is)) (memory_done (ending.SeriesRefused finding) read write) h
+solving files (ending.ReadFault file) told read write h =
+    stopped files (ending.ReadFault file) told read (Solved its.ReadFault read write) (λ is _ _ no_read _. absurd (no_read is)) (memory_done (ending.ReadFault file) read write) h
+solving files (ending.InputTooLong file) told read write h =
+    stopped files (ending.InputTooLong file) told read (Solved its.InputTooLong read write) (λ is _ _ no_read _. absurd (no_read is)) (memory_done (ending.InputTooLong file) read write) h
+solving files ending.OutOfMemory told read write h = always (told files.basin) _ (Solved its.OutOfMemory read write) (λ _ _ _ _. inr refl)
+solving files (ending.Refuted refuted) told read write h = absurd h
+solving files ending.Usage told read write h = absurd h
+
+-- a check
+abbrev Checked : Status → Option (List ℕ) → Type 0 → Type 0 → List ℕ → List ℕ → Type 0
+Checked status result read write bytes s =
+    IfSome result (λ text. length text ≤ file_limit → (read → ⊥) → (write → ⊥) → IsJudged status (IsHistoryText bytes s text))
+
+of_result : (result : Option (List ℕ)) (status : Status) (read write : Type 0) (bytes s : List ℕ) →
+    ((text : List ℕ) → (read → ⊥) → (write → ⊥) → IsJudged status (IsHistoryText bytes s text)) → Checked status result read write bytes s
+of_result None status read write bytes s h = tt
+of_result (Some text) status read write bytes s h = λ _. h text
+
+memory_checked : (how : Ending) (result : Option (List ℕ)) (read write : Type 0) → how ≡ ending.OutOfMemory → (bytes s : List ℕ) → Checked (status_of how) result read write bytes s
+memory_checked how result read write e bytes s = of_result result (status_of how) read write bytes s (λ _ _ _. inl (ap status_of e))
+
+fault_checked : (status : Status) (result : Option (List ℕ)) (read write : Type 0) → read → (bytes s : List ℕ) → Checked status result read write bytes s
+fault_checked status result read write is bytes s = of_result result status read write bytes s (λ _ no_read _. absurd (no_read is))
+
+-- what holds of the result behind both files shows it
+behind_series : (told series result : Option (List ℕ)) (P : List ℕ → List ℕ → List ℕ → Type 0) (status : Status) (read write : Type 0) →
+    ((bytes s text : List ℕ) → P bytes s text → length text ≤ file_limit → (read → ⊥) → (write → ⊥) → IsJudged status (IsHistoryText bytes s text)) →
+    IfSome told (λ bytes. IsGoodBasin bytes × IfSome series (λ s. IsGoodSeries bytes s × IfSome result (P bytes s))) →
+    Shown told series (Checked status result read write)
+behind_series None series result P status read write judge h = tt
+behind_series (Some bytes) None result P status read write judge h = λ _. tt
+behind_series (Some bytes) (Some s) None P status read write judge h = λ _ _. tt
+behind_series (Some bytes) (Some s) (Some text) P status read write judge h = λ _ _ within. judge bytes s text h.1.1 within
+
+checking : (files : Files) (result : List ℕ) (how : Ending) (told : Told) (read write : Type 0) → HasCheckingCause files result how told read write →
+    CompletesBehind told files (Checked (status_of how) (told result) read write)
+checking files result ending.Done told read write h =
+    behind_series (told files.basin) _ (told result) IsAccepted its.Done read write (λ _ _ _ is _ _ _. inr (inl (refl, is.is_text))) h
+checking files result (ending.Refuted refuted) told read write h =
+    behind_series (told files.basin) _ (told result) (IsRefuted refuted) its.No read write (λ _ _ _ is _ _ _. inr (inr (refl, is.no_text))) h
+checking files result ending.WriteFault told read write h =
+    always (told files.basin) _ (Checked its.WriteFault (told result) read write)
+    (λ bytes s. of_result (told result) its.WriteFault read write bytes s (λ _ _ no_write. absurd (no_write h.0)))
+checking files result (ending.BasinRefused finding) told read write h =
+    stopped files (ending.BasinRefused finding) told read (Checked its.BasinRefused (told result) read write) (fault_checked its.BasinRefused (told result) read write)
+    (memory_checked (ending.BasinRefused finding) (told result) read write) h
+checking files result (ending.SeriesRefused finding) told read write h =
+    stopped files (ending.SeriesRefused finding) told read (Checked its.SeriesRefused (told result) read write) (fault_checked its.SeriesRefused (told result) read write)
+    (memory_checked (ending.SeriesRefused finding) (told result) read write) h
+checking files result (ending.ReadFault file.Basin) told read write h =
+    stopped files (ending.ReadFault file.Basin) told read (Checked its.ReadFault (told result) read write) (fault_checked its.ReadFault (told result) read write)
+    (memory_checked (ending.ReadFault file.Basin) (told result) read write) h
+checking files result (ending.ReadFault file.Series) told read write h =
+    stopped files (ending.ReadFault file.Series) told read (Checked its.ReadFault (told result) read write) (fault_checked its.ReadFault (told result) read write)
+    (memory_checked (ending.ReadFault file.Series) (told result) read write) h
+checking files result (ending.ReadFault file.Result) told read write h =
+    always (told files.basin) _ (Checked its.ReadFault (told result) read write) (fault_checked its.ReadFault (told result) read write h.0)
+checking files result (ending.InputTooLong file.Basin) told read write h =
+    stopped files (ending.InputTooLong file.Basin) told read (Checked its.InputTooLong (told result) read write) (fault_checked its.InputTooLong (told result) read write)
+    (memory_checked (ending.InputTooLong file.Basin) (told result) read write) h
+checking files result (ending.InputTooLong file.Series) told read write h =
+    stopped files (ending.InputTooLong file.Series) told read (Checked its.InputTooLong (told result) read write) (fault_checked its.InputTooLong (told result) read write)
+    (memory_checked (ending.InputTooLong file.Series) (told result) read write) h
+checking files result (ending.InputTooLong file.Result) told read write h =
+    behind_series (told files.basin) _ (told result) (λ _ _ bytes. IsTooLong bytes) its.InputTooLong read write
+    (λ _ _ _ is within _ _. absurd (omega (arith, is.beyond, within))) h
+checking files result ending.OutOfMemory told read write h =
+    always (told files.basin) _ (Checked its.OutOfMemory (told result) read write)
+    (λ bytes s. of_result (told result) its.OutOfMemory read write bytes s (λ _ _ _. inl refl))
+checking files result ending.Usage told read write h = absurd h
+
+trying : (how : Ending) (write : Type 0) → HasTrialCause how write → (write → ⊥) → IsDone (status_of how)
+trying ending.Done write h no_write = inl refl
+trying ending.WriteFault write h no_write = absurd (no_write h)
+trying ending.OutOfMemory write h no_write = inr refl
+trying ending.Usage write h no_write = absurd h
+trying (ending.Refuted refuted) write h no_write = absurd h
+trying (ending.BasinRefused finding) write h no_write = absurd h
+trying (ending.SeriesRefused finding) write h no_write = absurd h
+trying (ending.ReadFault file) write h no_write = absurd h
+trying (ending.InputTooLong file) write h no_write = absurd h
+
+pub completes : (command : Option Command) (how : Ending) (told : Told) (read write : Type 0) →
     EndingHasCause command how told read write → Completes command (status_of how) told read write
 completes None how told read write h = tt
-completes (Some (run files)) Done told read write h = done (told files.basin) _ read write
-completes (Some (run files)) Usage told read write h = absurd h
-completes (Some (run files)) (BasinRefused finding) told read write h = not_good (told files.basin) _ _ read write (refused (told files.basin) finding h)
-completes (Some (run files)) (SeriesRefused finding) told read write h = not_good_series (told files.basin) _ _ read write (series_refused (told files.basin) _ finding h)
-completes (Some (run files)) (ReadFault file.Basin) told read write h = read_fault (told files.basin) _ _ read write h
-completes (Some (run files)) (ReadFault file.Series) told read write h = read_fault (told files.basin) _ _ read write h.0
-completes (Some (run files)) WriteFault told read write h = write_fault (told files.basin) _ _ read write h.0
-completes (Some (run files)) OutOfMemory told read write h = memory (told files.basin) _ read write
-completes (Some (run files)) (InputTooLong file.Basin) told read write h = not_good (told files.basin) _ _ read write (too_long (told files.basin) h)
-completes (Some (run files)) (InputTooLong file.Series) told read write h = not_good_series (told files.basin) _ _ read write (series_too_long (told files.basin) _ h)
+completes (Some (run files)) how told read write h = solving files how told read write h
+completes (Some (check files result)) how told read write h = checking files result how told read write h
+completes (Some (report files)) how told read write h = solving files how told read write h
+completes (Some (trial number size)) how told read write h = trying how write h
 
 -- nothing was told
 pub tells_nothing : (old : Option (List ℕ)) (before : ℕ) → Tells old old before before []
@@ -119,14 +203,15 @@ tells_nothing old before = record { count = 0; within = omega arith; appended = 
 -- a quiet ending has no line
 pub quiet : (how : Ending) (old : Option (List ℕ)) (before : ℕ) → ((IsQuiet (status_of how) → ⊥) → ⊥) → Tells old old before before (line_of how)
 unfolding line_of
-quiet Done old before h = tells_nothing old before
-quiet Usage old before h = absurd (h (λ q. q))
-quiet (BasinRefused finding) old before h = absurd (h (λ q. q))
-quiet (SeriesRefused finding) old before h = absurd (h (λ q. q))
-quiet (ReadFault file) old before h = absurd (h (λ q. q))
-quiet WriteFault old before h = absurd (h (λ q. q))
-quiet OutOfMemory old before h = absurd (h (λ q. q))
-quiet (InputTooLong file) old before h = absurd (h (λ q. q))
+quiet ending.Done old before h = tells_nothing old before
+quiet (ending.Refuted refuted) old before h = tells_nothing old before
+quiet ending.Usage old before h = absurd (h (λ q. q))
+quiet (ending.BasinRefused finding) old before h = absurd (h (λ q. q))
+quiet (ending.SeriesRefused finding) old before h = absurd (h (λ q. q))
+quiet (ending.ReadFault file) old before h = absurd (h (λ q. q))
+quiet ending.WriteFault old before h = absurd (h (λ q. q))
+quiet ending.OutOfMemory old before h = absurd (h (λ q. q))
+quiet (ending.InputTooLong file) old before h = absurd (h (λ q. q))
 
 pub told_not : {told : Bool} → told ≡ false → IsTrue told → ⊥
 told_not e h = let clash : false ≡ true = sym e ∙ h in cc

@@ -1,30 +1,61 @@
 -- The commands that words are.
-use Rattle.std.specs.Prelude.{ℕ, List, [], ◌∷◌, codes, if◌then◌else◌, Option, Some, None, ⊤, option_map}
+use Rattle.std.specs.Prelude.{ℕ, ◌≤◌, List, [], ◌∷◌, codes, nat_le, if◌then◌else◌, Option, Some, None, ⊤, option_map}
 use Rattle.std.specs.Str.{bytes_eq}
+use Rattle.water_text.specs.Amounts.{read_amount}
 use Rattle.basin_cli.specs.declared.command.Inputs as input
+use Rattle.basin_cli.specs.declared.command.Words.{Words}
+use Rattle.basin_cli.specs.declared.command.Words.TheVariants as words
 
 -- the names of a basin file and of a series file. Without a series the table of gauged inflows is its header alone
 pub record Files : Type 0 where
   pub basin : List ℕ
   pub series : Option (List ℕ)
 
--- a command with the names of its files
+-- a command with the names of its files, or with its numbers: `run` and `report` have the files of a basin and its series,
+-- `check` the file of a result besides, and `trial` the number and the size of a generated basin
 pub data Command : Type 0 where
   run : Files → Command
+  check : Files → List ℕ → Command
+  report : Files → Command
+  trial : ℕ → ℕ → Command
 
 -- the word `-` names no file
 abbrev pub series_named : List ℕ → Option (List ℕ)
 series_named word = if bytes_eq word (codes "-") then None else Some word
 
+-- a number of 32 bits, and a size from 2 to 2,000
+abbrev pub sized : ℕ → Option ℕ → Option Command
+sized number None = None
+sized number (Some size) = if nat_le 2 size then Some (trial number size) else None
+
+abbrev pub trial_of : Option ℕ → Option ℕ → Option Command
+trial_of None size = None
+trial_of (Some number) size = sized number size
+
 abbrev pub command_of : List (List ℕ) → Option Command
 command_of (word ∷ basin ∷ []) = if bytes_eq word (codes "run") then Some (run (record { basin = basin; series = None })) else None
-command_of (word ∷ basin ∷ series ∷ []) =
-    if bytes_eq word (codes "run") then Some (run (record { basin = basin; series = series_named series })) else None
+command_of (word ∷ one ∷ other ∷ []) =
+    if bytes_eq word (codes "run") then Some (run (record { basin = one; series = series_named other }))
+    else (if bytes_eq word (codes "report") then Some (report (record { basin = one; series = series_named other }))
+    else (if bytes_eq word (codes "trial") then trial_of (read_amount one 4294967295) (read_amount other 2000) else None))
+command_of (word ∷ basin ∷ series ∷ result ∷ []) =
+    if bytes_eq word (codes "check") then Some (check (record { basin = basin; series = series_named series }) result) else None
 command_of _ = None
 
--- the names that words give
+-- the command that words give, as the program keeps it
 abbrev pub named : input.Inputs → Files
 named inputs = record { basin = inputs.basin.now; series = option_map (λ name. name.now) inputs.series }
+
+abbrev pub command_named : Words → Command
+command_named (words.Run inputs) = run (named inputs)
+command_named (words.Check inputs result) = check (named inputs) result.now
+command_named (words.Report inputs) = report (named inputs)
+command_named (words.Trial number size) = trial number size
+
+-- the size of a trial is from 2 to 2,000
+abbrev pub IsSized : Words → Type 0
+IsSized (words.Trial number size) = (2 ≤ size) × (size ≤ 2000)
+IsSized other = ⊤
 
 abbrev pub ServesSeries : (List ℕ → Type 0) → Option (List ℕ) → Type 0
 ServesSeries serves None = ⊤
@@ -34,3 +65,6 @@ ServesSeries serves (Some name) = serves name
 abbrev pub ServesFiles : (List ℕ → Type 0) → Option Command → Type 0
 ServesFiles serves None = ⊤
 ServesFiles serves (Some (run files)) = serves files.basin × ServesSeries serves files.series
+ServesFiles serves (Some (check files result)) = serves files.basin × ServesSeries serves files.series × serves result
+ServesFiles serves (Some (report files)) = serves files.basin × ServesSeries serves files.series
+ServesFiles serves (Some (trial number size)) = ⊤

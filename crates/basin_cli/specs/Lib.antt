@@ -6,3 +6,5 @@ pub mod Outcome
 pub mod Code
 pub mod Drafts
 pub mod Series
+pub mod Actions
+pub mod Answer

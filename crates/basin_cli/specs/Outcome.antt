@@ -1,13 +1,22 @@
 -- What each status of a call means: its cause, and what it leaves on out and err.
-use Rattle.std.specs.Prelude.{◌≡◌, ℕ, ◌+◌, ◌<◌, ◌≤◌, List, length, take, Option, Some, None, ⊤, IfSome, ◌⊎◌}
+use Rattle.std.specs.Prelude.{◌≡◌, ℕ, ◌+◌, ◌<◌, ◌≤◌, ◌++◌, List, length, take, codes, Option, Some, None, Result, Ok, Err, ⊤, IfSome, ◌⊎◌}
+use Rattle.std.specs.Fmt.{decimal}
 use Rattle.std.specs.Io.KnownBytes.{Appends}
 use Rattle.std.specs.Option.{option_and_then}
 use Rattle.water_edge.specs.Edge.{Rose}
 use Rattle.basin_tree.specs.declared.walk.Finding.{Finding}
 use Rattle.basin_file.specs.BasinFaults.{Spells, file_fault}
+use Rattle.basin_gen.specs.Generator.{generated}
+use Rattle.cert_check.specs.KindNames.{kind_name}
+use Rattle.cert_check.specs.Whole.{text_verdict}
+use Rattle.cert_check.specs.declared.refuted.Refuted.{Refuted}
 use Rattle.inflow_file.specs.SeriesFaults.{series_fault, SpellsSeries}
+use Rattle.reports.specs.Ends.{IsRun}
+use Rattle.reports.specs.Reports.{report_text, trial_text}
+use Rattle.water_model.specs.History.{IsHistory}
 use Rattle.water_model.specs.Text.{text_bytes}
 use Rattle.water_model.specs.Valid.{IsSeriesOf}
+use Rattle.water_model.specs.declared.item.Item.{Item}
 use Rattle.water_model.specs.declared.types.Basin.{Basin}
 use Rattle.water_model.specs.declared.types.Inflows.{Inflows}
 use Rattle.water_model.specs.declared.types.MonthRecord.{MonthRecord}
@@ -17,9 +26,9 @@ use Rattle.basin_cli.specs.declared.ending.Ending.{Ending}
 use Rattle.basin_cli.specs.declared.ending.Ending.TheVariants as ending
 use Rattle.basin_cli.specs.declared.ending.File.TheVariants as file
 use Rattle.basin_cli.specs.declared.ending.SeriesFinding.{SeriesFinding}
-use Rattle.basin_cli.specs.Command.{Command, Files, run}
+use Rattle.basin_cli.specs.Command.{Command, Files, run, check, report, trial}
 use Rattle.basin_cli.specs.Ending.{status_of, line_of, finding_of}
-use Rattle.basin_cli.specs.Headline.{KeepsPriority, run_pushes}
+use Rattle.basin_cli.specs.Headline.{KeepsPriority, HasGreatestPlans, run_pushes}
 use Rattle.basin_cli.specs.Header.{header}
 
 -- the most bytes of a file
@@ -53,33 +62,98 @@ pub record IsSeriesRefusedFor (finding : SeriesFinding) (basin_bytes bytes : Lis
   pub within : length bytes ≤ file_limit
   pub first : option_and_then (finding_of basin) (series_fault basin bytes) ≡ Some finding
 
+-- the basin and the series that bytes spell
+pub record AreSpelled (bytes series_bytes : List ℕ) (basin : Basin) (series : Inflows) : Type 0 where
+  pub basin_spelled : Spells bytes basin
+  pub series_spelled : SpellsSeries basin series_bytes series
+  pub fits : IsSeriesOf basin series
+
+-- A result's bytes are the text of a history of the basin and series that other bytes spell, whoever wrote it. So the
+-- deliveries of each of its months, in order of seniority, are lexicographically greatest among all plans of the month.
+pub record IsHistoryText (bytes series_bytes result : List ℕ) : Type 0 where
+  pub basin : Basin
+  pub series : Inflows
+  pub spelled : AreSpelled bytes series_bytes basin series
+  pub records : List MonthRecord
+  pub history : IsHistory basin series records
+  pub text : result ≡ text_bytes basin records
+  pub greatest : HasGreatestPlans basin records
+
+-- the bytes of a result are within the limit and the text of a history
+pub record IsAccepted (bytes series_bytes result : List ℕ) : Type 0 where
+  pub within : length result ≤ file_limit
+  pub is_text : IsHistoryText bytes series_bytes result
+
+-- the bytes of a result are within the limit, this is the verdict on them, and they are the text of no history
+pub record IsRefuted (refuted : Refuted) (bytes series_bytes result : List ℕ) : Type 0 where
+  pub within : length result ≤ file_limit
+  pub basin : Basin
+  pub series : Inflows
+  pub spelled : AreSpelled bytes series_bytes basin series
+  pub verdict : text_verdict basin series result ≡ Err refuted
+  pub no_text : IsHistoryText bytes series_bytes result → ⊥
+
+-- what a shelf tells under a name
+abbrev pub Told : Type 0
+Told = List ℕ → Option (List ℕ)
+
 -- the bytes of a series. Without a file they are the header of the table alone
-abbrev pub series_told : (List ℕ → Option (List ℕ)) → Option (List ℕ) → Option (List ℕ)
+abbrev pub series_told : Told → Option (List ℕ) → Option (List ℕ)
 series_told told None = Some header
 series_told told (Some name) = told name
 
 -- the basin file is good, and this holds of its bytes and those of the series, as far as they are told
-abbrev pub BehindBasin : (List ℕ → Option (List ℕ)) → Files → (List ℕ → List ℕ → Type 0) → Type 0
+abbrev pub BehindBasin : Told → Files → (List ℕ → List ℕ → Type 0) → Type 0
 BehindBasin told files P = IfSome (told files.basin) (λ bytes. IsGoodBasin bytes × IfSome (series_told told files.series) (P bytes))
 
-abbrev pub AreAccepted : (List ℕ → Option (List ℕ)) → Files → Type 0
+abbrev pub AreAccepted : Told → Files → Type 0
 AreAccepted told files = BehindBasin told files IsGoodSeries
 
--- the cause of an ending of a command. `told` gives the bytes under a name, where the shelf tells them; `read` and `write`
--- say that the shelf's and out's count of faults rose
-abbrev pub HasCauseFor : Command → Ending → (List ℕ → Option (List ℕ)) → Type 0 → Type 0 → Type 0
-HasCauseFor (run files) ending.Done told read write = AreAccepted told files
-HasCauseFor (run files) ending.Usage told read write = ⊥
-HasCauseFor (run files) (ending.BasinRefused finding) told read write = IfSome (told files.basin) (IsRefusedFor finding)
-HasCauseFor (run files) (ending.SeriesRefused finding) told read write = BehindBasin told files (IsSeriesRefusedFor finding)
-HasCauseFor (run files) (ending.ReadFault file.Basin) told read write = read
-HasCauseFor (run files) (ending.ReadFault file.Series) told read write = read × IfSome (told files.basin) IsGoodBasin
-HasCauseFor (run files) ending.WriteFault told read write = write × AreAccepted told files
-HasCauseFor (run files) ending.OutOfMemory told read write = ⊤
-HasCauseFor (run files) (ending.InputTooLong file.Basin) told read write = IfSome (told files.basin) IsTooLong
-HasCauseFor (run files) (ending.InputTooLong file.Series) told read write = BehindBasin told files (λ _ bytes. IsTooLong bytes)
+-- both files are good, and this holds of their bytes and those of the result
+abbrev pub BehindSeries : Told → Files → List ℕ → (List ℕ → List ℕ → List ℕ → Type 0) → Type 0
+BehindSeries told files result P = BehindBasin told files (λ bytes series. IsGoodSeries bytes series × IfSome (told result) (P bytes series))
 
-abbrev pub EndingHasCause : Option Command → Ending → (List ℕ → Option (List ℕ)) → Type 0 → Type 0 → Type 0
+-- The cause of an ending at which the basin or its series is not read or refused. `told` gives the bytes under a name, where
+-- the shelf tells them; `read` and `write` say that the shelf's and out's count of faults rose.
+abbrev pub StopsReading : Files → Ending → Told → Type 0 → Type 0
+StopsReading files (ending.BasinRefused finding) told read = IfSome (told files.basin) (IsRefusedFor finding)
+StopsReading files (ending.SeriesRefused finding) told read = BehindBasin told files (IsSeriesRefusedFor finding)
+StopsReading files (ending.ReadFault file.Basin) told read = read
+StopsReading files (ending.ReadFault file.Series) told read = read × IfSome (told files.basin) IsGoodBasin
+StopsReading files (ending.InputTooLong file.Basin) told read = IfSome (told files.basin) IsTooLong
+StopsReading files (ending.InputTooLong file.Series) told read = BehindBasin told files (λ _ bytes. IsTooLong bytes)
+StopsReading files ending.OutOfMemory told read = ⊤
+StopsReading files other told read = ⊥
+
+-- the cause of an ending of a command that solves the months of a basin and writes what it found
+abbrev pub HasSolvingCause : Files → Ending → Told → Type 0 → Type 0 → Type 0
+HasSolvingCause files ending.Done told read write = AreAccepted told files
+HasSolvingCause files ending.WriteFault told read write = write × AreAccepted told files
+HasSolvingCause files other told read write = StopsReading files other told read
+
+-- the cause of an ending of a check
+abbrev pub HasCheckingCause : Files → List ℕ → Ending → Told → Type 0 → Type 0 → Type 0
+HasCheckingCause files result ending.Done told read write = BehindSeries told files result IsAccepted
+HasCheckingCause files result (ending.Refuted refuted) told read write = BehindSeries told files result (IsRefuted refuted)
+HasCheckingCause files result ending.WriteFault told read write = write × AreAccepted told files
+HasCheckingCause files result (ending.ReadFault file.Result) told read write = read × AreAccepted told files
+HasCheckingCause files result (ending.InputTooLong file.Result) told read write = BehindSeries told files result (λ _ _ bytes. IsTooLong bytes)
+HasCheckingCause files result other told read write = StopsReading files other told read
+
+-- the cause of an ending of a trial
+abbrev pub HasTrialCause : Ending → Type 0 → Type 0
+HasTrialCause ending.Done write = ⊤
+HasTrialCause ending.WriteFault write = write
+HasTrialCause ending.OutOfMemory write = ⊤
+HasTrialCause other write = ⊥
+
+abbrev pub HasCauseFor : Command → Ending → Told → Type 0 → Type 0 → Type 0
+HasCauseFor (run files) e told read write = HasSolvingCause files e told read write
+HasCauseFor (check files result) e told read write = HasCheckingCause files result e told read write
+HasCauseFor (report files) e told read write = HasSolvingCause files e told read write
+HasCauseFor (trial number size) e told read write = HasTrialCause e write
+
+abbrev pub EndingHasCause : Option Command → Ending → Told → Type 0 → Type 0 → Type 0
 EndingHasCause None e told read write = e ≡ ending.Usage
 EndingHasCause (Some command) e told read write = HasCauseFor command e told read write
 
@@ -91,67 +165,34 @@ pub record Tells (old new : Option (List ℕ)) (before now : ℕ) (line : List �
   pub cut : count < length line → Rose before now
 
 -- the status is that of an ending that has its cause, and err got that ending's line, or a front of it
-pub record Ends (command : Option Command) (status : Status) (told : List ℕ → Option (List ℕ)) (read write : Type 0)
+pub record Ends (command : Option Command) (status : Status) (told : Told) (read write : Type 0)
     (err_old err_new : Option (List ℕ)) (err_before err_now : ℕ) : Type 0 where
   pub how : Ending
   pub status_is : status ≡ status_of how
   pub cause : EndingHasCause command how told read write
   pub tells : Tells err_old err_new err_before err_now (line_of how)
 
+abbrev pub IsDone : Status → Type 0
+IsDone status = (status ≡ Done) ⊎ (status ≡ OutOfMemory)
+
+-- a result is judged as what it is: the text of a history, or not
+abbrev pub IsJudged : Status → Type 0 → Type 0
+IsJudged status is_text = (status ≡ OutOfMemory) ⊎ (((status ≡ Done) × is_text) ⊎ ((status ≡ No) × (is_text → ⊥)))
+
 -- right words, told bytes that are accepted, and no fault of the shelf or of out: the call is done, unless memory ran out
-abbrev pub Completes : Option Command → Status → (List ℕ → Option (List ℕ)) → Type 0 → Type 0 → Type 0
-Completes None status told read write = ⊤
-Completes (Some (run files)) status told read write =
+abbrev pub CompletesBehind : Told → Files → (List ℕ → List ℕ → Type 0) → Type 0
+CompletesBehind told files P =
     IfSome (told files.basin) (λ bytes. IsGoodBasin bytes →
-    IfSome (series_told told files.series) (λ series. IsGoodSeries bytes series → (read → ⊥) → (write → ⊥) → (status ≡ Done) ⊎ (status ≡ OutOfMemory)))
+    IfSome (series_told told files.series) (λ series. IsGoodSeries bytes series → P bytes series))
 
--- the basin and series that bytes spell, and records of a run of them
-pub record IsRunOf (bytes series_bytes : List ℕ) (basin : Basin) (records : List MonthRecord) : Type 0 where
-  pub spelled : Spells bytes basin
-  pub series : Inflows
-  pub series_spelled : SpellsSeries basin series_bytes series
-  pub fits : IsSeriesOf basin series
-  pub keeps : KeepsPriority basin series records
-
--- what is appended to out: the text of a run of what the bytes spell, or after a fault of out a front of it
-pub record WritesHistory (bytes series_bytes : List ℕ) (old new : Option (List ℕ)) : Type 0 where
-  pub basin : Basin
-  pub records : List MonthRecord
-  pub is_run : IsRunOf bytes series_bytes basin records
-  pub written : Appends old new (text_bytes basin records)
-
-pub record WritesFront (bytes series_bytes : List ℕ) (old new : Option (List ℕ)) : Type 0 where
-  pub basin : Basin
-  pub records : List MonthRecord
-  pub is_run : IsRunOf bytes series_bytes basin records
-  pub count : ℕ
-  pub written : Appends old new (take count (text_bytes basin records))
-
--- how a run of a basin and a series may end: Done behind the text of its records, and else behind nothing or a front of it
-abbrev pub EndsRun : Basin → Inflows → Ending → Option (List ℕ) → Option (List ℕ) → ℕ → ℕ → Type 0
-EndsRun basin series ending.Done old new before now =
-    (records : List MonthRecord) × KeepsPriority basin series records × Appends old new (text_bytes basin records)
-EndsRun basin series ending.WriteFault old new before now =
-    Rose before now × ((records : List MonthRecord) × KeepsPriority basin series records
-    × ((count : ℕ) × Appends old new (take count (text_bytes basin records))))
-EndsRun basin series ending.OutOfMemory old new before now = ⊤
-EndsRun basin series other old new before now = ⊥
-
-abbrev pub Writes : Status → List ℕ → List ℕ → Option (List ℕ) → Option (List ℕ) → Type 0
-Writes Done bytes series old new = WritesHistory bytes series old new
-Writes WriteFault bytes series old new = WritesFront bytes series old new
-Writes status bytes series old new = ⊤
-
-abbrev pub WritesFor : Option Command → Status → (List ℕ → Option (List ℕ)) → Option (List ℕ) → Option (List ℕ) → Type 0
-WritesFor None status told old new = ⊤
-WritesFor (Some (run files)) status told old new =
-    IfSome (told files.basin) (λ bytes. IfSome (series_told told files.series) (λ series. Writes status bytes series old new))
-
--- searches push at most so often as the bound of a month allows, for each month of the basin that the bytes spell
-abbrev pub PushesFor : Option Command → (List ℕ → Option (List ℕ)) → ℕ → ℕ → Type 0
-PushesFor None told before now = now ≡ before
-PushesFor (Some (run files)) told before now =
-    IfSome (told files.basin) (λ bytes. (basin : Basin) → Spells bytes basin → now ≤ before + run_pushes basin)
+abbrev pub Completes : Option Command → Status → Told → Type 0 → Type 0 → Type 0
+Completes None status told read write = ⊤
+Completes (Some (run files)) status told read write = CompletesBehind told files (λ _ _. (read → ⊥) → (write → ⊥) → IsDone status)
+Completes (Some (report files)) status told read write = CompletesBehind told files (λ _ _. (read → ⊥) → (write → ⊥) → IsDone status)
+Completes (Some (trial number size)) status told read write = (write → ⊥) → IsDone status
+Completes (Some (check files result)) status told read write =
+    CompletesBehind told files (λ bytes series. IfSome (told result) (λ text. length text ≤ file_limit →
+    (read → ⊥) → (write → ⊥) → IsJudged status (IsHistoryText bytes series text)))
 
 -- only these statuses may leave bytes on out
 abbrev pub MayWrite : Status → Type 0
@@ -159,6 +200,77 @@ MayWrite Done = ⊤
 MayWrite No = ⊤
 MayWrite WriteFault = ⊤
 MayWrite status = ⊥
+
+-- the text is appended to out, or after a fault of out a front of it
+abbrev pub Leaves : Status → List ℕ → Option (List ℕ) → Option (List ℕ) → Type 0
+Leaves WriteFault text old new = (count : ℕ) × Appends old new (take count text)
+Leaves status text old new = Appends old new text
+
+-- the basin and series that bytes spell, and records of a run of them
+pub record IsRunOf (bytes series_bytes : List ℕ) (basin : Basin) (records : List MonthRecord) : Type 0 where
+  pub series : Inflows
+  pub spelled : AreSpelled bytes series_bytes basin series
+  pub keeps : KeepsPriority basin series records
+
+-- what `run` leaves on out: the text of a run of what the bytes spell
+pub record WritesRun (status : Status) (bytes series_bytes : List ℕ) (old new : Option (List ℕ)) : Type 0 where
+  pub basin : Basin
+  pub records : List MonthRecord
+  pub is_run : IsRunOf bytes series_bytes basin records
+  pub written : Leaves status (text_bytes basin records) old new
+
+-- the line that answers a verdict
+unfoldable pub answer_line : Basin → Result (List Item) Refuted → List ℕ
+answer_line b (Ok items) = codes "checked " ++ decimal b.months ++ codes "\n"
+answer_line b (Err refuted) = codes "refuted " ++ decimal refuted.line ++ codes " " ++ kind_name refuted.kind ++ codes "\n"
+
+-- what `check` leaves on out: the answer to the verdict on the result's bytes
+pub record WritesAnswer (status : Status) (bytes series_bytes result : List ℕ) (old new : Option (List ℕ)) : Type 0 where
+  pub basin : Basin
+  pub series : Inflows
+  pub spelled : AreSpelled bytes series_bytes basin series
+  pub written : Leaves status (answer_line basin (text_verdict basin series result)) old new
+
+-- what `report` leaves on out: the report of a run of what the bytes spell
+pub record WritesReport (status : Status) (bytes series_bytes : List ℕ) (old new : Option (List ℕ)) : Type 0 where
+  pub basin : Basin
+  pub series : Inflows
+  pub spelled : AreSpelled bytes series_bytes basin series
+  pub records : List MonthRecord
+  pub is_run : IsRun basin series records
+  pub written : Leaves status (report_text basin series records) old new
+
+-- what `trial` leaves on out: the summary of a run of the basin that the number and the size make
+pub record WritesTrial (status : Status) (number size : ℕ) (old new : Option (List ℕ)) : Type 0 where
+  pub series : Inflows
+  pub fits : IsSeriesOf (generated number size) series
+  pub records : List MonthRecord
+  pub is_run : IsRun (generated number size) series records
+  pub written : Leaves status (trial_text number size (generated number size) series records) old new
+
+-- this holds of what is told of both files
+abbrev pub OfBoth : Told → Files → (List ℕ → List ℕ → Type 0) → Type 0
+OfBoth told files P = IfSome (told files.basin) (λ bytes. IfSome (series_told told files.series) (λ series. P bytes series))
+
+abbrev pub WritesFor : Option Command → Status → Told → Option (List ℕ) → Option (List ℕ) → Type 0
+WritesFor None status told old new = ⊤
+WritesFor (Some (run files)) status told old new = OfBoth told files (λ bytes series. MayWrite status → WritesRun status bytes series old new)
+WritesFor (Some (check files result)) status told old new =
+    OfBoth told files (λ bytes series. IfSome (told result) (λ text. MayWrite status → WritesAnswer status bytes series text old new))
+WritesFor (Some (report files)) status told old new = OfBoth told files (λ bytes series. MayWrite status → WritesReport status bytes series old new)
+WritesFor (Some (trial number size)) status told old new = MayWrite status → WritesTrial status number size old new
+
+-- searches push at most so often as the bound of a month allows, for each month of the basin that the bytes spell
+abbrev pub PushesOf : Told → Files → ℕ → ℕ → Type 0
+PushesOf told files before now = IfSome (told files.basin) (λ bytes. (basin : Basin) → Spells bytes basin → now ≤ before + run_pushes basin)
+
+-- and a check searches for nothing
+abbrev pub PushesFor : Option Command → Told → ℕ → ℕ → Type 0
+PushesFor None told before now = now ≡ before
+PushesFor (Some (run files)) told before now = PushesOf told files before now
+PushesFor (Some (check files result)) told before now = now ≡ before
+PushesFor (Some (report files)) told before now = PushesOf told files before now
+PushesFor (Some (trial number size)) told before now = now ≤ before + run_pushes (generated number size)
 
 -- the statuses that leave err alone
 abbrev pub IsQuiet : Status → Type 0

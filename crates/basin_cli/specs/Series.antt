@@ -1,7 +1,7 @@
 -- What the files of a command are accepted for, and how reading them may end.
 use Rattle.std.specs.Prelude.{◌≡◌, ℕ, ◌≤◌, List, length, Option, Some, None, ⊤, IfSome}
 use Rattle.std.specs.Option.{option_and_then}
-use Rattle.basin_file.specs.BasinFaults.{file_fault}
+use Rattle.basin_file.specs.BasinFaults.{Spells, file_fault}
 use Rattle.inflow_file.specs.SeriesFaults.{series_fault, SpellsSeries}
 use Rattle.water_model.specs.declared.types.Basin.{Basin}
 use Rattle.water_model.specs.declared.types.Inflows.{Inflows}
@@ -9,8 +9,9 @@ use Rattle.basin_cli.specs.declared.ending.Ending.{Ending}
 use Rattle.basin_cli.specs.declared.ending.Ending.TheVariants as ending
 use Rattle.basin_cli.specs.declared.ending.File.{File}
 use Rattle.basin_cli.specs.declared.ending.File.TheVariants as file
+use Rattle.basin_cli.specs.Command.{Files}
 use Rattle.basin_cli.specs.Ending.{finding_of}
-use Rattle.basin_cli.specs.Outcome.{IsTooLong, file_limit}
+use Rattle.basin_cli.specs.Outcome.{IsTooLong, IsGoodBasin, IsRefusedFor, Told, file_limit, series_told}
 
 -- how the reading of a file may end without its bytes
 abbrev pub FileEnds : File → Option (List ℕ) → Type 0 → Ending → Type 0
@@ -25,11 +26,24 @@ BasinEnds bytes (ending.BasinRefused finding) = file_fault bytes ≡ Some findin
 BasinEnds bytes ending.OutOfMemory = ⊤
 BasinEnds bytes other = ⊥
 
+-- how the reading of a basin may end, where its bytes are told or not
+abbrev pub BasinReadEnds : Option (List ℕ) → Type 0 → Ending → Type 0
+BasinReadEnds told read (ending.BasinRefused finding) = IfSome told (IsRefusedFor finding)
+BasinReadEnds told read (ending.ReadFault file.Basin) = read
+BasinReadEnds told read (ending.InputTooLong file.Basin) = IfSome told IsTooLong
+BasinReadEnds told read ending.OutOfMemory = ⊤
+BasinReadEnds told read other = ⊥
+
 -- how the bytes of a basin's series may be refused
 abbrev pub SeriesEnds : Basin → List ℕ → Ending → Type 0
 SeriesEnds b bytes (ending.SeriesRefused finding) = option_and_then (finding_of b) (series_fault b bytes) ≡ Some finding
 SeriesEnds b bytes ending.OutOfMemory = ⊤
 SeriesEnds b bytes other = ⊥
+
+-- the bytes are within the limit, and spell the basin
+pub record IsBasinText (b : Basin) (bytes : List ℕ) : Type 0 where
+  pub good : IsGoodBasin bytes
+  pub spelled : Spells bytes b
 
 -- the bytes are within the limit, and spell the series of the basin
 pub record IsSeriesText (b : Basin) (series : Inflows) (bytes : List ℕ) : Type 0 where
@@ -45,3 +59,8 @@ SeriesReadEnds b told read (ending.ReadFault file.Series) = read
 SeriesReadEnds b told read (ending.InputTooLong file.Series) = IfSome told IsTooLong
 SeriesReadEnds b told read ending.OutOfMemory = ⊤
 SeriesReadEnds b told read other = ⊥
+
+-- the basin and the series are what the told bytes of the files spell
+pub record AreLoaded (told : Told) (files : Files) (b : Basin) (series : Inflows) : Type 0 where
+  pub from_basin : IfSome (told files.basin) (IsBasinText b)
+  pub from_series : IfSome (series_told told files.series) (IsSeriesText b series)

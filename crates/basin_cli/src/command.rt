@@ -1,12 +1,28 @@
 //! The words of the command line.
-ghost use Rattle.std.specs.Prelude.{◌≡◌, option_map, map, string_bytes};
-ghost use Rattle.basin_cli.specs.Command.{run, command_of, named, series_named};
+ghost use Rattle.std.specs.Prelude.{◌≡◌, option_map, map, string_bytes, IfSome};
+ghost use Rattle.basin_cli.specs.Command.{IsSized, command_named, command_of, series_named, trial_of};
+ghost use Rattle.water_text.specs.Amounts.{read_amount};
+
+use water_text::amount::read_amount;
 
 /// The names of BASIN and SERIES. Without SERIES the table of gauged inflows is its header alone.
 #[derive(Clone, Copy)]
 pub struct Inputs<'a> {
     pub basin: &'a str,
     pub series: Option<&'a str>,
+}
+
+/// A command with what its words name.
+#[derive(Clone, Copy)]
+pub enum Words<'a> {
+    /// Solve the months and write their result.
+    Run(Inputs<'a>),
+    /// Check the result in a file.
+    Check { inputs: Inputs<'a>, result: &'a str },
+    /// Solve the months and report on them.
+    Report(Inputs<'a>),
+    /// Make a basin from a number and a size, solve its months and sum them up.
+    Trial { number: u32, size: u32 },
 }
 
 /// The name of SERIES, unless the word is `-`.
@@ -16,26 +32,66 @@ fn series_name(word: &str) -> Option<&str>
     if word == "-" { None } else { Some(word) }
 }
 
-/// The names of the files, if the words are `run BASIN` or `run BASIN SERIES`.
-pub fn run_words(words: &[String]) -> Option<Inputs<'_>>
-    ensures { option_map (λ inputs. run (named inputs)) result ≡ command_of (map string_bytes words.now) }
+/// The names of a basin file and a series file.
+fn files_named<'a>(basin: &'a str, series: &'a str) -> Inputs<'a>
+    ensures basin { result.basin.now ≡ basin.entry.now }
+    ensures series { option_map (λ name. name.now) result.series ≡ series_named series.entry.now }
+{
+    Inputs {
+        basin,
+        series: series_name(series),
+    }
+}
+
+/// A trial, where the words are a number of 32 bits and a size from 2 to 2,000.
+fn trial_words<'a>(number: &str, size: &str) -> Option<Words<'a>>
+    ensures words { option_map command_named result ≡ trial_of (read_amount number.now 4294967295) (read_amount size.now 2000) }
+    ensures sized { IfSome result IsSized }
+{
+    let number = read_amount(number.as_bytes(), 4_294_967_295)?;
+    let size = read_amount(size.as_bytes(), 2_000)?;
+    if size >= 2 {
+        Some(Words::Trial {
+            number: number as u32,
+            size: size as u32,
+        })
+    } else {
+        None
+    }
+}
+
+/// The command that the words are.
+pub fn command(words: &[String]) -> Option<Words<'_>>
+    ensures words { option_map command_named result ≡ command_of (map string_bytes words.now) }
+    ensures sized { IfSome result IsSized }
 {
     match words {
         [word, basin] => {
             if word.as_str() == "run" {
-                Some(Inputs {
+                Some(Words::Run(Inputs {
                     basin: basin.as_str(),
                     series: None,
-                })
+                }))
             } else {
                 None
             }
         }
-        [word, basin, series] => {
+        [word, one, other] => {
             if word.as_str() == "run" {
-                Some(Inputs {
-                    basin: basin.as_str(),
-                    series: series_name(series.as_str()),
+                Some(Words::Run(files_named(one.as_str(), other.as_str())))
+            } else if word.as_str() == "report" {
+                Some(Words::Report(files_named(one.as_str(), other.as_str())))
+            } else if word.as_str() == "trial" {
+                trial_words(one.as_str(), other.as_str())
+            } else {
+                None
+            }
+        }
+        [word, basin, series, result] => {
+            if word.as_str() == "check" {
+                Some(Words::Check {
+                    inputs: files_named(basin.as_str(), series.as_str()),
+                    result: result.as_str(),
                 })
             } else {
                 None

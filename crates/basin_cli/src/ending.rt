@@ -8,6 +8,7 @@ ghost use Rattle.basin_cli.specs.Outcome.{IsQuiet, Tells};
 
 use crate::status::Status;
 use basin_tree::walk::Finding;
+use cert_check::Refuted;
 use inflow_file::SeriesFault;
 use water_edge::Sink;
 use water_text::line::Line;
@@ -19,6 +20,7 @@ use water_text::name::Name;
 pub enum File {
     Basin,
     Series,
+    Result,
 }
 
 impl File {
@@ -30,6 +32,7 @@ impl File {
         match self {
             File::Basin => "BASIN",
             File::Series => "SERIES",
+            File::Result => "RESULT",
         }
     }
 }
@@ -45,6 +48,8 @@ pub enum SeriesFinding {
 #[derive(Drop)]
 pub enum Ending {
     Done,
+    /// A result is refuted, which out was told.
+    Refuted(Refuted),
     Usage,
     BasinRefused(Finding),
     SeriesRefused(SeriesFinding),
@@ -59,7 +64,7 @@ impl Ending {
     pub fn is_told(&self) -> bool
         ensures { IsTrue result ↔ (IsQuiet (status_of self.now) → ⊥) }
     {
-        !matches!(self, Ending::Done)
+        !matches!(self, Ending::Done | Ending::Refuted(_))
     }
 
     /// The status of the call.
@@ -68,6 +73,7 @@ impl Ending {
     {
         match self {
             Ending::Done => Status::Done,
+            Ending::Refuted(_) => Status::No,
             Ending::Usage => Status::Usage,
             Ending::BasinRefused(_) => Status::BasinRefused,
             Ending::SeriesRefused(_) => Status::SeriesRefused,
@@ -152,7 +158,7 @@ fn put_line(line: &mut Line, ending: &Ending)
     ensures { line.new ≡ line_of ending.now }
 {
     match ending {
-        Ending::Done => {}
+        Ending::Done | Ending::Refuted(_) => {}
         Ending::Usage => line.word(b"usage: basin_cli COMMAND WORDS\n"),
         Ending::BasinRefused(finding) => put_refusal(line, finding),
         Ending::SeriesRefused(finding) => put_series_refusal(line, finding),

@@ -4,12 +4,13 @@ ghost use Rattle.water_edge.specs.Edge.{Rose, SameShelf, HasCause};
 ghost use Rattle.basin_file.specs.BasinFaults.{Spells, file_fault};
 ghost use Rattle.inflow_file.specs.SeriesFaults.{series_fault, SpellsSeries};
 ghost use Rattle.water_model.specs.Valid.{IsValidBasin, IsSeriesOf};
-ghost use Rattle.basin_cli.specs.Command.{ServesSeries};
+ghost use Rattle.basin_cli.specs.Command.{ServesSeries, named};
 ghost use Rattle.basin_cli.specs.Ending.{CanBeTold};
 ghost use Rattle.basin_cli.specs.Header.{header};
-ghost use Rattle.basin_cli.specs.Outcome.{file_limit, series_told};
-ghost use Rattle.basin_cli.specs.Series.{FileEnds, BasinEnds, SeriesEnds, SeriesReadEnds, IsSeriesText};
+ghost use Rattle.basin_cli.specs.Outcome.{StopsReading, file_limit, series_told};
+ghost use Rattle.basin_cli.specs.Series.{AreLoaded, FileEnds, BasinEnds, BasinReadEnds, SeriesEnds, SeriesReadEnds, IsBasinText, IsSeriesText};
 
+use crate::command::Inputs;
 use crate::ending::{Ending, File, SeriesFinding};
 use basin_file::{BasinRefused, read_basin};
 use basin_tree::walk::Finding;
@@ -44,7 +45,7 @@ pub fn read_file<S: Shelf>(
 }
 
 /// The basin that the bytes spell, or how the call ends.
-pub fn accept_basin(alloc: Global, text: &[u8]) -> Result<Basin, Ending>
+fn accept_basin(alloc: Global, text: &[u8]) -> Result<Basin, Ending>
     ensures spelled { IfOk result (λ basin. Spells text.now basin) }
     ensures valid { IfOk result IsValidBasin }
     ensures sound { OnOk result (file_fault text.now ≡ None) }
@@ -65,6 +66,19 @@ pub fn accept_basin(alloc: Global, text: &[u8]) -> Result<Basin, Ending>
             entry,
         })),
     }
+}
+
+/// The basin of the file with this name, or how the call ends.
+fn read_basin_file<S: Shelf>(alloc: Global, shelf: &mut S, name: &str) -> Result<Basin, Ending>
+    requires { S.serves shelf.old name.now }
+    ensures same { SameShelf (S.told shelf.old) (S.told shelf.new) (S.serves shelf.old) (S.serves shelf.new) }
+    ensures later { S.faults shelf.old ≤ S.faults shelf.new }
+    ensures valid { IfOk result IsValidBasin }
+    ensures text { IfOk result (λ basin. IfSome (S.told shelf.old name.now) (IsBasinText basin)) }
+    ensures ends { IfErr result (λ e. BasinReadEnds (S.told shelf.old name.now) (Rose (S.faults shelf.old) (S.faults shelf.new)) e) }
+{
+    let text = read_file(alloc, shelf, name, File::Basin)?;
+    accept_basin(alloc, &text)
 }
 
 /// The series that the bytes spell for a basin, or how the call ends.
@@ -104,7 +118,7 @@ fn header_alone(alloc: Global, basin: &Basin) -> Result<Inflows, Ending>
 }
 
 /// The series of a basin, from the file of this name or, without one, from the header alone; or how the call ends.
-pub fn read_series<S: Shelf>(
+fn read_series<S: Shelf>(
     alloc: Global,
     shelf: &mut S,
     name: Option<&str>,
@@ -112,6 +126,7 @@ pub fn read_series<S: Shelf>(
 ) -> Result<Inflows, Ending>
     requires basin { IsValidBasin basin.now }
     requires serves { ServesSeries (S.serves shelf.old) (option_map (λ n. n.now) name) }
+    ensures same { SameShelf (S.told shelf.old) (S.told shelf.new) (S.serves shelf.old) (S.serves shelf.new) }
     ensures later { S.faults shelf.old ≤ S.faults shelf.new }
     ensures fits { IfOk result (λ series. IsSeriesOf basin.now series) }
     ensures text { IfOk result (λ series. IfSome (series_told (S.told shelf.old) (option_map (λ n. n.now) name.entry)) (IsSeriesText basin.now series)) }
@@ -126,4 +141,28 @@ pub fn read_series<S: Shelf>(
             accept_series(alloc, basin, &text)
         }
     }
+}
+
+/// A basin and its series, as two files spell them.
+#[derive(Drop)]
+pub struct Loaded {
+    pub basin: Basin,
+    pub series: Inflows,
+}
+
+/// The basin and the series of two files, or how the call ends.
+pub fn read_inputs<S: Shelf>(alloc: Global, shelf: &mut S, inputs: Inputs) -> Result<Loaded, Ending>
+    requires basin { S.serves shelf.old inputs.basin.now }
+    requires series { ServesSeries (S.serves shelf.old) (option_map (λ n. n.now) inputs.series) }
+    ensures same { SameShelf (S.told shelf.old) (S.told shelf.new) (S.serves shelf.old) (S.serves shelf.new) }
+    ensures later { S.faults shelf.old ≤ S.faults shelf.new }
+    ensures valid { IfOk result (λ files. IsValidBasin files.basin) }
+    ensures fits { IfOk result (λ files. IsSeriesOf files.basin files.series) }
+    ensures loaded { IfOk result (λ files. AreLoaded (S.told shelf.old) (named inputs.entry) files.basin files.series) }
+    ensures stops { IfErr result (λ e. StopsReading (named inputs.entry) e (S.told shelf.old) (Rose (S.faults shelf.old) (S.faults shelf.new))) }
+    ensures told { IfErr result CanBeTold }
+{
+    let basin = read_basin_file(alloc, shelf, inputs.basin)?;
+    let series = read_series(alloc, shelf, inputs.series, &basin)?;
+    Ok(Loaded { basin, series })
 }

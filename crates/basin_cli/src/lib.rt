@@ -2,6 +2,7 @@
 //! why not.
 #![tactic(auto)]
 
+mod actions;
 mod command;
 mod draft;
 mod ending;

@@ -1,6 +1,15 @@
 ghost use Rattle.std.specs.Prelude.{◌≡◌, ◌<◌};
 
+mod basins;
+mod checks;
+mod reports;
+
 use crate::{Status, basin_main};
+use basins::{
+    ALL_DRY, CANAL_1900, CANAL_2000, CANAL_2001, CANAL_INSTREAM, EVAPORATING, JUNIOR_DRY,
+    JUNIOR_SHORT, LAKE, NOTHING_WANTED, ONE_DATE, ORDINARY, ORDINARY_SERIES, ORDINARY_TEXT,
+    OWN_BRANCHES, POOL, RETURNS, TROUT, TWO_CANALS, TWO_INSTREAM, TWO_LAGS,
+};
 use std::alloc::Global;
 use std::marker::Brand;
 use std::process::Abort;
@@ -9,11 +18,12 @@ use std::test::Fail;
 use steps::Steps;
 use water_edge::{MemoryShelf, MemorySink};
 
-/// The bytes of the files BASIN and SERIES, and the numbers of the calls of the shelf and of out that fail.
+/// The bytes of the files BASIN, SERIES and RESULT, and the numbers of the calls of the shelf and of out that fail.
 #[derive(Drop)]
 struct Set {
     basin: Vec<u8>,
     series: Vec<u8>,
+    result: Vec<u8>,
     shelf_fails: u64,
     out_fails: u64,
 }
@@ -25,6 +35,7 @@ fn files(alloc: Global, basin: &str, series: &str) -> Result<Set, Fail> {
     Ok(Set {
         basin: Vec::from_slice(alloc, basin.as_bytes())?,
         series: Vec::from_slice(alloc, series.as_bytes())?,
+        result: Vec::new(alloc),
         shelf_fails: NEVER,
         out_fails: NEVER,
     })
@@ -39,6 +50,7 @@ fn set_up(alloc: Global, words: &[&str], set: Set) -> Result<(Vec<String>, Memor
     let mut held = Vec::new(alloc);
     held.push((String::from_str(alloc, "BASIN")?, set.basin))?;
     held.push((String::from_str(alloc, "SERIES")?, set.series))?;
+    held.push((String::from_str(alloc, "RESULT")?, set.result))?;
     let failing = vec![in alloc; set.shelf_fails; 1]?;
     Ok((list, MemoryShelf::new(held, failing)))
 }
@@ -99,80 +111,26 @@ fn writes_the_run_of_the_river(rt: HostRuntime) -> Result<(), Fail> {
     Ok(())
 }
 
-/// Basins of diversions, instream rights, lakes and returns, and their whole texts, worked out by hand.
-const SERVED: [(&str, &str); 18] = [
-    (
-        "format = 1\nfirst_month = \"1900-01\"\nmonths = 1\n[[node]]\nname = \"top\"\ninflow = 80\n[[node]]\nname = \"mid\"\n[[node]]\nname = \"mouth\"\noutlet = true\n[[link]]\nname = \"a\"\nfrom = \"top\"\nto = \"mid\"\n[[link]]\nname = \"b\"\nfrom = \"mid\"\nto = \"mouth\"\n[[diversion]]\nname = \"old\"\nnode = \"mid\"\ndate = \"1890-01-01\"\nwant = 60\n[[diversion]]\nname = \"new\"\nnode = \"top\"\ndate = \"1920-01-01\"\nwant = 50\n",
-        "river-result 1\nrun 1900-01 1\nmonth 1900-01\nflow a 60\nflow b 0\ndeliver old 60 60\ndeliver new 20 50\nout mouth 0\ncall new\nin top\nin mid\nin mouth\nend\ndone 1\n",
-    ),
-    (
-        "format = 1\nfirst_month = \"1900-01\"\nmonths = 1\n[[node]]\nname = \"top\"\ninflow = 50\n[[node]]\nname = \"mid\"\n[[node]]\nname = \"mouth\"\noutlet = true\n[[link]]\nname = \"a\"\nfrom = \"top\"\nto = \"mid\"\n[[link]]\nname = \"b\"\nfrom = \"mid\"\nto = \"mouth\"\n[[diversion]]\nname = \"old\"\nnode = \"mid\"\ndate = \"1890-01-01\"\nwant = 60\n[[diversion]]\nname = \"new\"\nnode = \"top\"\ndate = \"1920-01-01\"\nwant = 50\n",
-        "river-result 1\nrun 1900-01 1\nmonth 1900-01\nflow a 50\nflow b 0\ndeliver old 50 60\ndeliver new 0 50\nout mouth 0\ncall old\nin top\nin mid\nin mouth\ncall new\nin top\nin mid\nin mouth\ncalled new old\nend\ndone 1\n",
-    ),
-    (
-        "format = 1\nfirst_month = \"1900-01\"\nmonths = 1\n[[node]]\nname = \"top\"\n[[node]]\nname = \"mid\"\n[[node]]\nname = \"mouth\"\noutlet = true\n[[link]]\nname = \"a\"\nfrom = \"top\"\nto = \"mid\"\n[[link]]\nname = \"b\"\nfrom = \"mid\"\nto = \"mouth\"\n[[diversion]]\nname = \"old\"\nnode = \"mid\"\ndate = \"1890-01-01\"\nwant = 60\n[[diversion]]\nname = \"new\"\nnode = \"top\"\ndate = \"1920-01-01\"\nwant = 50\n",
-        "river-result 1\nrun 1900-01 1\nmonth 1900-01\nflow a 0\nflow b 0\ndeliver old 0 60\ndeliver new 0 50\nout mouth 0\ncall old\nin top\nin mid\nin mouth\ncall new\nin top\nin mid\nin mouth\ncalled new old\nend\ndone 1\n",
-    ),
-    (
-        "format = 1\nfirst_month = \"1900-01\"\nmonths = 1\n[[node]]\nname = \"a\"\ninflow = 5\n[[node]]\nname = \"b\"\ninflow = 100\n[[node]]\nname = \"m\"\noutlet = true\n[[link]]\nname = \"am\"\nfrom = \"a\"\nto = \"m\"\n[[link]]\nname = \"bm\"\nfrom = \"b\"\nto = \"m\"\n[[diversion]]\nname = \"old\"\nnode = \"a\"\ndate = \"1890-01-01\"\nwant = 10\n[[diversion]]\nname = \"new\"\nnode = \"b\"\ndate = \"1920-01-01\"\nwant = 60\n",
-        "river-result 1\nrun 1900-01 1\nmonth 1900-01\nflow am 0\nflow bm 40\ndeliver old 5 10\ndeliver new 60 60\nout m 40\ncall old\nin a\nend\ndone 1\n",
-    ),
-    (
-        "format = 1\nfirst_month = \"1900-01\"\nmonths = 1\n[[node]]\nname = \"p\"\ninflow = 10\n[[node]]\nname = \"q\"\ninflow = 10\n[[node]]\nname = \"d\"\n[[node]]\nname = \"m\"\noutlet = true\n[[link]]\nname = \"pm\"\nfrom = \"p\"\nto = \"m\"\n[[link]]\nname = \"qm\"\nfrom = \"q\"\nto = \"m\"\n[[link]]\nname = \"dm\"\nfrom = \"d\"\nto = \"m\"\n[[link]]\nname = \"pd\"\nfrom = \"p\"\nto = \"d\"\nper_day = 1\n[[link]]\nname = \"qd\"\nfrom = \"q\"\nto = \"d\"\nper_day = 1\n[[diversion]]\nname = \"old\"\nnode = \"d\"\ndate = \"1890-01-01\"\nwant = 10\n[[diversion]]\nname = \"new\"\nnode = \"p\"\ndate = \"1920-01-01\"\nwant = 10\n",
-        "river-result 1\nrun 1900-01 1\nmonth 1900-01\nflow pm 0\nflow qm 0\nflow dm 0\nflow pd 0\nflow qd 10\ndeliver old 10 10\ndeliver new 10 10\nout m 0\nend\ndone 1\n",
-    ),
-    (
-        "format = 1\nfirst_month = \"1900-01\"\nmonths = 1\n[[node]]\nname = \"top\"\ninflow = 40\n[[node]]\nname = \"mid\"\n[[node]]\nname = \"mouth\"\noutlet = true\n[[link]]\nname = \"a\"\nfrom = \"top\"\nto = \"mid\"\n[[link]]\nname = \"b\"\nfrom = \"mid\"\nto = \"mouth\"\n[[diversion]]\nname = \"old\"\nnode = \"mid\"\ndate = \"1890-01-01\"\nwant = 60\n[[diversion]]\nname = \"new\"\nnode = \"top\"\ndate = \"1920-01-01\"\nwant = 50\n[[instream]]\nname = \"fish\"\nlink = \"a\"\ndate = \"1880-01-01\"\nwant = 30\n",
-        "river-result 1\nrun 1900-01 1\nmonth 1900-01\nflow a 40\nflow b 0\ndeliver fish 30 30\ndeliver old 40 60\ndeliver new 0 50\nout mouth 0\ncall old\nin top\nin mid\nin mouth\ncall new\nin top\nin mid\nin mouth\ncalled new old\nend\ndone 1\n",
-    ),
-    (
-        "format = 1\nfirst_month = \"1900-01\"\nmonths = 1\n[[node]]\nname = \"top\"\ninflow = 50\n[[node]]\nname = \"mouth\"\noutlet = true\n[[link]]\nname = \"a\"\nfrom = \"top\"\nto = \"mouth\"\n[[instream]]\nname = \"f1\"\nlink = \"a\"\ndate = \"1880-01-01\"\nwant = 30\n[[instream]]\nname = \"f2\"\nlink = \"a\"\ndate = \"1890-01-01\"\nwant = 50\n",
-        "river-result 1\nrun 1900-01 1\nmonth 1900-01\nflow a 50\ndeliver f1 30 30\ndeliver f2 50 50\nout mouth 50\nend\ndone 1\n",
-    ),
-    (
-        "format = 1\nfirst_month = \"1900-01\"\nmonths = 1\n[[node]]\nname = \"lake\"\n[[node]]\nname = \"town\"\noutlet = true\n[[link]]\nname = \"ab\"\nfrom = \"lake\"\nto = \"town\"\n[[reservoir]]\nnode = \"lake\"\nopening = 60\n[[diversion]]\nname = \"city\"\nnode = \"town\"\ndate = \"1900-01-01\"\nwant = 50\n[[zone]]\nname = \"dead\"\nreservoir = \"lake\"\nlevel = 1\ndate = \"1850-01-01\"\nwant = 20\n[[zone]]\nname = \"high\"\nreservoir = \"lake\"\nlevel = 2\ndate = \"1930-01-01\"\nwant = 100\n",
-        "river-result 1\nrun 1900-01 1\nmonth 1900-01\nopen lake 60\nevap lake 0\nflow ab 40\ndeliver dead 20 20\ndeliver city 40 50\ndeliver high 0 100\nout town 0\ncall city\nin lake\nin town\ncall high\nin lake\nin town\ncalled high city\nclose lake 20\nend\ndone 1\n",
-    ),
-    (
-        "format = 1\nfirst_month = \"1900-01\"\nmonths = 2\n[[node]]\nname = \"lake\"\n[[node]]\nname = \"mouth\"\noutlet = true\n[[link]]\nname = \"ab\"\nfrom = \"lake\"\nto = \"mouth\"\n[[reservoir]]\nnode = \"lake\"\nopening = 100\n[[zone]]\nname = \"pool\"\nreservoir = \"lake\"\nlevel = 1\ndate = \"1900-01-01\"\nwant = [100, 60, 0, 0, 0, 0, 0, 0, 0, 0, 0, 0]\n",
-        "river-result 1\nrun 1900-01 2\nmonth 1900-01\nopen lake 100\nevap lake 0\nflow ab 0\ndeliver pool 100 100\nout mouth 0\nclose lake 100\nend\nmonth 1900-02\nopen lake 100\nevap lake 0\nflow ab 40\ndeliver pool 60 60\nout mouth 40\nclose lake 60\nend\ndone 2\n",
-    ),
-    (
-        "format = 1\nfirst_month = \"1900-01\"\nmonths = 5\n[[node]]\nname = \"head\"\ninflow = 10\n[[node]]\nname = \"mouth\"\noutlet = true\n[[link]]\nname = \"a\"\nfrom = \"head\"\nto = \"mouth\"\n[[diversion]]\nname = \"farm\"\nnode = \"head\"\ndate = \"1900-01-01\"\nwant = 10\n[[return]]\ndiversion = \"farm\"\nnode = \"mouth\"\npart = 3333\nlag = 1\n",
-        "river-result 1\nrun 1900-01 5\nmonth 1900-01\nreturn mouth 0\nflow a 0\ndeliver farm 10 10\nout mouth 0\nend\nmonth 1900-02\nreturn mouth 3\nflow a 0\ndeliver farm 10 10\nout mouth 3\nend\nmonth 1900-03\nreturn mouth 3\nflow a 0\ndeliver farm 10 10\nout mouth 3\nend\nmonth 1900-04\nreturn mouth 3\nflow a 0\ndeliver farm 10 10\nout mouth 3\nend\nmonth 1900-05\nreturn mouth 4\nflow a 0\ndeliver farm 10 10\nout mouth 4\nend\ndone 5\n",
-    ),
-    (
-        "format = 1\nfirst_month = \"1900-02\"\nmonths = 1\n[[node]]\nname = \"head\"\ninflow = 100\n[[node]]\nname = \"d\"\n[[node]]\nname = \"m\"\noutlet = true\n[[link]]\nname = \"hm\"\nfrom = \"head\"\nto = \"m\"\n[[link]]\nname = \"dm\"\nfrom = \"d\"\nto = \"m\"\n[[link]]\nname = \"hd\"\nfrom = \"head\"\nto = \"d\"\nper_day = 2\n[[diversion]]\nname = \"user\"\nnode = \"d\"\ndate = \"1900-01-01\"\nwant = 100\n",
-        "river-result 1\nrun 1900-02 1\nmonth 1900-02\nflow hm 44\nflow dm 0\nflow hd 56\ndeliver user 56 100\nout m 44\ncall user\nin d\nend\ndone 1\n",
-    ),
-    (
-        "format = 1\nfirst_month = \"2000-02\"\nmonths = 1\n[[node]]\nname = \"head\"\ninflow = 100\n[[node]]\nname = \"d\"\n[[node]]\nname = \"m\"\noutlet = true\n[[link]]\nname = \"hm\"\nfrom = \"head\"\nto = \"m\"\n[[link]]\nname = \"dm\"\nfrom = \"d\"\nto = \"m\"\n[[link]]\nname = \"hd\"\nfrom = \"head\"\nto = \"d\"\nper_day = 2\n[[diversion]]\nname = \"user\"\nnode = \"d\"\ndate = \"1900-01-01\"\nwant = 100\n",
-        "river-result 1\nrun 2000-02 1\nmonth 2000-02\nflow hm 42\nflow dm 0\nflow hd 58\ndeliver user 58 100\nout m 42\ncall user\nin d\nend\ndone 1\n",
-    ),
-    (
-        "format = 1\nfirst_month = \"2001-02\"\nmonths = 1\n[[node]]\nname = \"head\"\ninflow = 100\n[[node]]\nname = \"d\"\n[[node]]\nname = \"m\"\noutlet = true\n[[link]]\nname = \"hm\"\nfrom = \"head\"\nto = \"m\"\n[[link]]\nname = \"dm\"\nfrom = \"d\"\nto = \"m\"\n[[link]]\nname = \"hd\"\nfrom = \"head\"\nto = \"d\"\nper_day = 2\n[[diversion]]\nname = \"user\"\nnode = \"d\"\ndate = \"1900-01-01\"\nwant = 100\n",
-        "river-result 1\nrun 2001-02 1\nmonth 2001-02\nflow hm 44\nflow dm 0\nflow hd 56\ndeliver user 56 100\nout m 44\ncall user\nin d\nend\ndone 1\n",
-    ),
-    (
-        "format = 1\nfirst_month = \"1900-02\"\nmonths = 1\n[[node]]\nname = \"head\"\ninflow = 100\n[[node]]\nname = \"d\"\n[[node]]\nname = \"m\"\noutlet = true\n[[link]]\nname = \"hm\"\nfrom = \"head\"\nto = \"m\"\n[[link]]\nname = \"dm\"\nfrom = \"d\"\nto = \"m\"\n[[link]]\nname = \"hd\"\nfrom = \"head\"\nto = \"d\"\nper_day = 2\n[[diversion]]\nname = \"user\"\nnode = \"d\"\ndate = \"1900-01-01\"\nwant = 100\n[[instream]]\nname = \"low\"\nlink = \"hd\"\ndate = \"1890-01-01\"\nwant = 100\n",
-        "river-result 1\nrun 1900-02 1\nmonth 1900-02\nflow hm 44\nflow dm 0\nflow hd 56\ndeliver low 56 56\ndeliver user 56 100\nout m 44\ncall user\nin d\nend\ndone 1\n",
-    ),
-    (
-        "format = 1\nfirst_month = \"1900-01\"\nmonths = 1\n[[node]]\nname = \"top\"\ninflow = 80\n[[node]]\nname = \"mid\"\n[[node]]\nname = \"mouth\"\noutlet = true\n[[link]]\nname = \"a\"\nfrom = \"top\"\nto = \"mid\"\n[[link]]\nname = \"b\"\nfrom = \"mid\"\nto = \"mouth\"\n[[diversion]]\nname = \"old\"\nnode = \"mid\"\ndate = \"1890-01-01\"\nwant = 60\norder = 1\n[[diversion]]\nname = \"new\"\nnode = \"top\"\ndate = \"1890-01-01\"\nwant = 50\norder = 0\n",
-        "river-result 1\nrun 1900-01 1\nmonth 1900-01\nflow a 30\nflow b 0\ndeliver new 50 50\ndeliver old 30 60\nout mouth 0\ncall old\nin top\nin mid\nin mouth\nend\ndone 1\n",
-    ),
-    (
-        "format = 1\nfirst_month = \"1900-01\"\nmonths = 1\n[[node]]\nname = \"top\"\ninflow = 80\n[[node]]\nname = \"mouth\"\noutlet = true\n[[link]]\nname = \"a\"\nfrom = \"top\"\nto = \"mouth\"\n[[diversion]]\nname = \"none\"\nnode = \"top\"\ndate = \"1920-01-01\"\nwant = 0\n[[instream]]\nname = \"fish\"\nlink = \"a\"\ndate = \"1900-01-01\"\nwant = 30\n",
-        "river-result 1\nrun 1900-01 1\nmonth 1900-01\nflow a 80\ndeliver fish 30 30\ndeliver none 0 0\nout mouth 80\nend\ndone 1\n",
-    ),
-    (
-        "format = 1\nfirst_month = \"1900-01\"\nmonths = 2\n[[node]]\nname = \"lake\"\n[[node]]\nname = \"town\"\noutlet = true\n[[link]]\nname = \"ab\"\nfrom = \"lake\"\nto = \"town\"\n[[reservoir]]\nnode = \"lake\"\nopening = 60\narea = [[0, 0], [100, 50]]\nrate = 40\n[[diversion]]\nname = \"city\"\nnode = \"town\"\ndate = \"1900-01-01\"\nwant = 50\n[[zone]]\nname = \"dead\"\nreservoir = \"lake\"\nlevel = 1\ndate = \"1850-01-01\"\nwant = 20\n[[zone]]\nname = \"high\"\nreservoir = \"lake\"\nlevel = 2\ndate = \"1930-01-01\"\nwant = 100\n",
-        "river-result 1\nrun 1900-01 2\nmonth 1900-01\nopen lake 60\nevap lake 12\nflow ab 28\ndeliver dead 20 20\ndeliver city 28 50\ndeliver high 0 100\nout town 0\ncall city\nin lake\nin town\ncall high\nin lake\nin town\ncalled high city\nclose lake 20\nend\nmonth 1900-02\nopen lake 20\nevap lake 4\nflow ab 0\ndeliver dead 16 20\ndeliver city 0 50\ndeliver high 0 100\nout town 0\ncall dead\nin lake\nin town\ncall city\nin lake\nin town\ncall high\nin lake\nin town\ncalled city dead\ncalled high dead\nclose lake 16\nend\ndone 2\n",
-    ),
-    (
-        "format = 1\nfirst_month = \"1900-01\"\nmonths = 5\n[[node]]\nname = \"head\"\ninflow = 7\n[[node]]\nname = \"mouth\"\noutlet = true\n[[link]]\nname = \"a\"\nfrom = \"head\"\nto = \"mouth\"\n[[diversion]]\nname = \"farm\"\nnode = \"head\"\ndate = \"1900-01-01\"\nwant = 7\n[[return]]\ndiversion = \"farm\"\nnode = \"mouth\"\npart = 5000\nlag = 1\n[[return]]\ndiversion = \"farm\"\nnode = \"mouth\"\npart = 5000\nlag = 2\n",
-        "river-result 1\nrun 1900-01 5\nmonth 1900-01\nreturn mouth 0\nflow a 0\ndeliver farm 7 7\nout mouth 0\nend\nmonth 1900-02\nreturn mouth 3\nflow a 0\ndeliver farm 7 7\nout mouth 3\nend\nmonth 1900-03\nreturn mouth 7\nflow a 0\ndeliver farm 7 7\nout mouth 7\nend\nmonth 1900-04\nreturn mouth 7\nflow a 0\ndeliver farm 7 7\nout mouth 7\nend\nmonth 1900-05\nreturn mouth 7\nflow a 0\ndeliver farm 7 7\nout mouth 7\nend\ndone 5\n",
-    ),
+/// Basins of diversions, instream rights, lakes and returns, and their whole texts.
+pub const SERVED: [(&str, &str); 18] = [
+    JUNIOR_SHORT,
+    JUNIOR_DRY,
+    ALL_DRY,
+    OWN_BRANCHES,
+    TWO_CANALS,
+    TROUT,
+    TWO_INSTREAM,
+    LAKE,
+    POOL,
+    RETURNS,
+    CANAL_1900,
+    CANAL_2000,
+    CANAL_2001,
+    CANAL_INSTREAM,
+    ONE_DATE,
+    NOTHING_WANTED,
+    EVAPORATING,
+    TWO_LAGS,
 ];
 
 #[test]
@@ -257,14 +215,6 @@ fn leads_water_back_out_of_branches(rt: HostRuntime) -> Result<(), Fail> {
     }
     Ok(())
 }
-
-const ORDINARY: &str =
-    "format = 1\nfirst_month = \"1960-07\"\nmonths = 2\nnode = [\n  { name = \"upper\", inflow = \"gauged\" },\n  { name = \"lake\" },\n  { name = \"weir\" },\n  { name = \"farm\" },\n  { name = \"gauge\" },\n  { name = \"sea\", outlet = true },\n]\nlink = [\n  { name = \"r1\", from = \"upper\", to = \"lake\" },\n  { name = \"r2\", from = \"lake\", to = \"weir\" },\n  { name = \"r3\", from = \"weir\", to = \"gauge\" },\n  { name = \"r4\", from = \"farm\", to = \"gauge\" },\n  { name = \"r5\", from = \"gauge\", to = \"sea\" },\n  { name = \"c1\", from = \"weir\", to = \"farm\", per_day = 100 },\n]\n\n[[reservoir]]\nnode = \"lake\"\nopening = 8000\narea = [[0, 0], [10000, 500]]\nrate = [10, 15, 30, 50, 80, 100, 110, 100, 80, 50, 20, 10]\n\n[[diversion]]\nname = \"canalco\"\nnode = \"farm\"\ndate = \"1911-06-15\"\nwant = [0, 0, 0, 500, 2000, 3500, 4000, 3800, 1500, 300, 0, 0]\n\n[[diversion]]\nname = \"city\"\nnode = \"weir\"\ndate = \"1930-01-01\"\nwant = 400\n\n[[instream]]\nname = \"fish\"\nlink = \"r5\"\ndate = \"1905-04-01\"\nwant = 1500\n\n[[zone]]\nname = \"dead\"\nreservoir = \"lake\"\nlevel = 1\ndate = \"1900-01-01\"\nwant = 1000\n\n[[zone]]\nname = \"live\"\nreservoir = \"lake\"\nlevel = 2\ndate = \"1922-03-01\"\nwant = 9000\n\n[[return]]\ndiversion = \"canalco\"\nnode = \"gauge\"\npart = 2500\nlag = 1\n";
-
-const ORDINARY_SERIES: &str = "month,node,amount\n1960-07,upper,2500\n1960-08,upper,1200\n";
-
-const ORDINARY_TEXT: &str =
-    "river-result 1\nrun 1960-07 2\nmonth 1960-07\nopen lake 8000\nevap lake 440\nreturn gauge 0\nflow r1 2500\nflow r2 4600\nflow r3 1500\nflow r4 0\nflow r5 1500\nflow c1 3100\ndeliver dead 1000 1000\ndeliver fish 1500 1500\ndeliver canalco 3100 4000\ndeliver live 4460 9000\ndeliver city 0 400\nout sea 1500\ncall canalco\nin farm\ncall live\nin upper\nin lake\nin weir\nin farm\nin gauge\ncall city\nin upper\nin lake\nin weir\nin farm\nin gauge\ncalled city live\nclose lake 5460\nend\nmonth 1960-08\nopen lake 5460\nevap lake 273\nreturn gauge 775\nflow r1 1200\nflow r2 3825\nflow r3 725\nflow r4 0\nflow r5 1500\nflow c1 3100\ndeliver dead 1000 1000\ndeliver fish 1500 1500\ndeliver canalco 3100 3800\ndeliver live 1562 9000\ndeliver city 0 400\nout sea 1500\ncall canalco\nin farm\ncall live\nin upper\nin lake\nin weir\nin farm\nin gauge\ncall city\nin upper\nin lake\nin weir\nin farm\nin gauge\ncalled city live\nclose lake 2562\nend\ndone 2\n";
 
 const GAUGED: &str =
     "format = 1\nfirst_month = \"1900-01\"\nmonths = 2\n[[node]]\nname = \"top\"\ninflow = \"gauged\"\n[[node]]\nname = \"mouth\"\noutlet = true\n[[link]]\nname = \"a\"\nfrom = \"top\"\nto = \"mouth\"\n";
@@ -416,12 +366,33 @@ fn names_what_is_refused_in_a_series(rt: HostRuntime) -> Result<(), Fail> {
 #[test]
 fn tells_wrong_words_and_absent_files(rt: HostRuntime) -> Result<(), Fail> {
     let usage = "usage: basin_cli COMMAND WORDS\n";
-    let table: [(&[&str], Status, &str); 7] = [
+    let table: [(&[&str], Status, &str); 16] = [
         (&[], Status::Usage, usage),
         (&["run"], Status::Usage, usage),
         (&["run", "BASIN", "SERIES", "SERIES"], Status::Usage, usage),
         (&["runs", "BASIN"], Status::Usage, usage),
         (&["runs", "BASIN", "SERIES"], Status::Usage, usage),
+        (&["check", "BASIN", "SERIES"], Status::Usage, usage),
+        (&["report", "BASIN"], Status::Usage, usage),
+        (&["trial", "7", "2001"], Status::Usage, usage),
+        (&["trial", "7", "1"], Status::Usage, usage),
+        (&["trial", "4294967296", "2"], Status::Usage, usage),
+        (&["trial", "+7", "2"], Status::Usage, usage),
+        (
+            &["report", "BASIN", "ABSENT"],
+            Status::ReadFault,
+            "read: SERIES\n",
+        ),
+        (
+            &["check", "ABSENT", "-", "RESULT"],
+            Status::ReadFault,
+            "read: BASIN\n",
+        ),
+        (
+            &["check", "BASIN", "-", "ABSENT"],
+            Status::ReadFault,
+            "read: RESULT\n",
+        ),
         (&["run", "ABSENT"], Status::ReadFault, "read: BASIN\n"),
         (
             &["run", "BASIN", "ABSENT"],

@@ -1,45 +1,90 @@
 //! All that the program does.
-ghost use Rattle.std.specs.Prelude.{◌≡◌, ◌+◌, ◌*◌, ◌≤◌, map, string_bytes};
+ghost use Rattle.std.specs.Prelude.{◌≡◌, ◌+◌, ◌*◌, ◌≤◌, Some, map, option_map, string_bytes};
 ghost use Rattle.water_edge.specs.Edge.{Rose};
-ghost use Rattle.basin_cli.specs.Command.{command_of, ServesFiles};
+ghost use Rattle.basin_cli.specs.Command.{IsSized, ServesFiles, ServesSeries, check, command_named, command_of, named, report, run};
 ghost use Rattle.basin_cli.specs.Ending.{status_of, CanBeTold};
-ghost use Rattle.basin_cli.specs.Headline.{run_pushes};
-ghost use Rattle.basin_cli.specs.Outcome.{EndingHasCause, Ends, EndsRun, Completes, WritesFor, PushesFor, MayWrite, IsQuiet};
-ghost use Rattle.water_model.specs.Valid.{IsValidBasin, IsSeriesOf};
+ghost use Rattle.basin_cli.specs.Outcome.{EndingHasCause, Ends, Completes, WritesFor, PushesFor, MayWrite, IsQuiet};
 
-use crate::command::run_words;
+use crate::actions::{check_bytes, report_basin, run_basin, try_basin};
+use crate::command::{Inputs, Words, command};
 use crate::ending::{Ending, File, tell};
-use crate::files::{accept_basin, read_file, read_series};
+use crate::files::{read_file, read_inputs};
 use crate::status::Status;
-use crate::writing::text_of_run;
 use std::alloc::Global;
 use std::sync::ledger::Ledger;
 use steps::Steps;
 use water_edge::{Shelf, Sink};
-use water_model::types::{Basin, Inflows};
 
-/// Solves the months of a basin with a series and puts their text.
-fn run_basin<K: Sink, L: Ledger>(
+/// `run`: solves the months of a basin with its series and puts their result.
+fn do_run<S: Shelf, K: Sink, L: Ledger>(
     alloc: Global,
-    basin: &Basin,
-    series: &Inflows,
+    inputs: Inputs,
+    shelf: &mut S,
     out: &mut K,
     searches: &mut Steps<L>,
 ) -> Ending
-    requires basin { IsValidBasin basin.now }
-    requires series { IsSeriesOf basin.now series.now }
-    ensures ends { EndsRun basin.now series.now result (K.taken out.old) (K.taken out.new) (K.faults out.old) (K.faults out.new) }
+    requires { ServesFiles (S.serves shelf.old) (Some (run (named inputs))) }
+    ensures cause { EndingHasCause (Some (run (named inputs.entry))) result (S.told shelf.old)
+        (Rose (S.faults shelf.old) (S.faults shelf.new)) (Rose (K.faults out.old) (K.faults out.new)) }
+    ensures writes { WritesFor (Some (run (named inputs.entry))) (status_of result) (S.told shelf.old) (K.taken out.old) (K.taken out.new) }
     ensures out_stays { (MayWrite (status_of result) → ⊥) → out.new ≡ out.old }
-    ensures pushes { searches.new ≤ searches.old + run_pushes basin.now }
+    ensures pushes { PushesFor (Some (run (named inputs.entry))) (S.told shelf.old) searches.old searches.new }
+    ensures told { CanBeTold result }
 {
-    let text = match text_of_run(alloc, basin, series, searches) {
-        Ok(text) => text,
-        Err(_) => return Ending::OutOfMemory,
+    let files = match read_inputs(alloc, shelf, inputs) {
+        Ok(files) => files,
+        Err(ending) => return ending,
     };
-    match out.put(text.bytes()) {
-        Ok(()) => Ending::Done,
-        Err(_) => Ending::WriteFault,
-    }
+    run_basin(alloc, &files.basin, &files.series, out, searches)
+}
+
+/// `report`: solves the months of a basin with its series and puts a report on them.
+fn do_report<S: Shelf, K: Sink, L: Ledger>(
+    alloc: Global,
+    inputs: Inputs,
+    shelf: &mut S,
+    out: &mut K,
+    searches: &mut Steps<L>,
+) -> Ending
+    requires { ServesFiles (S.serves shelf.old) (Some (report (named inputs))) }
+    ensures cause { EndingHasCause (Some (report (named inputs.entry))) result (S.told shelf.old)
+        (Rose (S.faults shelf.old) (S.faults shelf.new)) (Rose (K.faults out.old) (K.faults out.new)) }
+    ensures writes { WritesFor (Some (report (named inputs.entry))) (status_of result) (S.told shelf.old) (K.taken out.old) (K.taken out.new) }
+    ensures out_stays { (MayWrite (status_of result) → ⊥) → out.new ≡ out.old }
+    ensures pushes { PushesFor (Some (report (named inputs.entry))) (S.told shelf.old) searches.old searches.new }
+    ensures told { CanBeTold result }
+{
+    let files = match read_inputs(alloc, shelf, inputs) {
+        Ok(files) => files,
+        Err(ending) => return ending,
+    };
+    report_basin(alloc, &files.basin, &files.series, out, searches)
+}
+
+/// `check`: reads a result and puts whether it is the text of a history of a basin with its series, or why not.
+fn do_check<S: Shelf, K: Sink>(
+    alloc: Global,
+    inputs: Inputs,
+    result_name: &str,
+    shelf: &mut S,
+    out: &mut K,
+) -> Ending
+    requires { ServesFiles (S.serves shelf.old) (Some (check (named inputs) result_name.now)) }
+    ensures cause { EndingHasCause (Some (check (named inputs.entry) result_name.now)) result (S.told shelf.old)
+        (Rose (S.faults shelf.old) (S.faults shelf.new)) (Rose (K.faults out.old) (K.faults out.new)) }
+    ensures writes { WritesFor (Some (check (named inputs.entry) result_name.now)) (status_of result) (S.told shelf.old) (K.taken out.old) (K.taken out.new) }
+    ensures out_stays { (MayWrite (status_of result) → ⊥) → out.new ≡ out.old }
+    ensures told { CanBeTold result }
+{
+    let files = match read_inputs(alloc, shelf, inputs) {
+        Ok(files) => files,
+        Err(ending) => return ending,
+    };
+    let text = match read_file(alloc, shelf, result_name, File::Result) {
+        Ok(text) => text,
+        Err(ending) => return ending,
+    };
+    check_bytes(alloc, &files.basin, &files.series, &text, out)
 }
 
 /// Does what the words say, and leaves err alone.
@@ -58,23 +103,13 @@ fn decide<S: Shelf, K: Sink, L: Ledger>(
     ensures pushes { PushesFor (command_of (map string_bytes words.now)) (S.told shelf.old) searches.old searches.new }
     ensures told { CanBeTold result }
 {
-    let files = match run_words(words) {
-        Some(files) => files,
-        None => return Ending::Usage,
-    };
-    let text = match read_file(alloc, shelf, files.basin, File::Basin) {
-        Ok(text) => text,
-        Err(ending) => return ending,
-    };
-    let basin = match accept_basin(alloc, &text) {
-        Ok(basin) => basin,
-        Err(ending) => return ending,
-    };
-    let series = match read_series(alloc, shelf, files.series, &basin) {
-        Ok(series) => series,
-        Err(ending) => return ending,
-    };
-    run_basin(alloc, &basin, &series, out, searches)
+    match command(words) {
+        None => Ending::Usage,
+        Some(Words::Run(inputs)) => do_run(alloc, inputs, shelf, out, searches),
+        Some(Words::Report(inputs)) => do_report(alloc, inputs, shelf, out, searches),
+        Some(Words::Check { inputs, result }) => do_check(alloc, inputs, result, shelf, out),
+        Some(Words::Trial { number, size }) => try_basin(alloc, number, size, out, searches),
+    }
 }
 
 /// All that the program does. The words are those behind the program's name, and `searches` counts the pushes of searches.
@@ -93,16 +128,17 @@ pub fn basin_main<S: Shelf, K: Sink, E: Sink, L: Ledger>(
     ensures ends { Ends (command_of (map string_bytes words.now)) result (S.told shelf.old)
         (Rose (S.faults shelf.old) (S.faults shelf.new)) (Rose (K.faults out.old) (K.faults out.new))
         (E.taken err.old) (E.taken err.new) (E.faults err.old) (E.faults err.new) }
-    // Where nothing is refused and nothing fails, the call is done.
+    // Where nothing is refused and nothing fails, the call is done; and a result that is checked is judged as what it is.
     ensures complete { Completes (command_of (map string_bytes words.now)) result (S.told shelf.old)
         (Rose (S.faults shelf.old) (S.faults shelf.new)) (Rose (K.faults out.old) (K.faults out.new)) }
 
-    // The text of records that keep the priority of rights, or after a fault of out a front of it.
+    // The text of records that keep the priority of rights, a report on them, or the answer to a result; or after a fault of
+    // out a front of it.
     ensures writes { WritesFor (command_of (map string_bytes words.now)) result (S.told shelf.old) (K.taken out.old) (K.taken out.new) }
     ensures out_stays { (MayWrite result → ⊥) → out.new ≡ out.old }
     ensures err_stays { IsQuiet result → err.new ≡ err.old }
 
-    // Each month has at most so many pushes as its bound allows.
+    // Each month that is solved has at most so many pushes as its bound allows, and a check has none.
     ensures pushes { PushesFor (command_of (map string_bytes words.now)) (S.told shelf.old) searches.old searches.new }
 {
     let ending = decide(alloc, words, shelf, out, searches);

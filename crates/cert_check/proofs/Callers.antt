@@ -53,7 +53,7 @@ is_the_pair r c due e = rw e (itself r c)
     itself : (r c : ℕ) → not (r == r && c == c) ≡ false
     itself r c = grind (arith, nat_tests)
 
-at_length : (before : List (ℕ × ℕ)) (due : ℕ × ℕ) (others : List (ℕ × ℕ)) → slice_get (before ++ due ∷ others) (length before) ≡ Some due
+pub at_length : (before : List (ℕ × ℕ)) (due : ℕ × ℕ) (others : List (ℕ × ℕ)) → slice_get (before ++ due ∷ others) (length before) ≡ Some due
 at_length [] due others = refl
 at_length (x ∷ before) due others = at_length before due others
 

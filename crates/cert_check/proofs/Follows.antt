@@ -50,7 +50,7 @@ is_separates b taking (Some link) cut h = parts (nat_lt link (length b.links)) r
     parts true e k = (is_less link (length b.links) e, k)
     parts false e k = cc
 
-tight_is : (b : Basin) (m : MonthRecord) (r : ℕ) (cut : List Bool) → IsTight b m.month m.supply m.delivered r cut → is_tight b m r cut ≡ true
+pub tight_is : (b : Basin) (m : MonthRecord) (r : ℕ) (cut : List Bool) → IsTight b m.month m.supply m.delivered r cut → is_tight b m r cut ≡ true
 tight_is b m r cut h =
     all (length cut == length b.nodes) (separates b (taking_node b r) (instream_link b r) cut) (cut_capacity b m.month m.supply cut == slice_index m.delivered r + cut_kept b m.delivered r cut)
     (equal_is (length cut) (length b.nodes) h.is_cut.one_each) (separates_is b (taking_node b r) (instream_link b r) cut h.is_cut.separates) (equal_is _ _ h.tight)

@@ -64,7 +64,7 @@ told_at xs a n ys k is l has = sym (ap (λ zs. slice_index zs k) is) ∙ set_all
 has_place : {X : Type 0} (xs : List X) (k : ℕ) → k < length xs → Has (places_of xs) k
 has_place xs k l = numbers_from-has 0 (length xs) k k l (omega arith)
 
-map_at : (f : ℕ → ℕ) (from n k : ℕ) → k < n → slice_index (map f (numbers_from from n)) k ≡ f (from + k)
+pub map_at : (f : ℕ → ℕ) (from n k : ℕ) → k < n → slice_index (map f (numbers_from from n)) k ≡ f (from + k)
 unfolding numbers_from
 map_at f from zero k l = absurd (omega arith)
 map_at f from (suc n) zero l = let e : from ≡ from + 0 = omega arith in ap f e

@@ -10,6 +10,7 @@ pub mod MonthGood
 pub mod GoodMonth
 pub mod Follows
 pub mod Verdicts
+pub mod Pieces
 pub mod RunGood
 pub mod Amounts
 pub mod HistoriesGiveYes
@@ -20,3 +21,17 @@ pub mod SomeOutlet
 pub mod Sheets
 pub mod MonthLines
 pub mod RunSound
+pub mod Walking
+pub mod Supplies
+pub mod Passages
+pub mod UnderWay
+pub mod Fronts
+pub mod Entries
+pub mod Bounded
+pub mod Missing
+pub mod Dues
+pub mod Even
+pub mod FirstRows
+pub mod Standings
+pub mod ByteLaws
+pub mod Beginnings

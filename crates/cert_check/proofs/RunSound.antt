@@ -36,19 +36,19 @@ use Rattle.cert_check.proofs.SomeOutlet.{some_outlet}
 use Rattle.cert_check.proofs.Verdicts.{AreJudged, verdict_says, IsYes, yes_says}
 
 -- what is due from a month on
-abbrev from_month : Basin → ℕ → ℕ → List Shape
+abbrev pub from_month : Basin → ℕ → ℕ → List Shape
 from_month b i n = flat_map (due_for_month b) (numbers_from i n) ++ shape.Done b.months ∷ []
 
 -- the lines of one month more
-record OneMonth (b : Basin) (i n : ℕ) (items : List Item) : Type 0 where
-  sheet : Sheet
-  dues : List (ℕ × ℕ)
-  sized : (r : ℕ) (set : List Bool) → sheet.cut r ≡ Some set → length set ≡ length b.nodes
-  others : List Item
-  are : items ≡ line.Month (run_month b i) ∷ (sheet_lines b sheet dues ++ others)
-  rest : Fills b (from_month b (suc i) n) others
+pub record OneMonth (b : Basin) (i n : ℕ) (items : List Item) : Type 0 where
+  pub sheet : Sheet
+  pub dues : List (ℕ × ℕ)
+  pub sized : (r : ℕ) (set : List Bool) → sheet.cut r ≡ Some set → length set ≡ length b.nodes
+  pub others : List Item
+  pub are : items ≡ line.Month (run_month b i) ∷ (sheet_lines b sheet dues ++ others)
+  pub rest : Fills b (from_month b (suc i) n) others
 
-one_month : (b : Basin) → IsValidBasin b → (i n : ℕ) (items : List Item) → Fills b (from_month b i (suc n)) items → OneMonth b i n items
+pub one_month : (b : Basin) → IsValidBasin b → (i n : ℕ) (items : List Item) → Fills b (from_month b i (suc n)) items → OneMonth b i n items
 unfolding numbers_from
 one_month b valid i n items h =
     let first = one_line b (shape.Month (run_month b i)) (due_in_month b ++ from_month b (suc i) n) items refl (subst (λ (xs : List Shape). Fills b xs items) regroup h) in
@@ -72,7 +72,7 @@ record Ends (n : ℕ) (items : List Item) : Type 0 where
   are : items ≡ front ++ line.Done n ∷ []
   open_yet : is_whole front ≡ false
 
-last_line : (b : Basin) (items : List Item) → Fills b (shape.Done b.months ∷ []) items → items ≡ line.Done b.months ∷ []
+pub last_line : (b : Basin) (items : List Item) → Fills b (shape.Done b.months ∷ []) items → items ≡ line.Done b.months ∷ []
 last_line b items h =
     let last = one_line b (shape.Done b.months) [] items refl h in
     last.are ∙ (ap (λ ms. line.Done b.months ∷ (ms ++ last.others)) last.followed ∙ ap (λ ys. line.Done b.months ∷ ys) last.rest)
@@ -109,7 +109,7 @@ nothing_behind (x ∷ xs) (i ∷ items) rest d e none some =
 
 -- The months.
 
-opens_with_last : (b : Basin) (records : List MonthRecord) (m : MonthRecord) → opening_after b (records ++ m ∷ []) ≡ m.closing
+pub opens_with_last : (b : Basin) (records : List MonthRecord) (m : MonthRecord) → opening_after b (records ++ m ∷ []) ≡ m.closing
 opens_with_last b records m =
     ap (λ n. of_entry (records ++ m ∷ []) (n - 1) (λ k. k.closing) (map (λ v. v.opening) b.reservoirs)) (length-append records (m ∷ []))
     ∙ last records
@@ -125,18 +125,18 @@ opens_with_last b records m =
     last xs = rw (place (length xs), at xs) refl
 
 -- what stands behind some months that are not refuted
-record BehindMonths (b : Basin) (series : Inflows) (before : List MonthRecord) (t : Told) : Type 0 where
-  calling : t.calling ≡ None
-  months : t.months ≡ before
-  partial : IsPartialHistory b series before
-  opens : length (opening_after b before) ≡ length b.reservoirs
+pub record BehindMonths (b : Basin) (series : Inflows) (before : List MonthRecord) (t : Told) : Type 0 where
+  pub calling : t.calling ≡ None
+  pub months : t.months ≡ before
+  pub partial : IsPartialHistory b series before
+  pub opens : length (opening_after b before) ≡ length b.reservoirs
 
 -- one month more that is not refuted
-record NextMonth (b : Basin) (series : Inflows) (before : List MonthRecord) (t : Told) (i : ℕ) (s : Sheet) (dues : List (ℕ × ℕ)) : Type 0 where
-  lines_are : line.Month (run_month b i) ∷ sheet_lines b s dues ≡ items_of_month b (record_of b series i s)
-  behind : BehindMonths b series (before ++ record_of b series i s ∷ []) (fold (tell b series) t (items_of_month b (record_of b series i s)))
+pub record NextMonth (b : Basin) (series : Inflows) (before : List MonthRecord) (t : Told) (i : ℕ) (s : Sheet) (dues : List (ℕ × ℕ)) : Type 0 where
+  pub lines_are : line.Month (run_month b i) ∷ sheet_lines b s dues ≡ items_of_month b (record_of b series i s)
+  pub behind : BehindMonths b series (before ++ record_of b series i s ∷ []) (fold (tell b series) t (items_of_month b (record_of b series i s)))
 
-next_month : (b : Basin) → IsValidBasin b → (series : Inflows) (before : List MonthRecord) (t : Told) (i : ℕ) (s : Sheet) (dues : List (ℕ × ℕ)) →
+pub next_month : (b : Basin) → IsValidBasin b → (series : Inflows) (before : List MonthRecord) (t : Told) (i : ℕ) (s : Sheet) (dues : List (ℕ × ℕ)) →
     ((r : ℕ) (set : List Bool) → s.cut r ≡ Some set → length set ≡ length b.nodes) → i ≡ length before → i < b.months → BehindMonths b series before t →
     AreGood b series t (line.Month (run_month b i) ∷ sheet_lines b s dues) → NextMonth b series before t i s dues
 next_month b valid series before t i s dues sized at left stands g =

@@ -18,7 +18,7 @@ use Rattle.cert_check.specs.declared.refuted.RefutedKind.TheVariants as kind
 use Rattle.cert_check.specs.declared.refuted.Refuted.{Refuted}
 use Rattle.cert_check.proofs.Rows.{AreGood, good_row, row_good}
 
-told_more : (b : Basin) (series : Inflows) (before : List Item) (i : Item) → told_by b series (before ++ i ∷ []) ≡ tell b series (told_by b series before) i
+pub told_more : (b : Basin) (series : Inflows) (before : List Item) (i : Item) → told_by b series (before ++ i ∷ []) ≡ tell b series (told_by b series before) i
 told_more b series before i = fold-both (tell b series) (nothing_told b) before (i ∷ [])
 
 -- Lines that are read, and that no row holds of, are good.

@@ -1,3 +1,14 @@
+pub mod Beginning
+pub mod CheckerInside
 pub mod Checking
+pub mod Coming
+pub mod FirstRows
+pub mod Keeping
+pub mod KindNames
 pub mod Laws
+pub mod Means
 pub mod Shows
+pub mod Standing
+pub mod Taking
+pub mod Walks
+pub mod Whole

@@ -14,6 +14,7 @@ ghost use Rattle.water_model.specs.Lookups.{of_entry};
 ghost use Rattle.water_model.specs.declared.types.Inflows.{Inflows};
 ghost use Rattle.water_model.specs.Valid.{IsValidBasin};
 ghost use Rattle.cert_check.specs.Checking as checking;
+ghost use Rattle.cert_check.specs.Coming.{is_within};
 ghost use Rattle.cert_check.specs.Shows.{Shows};
 
 use reservoirs::AreaTable;
@@ -39,6 +40,16 @@ pub fn is_done(item: &Item) -> bool
     match *item {
         Item::Done { .. } => true,
         _ => false,
+    }
+}
+
+/// Whether a line stands within a month, behind its `month` line.
+pub fn is_within(item: &Item) -> bool
+    ensures { result ≡ is_within item.now }
+{
+    match *item {
+        Item::Title | Item::Run { .. } | Item::Month { .. } | Item::Done { .. } => false,
+        _ => true,
     }
 }
 

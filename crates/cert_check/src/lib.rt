@@ -4,9 +4,22 @@
 //! what the lines before it tell, and each set of nodes that a text gives for a short right is tested as a cut.
 #![tactic(auto)]
 
+mod account;
+mod answering;
+mod balancing;
+mod book;
+pub mod checker;
 pub mod compare;
+mod entering;
 pub mod laws;
+mod opening;
+mod passing;
+mod refusing;
 mod refuted;
+mod supplying;
 pub mod told;
+pub mod whole;
 
+pub use checker::Checker;
 pub use refuted::{Refuted, RefutedKind};
+pub use whole::check_text;

@@ -1,4 +1,6 @@
 //! Why a text is refuted, and at which line.
+ghost use Rattle.std.specs.Prelude.{◌≡◌};
+ghost use Rattle.cert_check.specs.KindNames.{kind_name};
 
 /// Why a text is refuted. Of several causes at one line the first of this order is answered.
 #[derive(Clone, Copy, Debug, PartialEq, Eq)]
@@ -36,6 +38,33 @@ pub enum RefutedKind {
     Closing,
     /// The text ends before its `done` line. The line behind the last one is named.
     EarlyEnd,
+}
+
+impl RefutedKind {
+    /// The word for the kind, as an answer writes it.
+    #[tactic(auto, unfolding(crate::specs::KindNames::kind_name))]
+    pub fn name(&self) -> &'static str
+        ensures { result.now ≡ kind_name self.now }
+    {
+        match self {
+            RefutedKind::AfterEnd => "AfterEnd",
+            RefutedKind::BadLine => "BadLine",
+            RefutedKind::CutLoose => "CutLoose",
+            RefutedKind::CutMissing => "CutMissing",
+            RefutedKind::CutNeedless => "CutNeedless",
+            RefutedKind::Called => "Called",
+            RefutedKind::Head => "Head",
+            RefutedKind::Opening => "Opening",
+            RefutedKind::Evaporation => "Evaporation",
+            RefutedKind::Return => "Return",
+            RefutedKind::Used => "Used",
+            RefutedKind::Flow => "Flow",
+            RefutedKind::Delivery => "Delivery",
+            RefutedKind::Balance => "Balance",
+            RefutedKind::Closing => "Closing",
+            RefutedKind::EarlyEnd => "EarlyEnd",
+        }
+    }
 }
 
 /// The first line of a text at fault, counted from 1, and why.

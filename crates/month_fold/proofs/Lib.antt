@@ -1,3 +1,4 @@
 pub mod Counts
 pub mod Following
 pub mod Standing
+pub mod Outcomes

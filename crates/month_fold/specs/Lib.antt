@@ -1,3 +1,4 @@
 pub mod Reaches
 pub mod Runs
 pub mod RunInside
+pub mod Laws

@@ -2,5 +2,6 @@
 #![tactic(auto)]
 
 mod blank;
+pub mod laws;
 mod next;
 pub mod run;

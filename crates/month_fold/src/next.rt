@@ -4,6 +4,7 @@ ghost use Rattle.lag_returns.specs.Lags.{OnTheWay, return_rows};
 ghost use Rattle.lag_returns.specs.Lags as lag;
 ghost use Rattle.month_terms.specs.Terms.{FitsRecord, HasReturned};
 ghost use Rattle.senior_hold.specs.MonthNetwork.{arc_count};
+ghost use Rattle.senior_hold.specs.Solved.{LacksRoom};
 ghost use Rattle.water_model.specs.Valid.{IsValidBasin, IsSeriesOf};
 ghost use Rattle.water_model.specs.declared.types.MonthRecord.{MonthRecord};
 ghost use Rattle.month_fold.specs.Runs.{RunSeen, StandsFor, HasMonths, IsNext};
@@ -44,7 +45,8 @@ fn bring_back(basin: &Basin, lags: &Lags, month: &mut MonthRecord)
 /// Solves the month with this index in a record that has the closing storage of the month before. `tables` has the area
 /// table of each reservoir. Each search that finds a walk ticks `searches` once.
 ///
-/// After AllocError the record still has that closing storage, and says nothing else.
+/// AllocError comes only where memory is lacking for the set of a right that had no room for one yet. The record then
+/// still has that closing storage, and says nothing else.
 pub fn next_month<L: Ledger>(
     basin: &Basin,
     series: &Inflows,
@@ -67,6 +69,7 @@ pub fn next_month<L: Ledger>(
     ensures fits { FitsRecord basin.now month.new }
     ensures used { month.new.used ≡ month.old.used }
     ensures stored { OnErr result (month.new.closing ≡ month.old.closing) }
+    ensures room { OnErr result (LacksRoom basin.now month.old.cuts) }
     ensures small { OnOk result (All (λ n. n ≤ 10 ^ 9) month.new.delivered) }
     ensures next { OnOk result ((records : List MonthRecord) →
         StandsFor (record { basin = basin.now; series = series.now; done = index; last = month.old; lags = lags.now }) records →

@@ -1,6 +1,7 @@
 //! A run of a basin, month by month.
 ghost use Rattle.std.specs.Prelude.{ℕ, List, ◌≡◌, ◌+◌, ◌-◌, ◌*◌, ◌<◌, ◌≤◌, ◌++◌, ◌∷◌, [], length, map, IfOk, OnOk, OnErr};
 ghost use Rattle.senior_hold.specs.MonthNetwork.{arc_count};
+ghost use Rattle.senior_hold.specs.Solved.{LacksRoom};
 ghost use Rattle.water_model.specs.Valid.{IsValidBasin, IsSeriesOf};
 ghost use Rattle.water_model.specs.declared.types.MonthRecord.{MonthRecord};
 ghost use Rattle.month_fold.specs.Runs.{StandsFor};
@@ -86,14 +87,15 @@ impl<'b> Run<'b> {
     /// Solves the next month, whose record `month` then gives: it follows the records before it, and the set of each
     /// short right is its reach. Each search that finds a walk ticks `searches` once.
     ///
-    /// AllocError comes where memory for a set is lacking, and at no other place. The run then stands for what it stood
-    /// for, and can go on.
+    /// AllocError comes only where memory is lacking for the set of a right that had no room for one yet. The run then
+    /// stands for what it stood for, and can go on.
     pub fn step<L: Ledger>(&mut self, searches: &mut Steps<L>) -> Result<(), AllocError>
         requires left { self.old.done < self.old.basin.months }
         ensures basin { self.new.basin ≡ self.old.basin }
         ensures series { self.new.series ≡ self.old.series }
         ensures month { OnOk result ((records : List MonthRecord) → StandsFor self.old records → StandsFor self.new (records ++ self.new.last ∷ [])) }
         ensures stays { OnErr result ((records : List MonthRecord) → StandsFor self.old records → StandsFor self.new records) }
+        ensures room { OnErr result (LacksRoom self.old.basin self.old.last.cuts) }
         ensures pushes { searches.new ≤ searches.old + length self.old.basin.rights * (30 * (2 * arc_count self.old.basin + 2)) }
     {
         next_month(

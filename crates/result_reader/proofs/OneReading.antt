@@ -33,7 +33,7 @@ one_items b valid (x ∷ xs) (y ∷ ys) g k e =
     cc
 
 -- the bytes of a text, cut at the line feeds, are its lines
-lines_of_bytes : (b : Basin) → IsValidBasin b → (xs : List Item) → AreOfText b xs → cut_at 10 (flat_map (whole_line b) xs) ≡ map (line_of b) xs ++ [] ∷ []
+pub lines_of_bytes : (b : Basin) → IsValidBasin b → (xs : List Item) → AreOfText b xs → cut_at 10 (flat_map (whole_line b) xs) ≡ map (line_of b) xs ++ [] ∷ []
 lines_of_bytes b valid [] g = refl
 lines_of_bytes b valid (x ∷ xs) g =
     ap (cut_at 10) (append_assoc (line_of b x) (10 ∷ []) (flat_map (whole_line b) xs))

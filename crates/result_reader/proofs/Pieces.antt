@@ -18,7 +18,7 @@ some_piece (c ∷ cs) = by_test (c == 32) (pieces_of cs)
     by_test false [] = refl
     by_test false (part ∷ parts) = refl
 
--- without a place of a space
+-- without an element at which it is cut, a list is the one piece
 uncut : {X : Type 0} (p : X → Bool) (xs : List X) → length xs ≤ position_or_len p xs → slice_split p xs ≡ xs ∷ []
 uncut p [] h = refl
 uncut p (x ∷ xs) h = by_test (p x) refl (uncut p xs)
@@ -29,35 +29,35 @@ uncut p (x ∷ xs) h = by_test (p x) refl (uncut p xs)
         let here : position_or_len p (x ∷ xs) ≡ 1 + position_or_len p xs = rw e refl in
         rw (e, further (omega arith)) refl
 
-pub pieces-whole : (text : List ℕ) → position (λ byte. byte == 32) text ≡ None → pieces_of text ≡ text ∷ []
-pieces-whole text h = uncut (λ byte. byte == 32) text (by_test (nat_lt at (length text)) refl h)
+pub split-whole : {X : Type 0} (p : X → Bool) (xs : List X) → position p xs ≡ None → slice_split p xs ≡ xs ∷ []
+split-whole p xs h = uncut p xs (by_test (nat_lt at (length xs)) refl h)
   where
     at : ℕ
-    at = position_or_len (λ byte. byte == 32) text
+    at = position_or_len p xs
 
     past : (x y : ℕ) → nat_lt x y ≡ false → y ≤ x
     past x y e = grind (arith, nat_tests)
 
-    by_test : (t : Bool) → nat_lt at (length text) ≡ t → cond t (Some at) None ≡ None → length text ≤ at
+    by_test : (t : Bool) → nat_lt at (length xs) ≡ t → cond t (Some at) None ≡ None → length xs ≤ at
     by_test true e h = cc
-    by_test false e h = past at (length text) e
+    by_test false e h = past at (length xs) e
 
--- with one
-pub pieces-cut : (text : List ℕ) (at : ℕ) → position (λ byte. byte == 32) text ≡ Some at →
-    pieces_of text ≡ take at text ∷ pieces_of (take (length text - (at + 1)) (drop (at + 1) text))
-pieces-cut text at h = by_test (nat_lt first (length text)) refl h
+-- with one, the first piece ends there
+pub split-cut : (p : ℕ → Bool) (xs : List ℕ) (at : ℕ) → position p xs ≡ Some at →
+    slice_split p xs ≡ take at xs ∷ slice_split p (take (length xs - (at + 1)) (drop (at + 1) xs))
+split-cut p xs at h = by_test (nat_lt first (length xs)) refl h
   where
     first : ℕ
-    first = position_or_len (λ byte. byte == 32) text
+    first = position_or_len p xs
 
     within : (x y : ℕ) → nat_lt x y ≡ true → x < y
     within x y e = grind (arith, nat_tests)
 
-    by_test : (t : Bool) → nat_lt first (length text) ≡ t → cond t (Some first) None ≡ Some at →
-        pieces_of text ≡ take at text ∷ pieces_of (take (length text - (at + 1)) (drop (at + 1) text))
+    by_test : (t : Bool) → nat_lt first (length xs) ≡ t → cond t (Some first) None ≡ Some at →
+        slice_split p xs ≡ take at xs ∷ slice_split p (take (length xs - (at + 1)) (drop (at + 1) xs))
     by_test true e h =
         let is : first ≡ at = cc in
-        slice_split_first (λ byte. byte == 32) text 0 (within first (length text) e)
-        ∙ (ap (λ n. take n text ∷ pieces_of (drop (n + 1) text)) is
-        ∙ ap (λ rest. take at text ∷ pieces_of rest) (sym (take_rest text (at + 1))))
+        slice_split_first p xs 0 (within first (length xs) e)
+        ∙ (ap (λ n. take n xs ∷ slice_split p (drop (n + 1) xs)) is
+        ∙ ap (λ rest. take at xs ∷ slice_split p rest) (sym (take_rest xs (at + 1))))
     by_test false e h = cc

@@ -195,7 +195,7 @@ three_short w x y n k h l m f = omega (arith, length-append w (32 ∷ (x ++ 32 �
 four_short : (w x y z : List ℕ) → length w ≤ 12 → length x ≤ 32 → length y ≤ 20 → length z ≤ 20 → length (w ++ 32 ∷ (x ++ 32 ∷ (y ++ 32 ∷ z))) ≤ 128
 four_short w x y z h l m f = omega (arith, length-append w (32 ∷ (x ++ 32 ∷ (y ++ 32 ∷ z))), length-append x (32 ∷ (y ++ 32 ∷ z)), length-append y (32 ∷ z))
 
-line_short : (b : Basin) → IsValidBasin b → (i : Item) → IsOfText b i → length (line_of b i) ≤ 128
+pub line_short : (b : Basin) → IsValidBasin b → (i : Item) → IsOfText b i → length (line_of b i) ≤ 128
 unfolding line_of fields_of
 line_short b valid line.Title o = omega arith
 line_short b valid (line.Run first months) o =

@@ -1,18 +1,23 @@
 -- Where a gauge's amounts stand in a series.
-use Rattle.std.proofs.Common.{◌≡◌, ℕ, suc, ◌+◌, ◌*◌, ◌^◌, ◌<◌, ◌≤◌, Bool, true, false, refl, sym, ap, ◌∙◌, arith, List, [], ◌∷◌, length, get_or, inl, inr, filter}
-use Rattle.std.specs.Prelude.{◌==◌, if◌then◌else◌, slice_get, Some, unwrap_or, option_map}
+use Rattle.std.proofs.Common.{◌≡◌, ℕ, suc, ◌+◌, ◌*◌, ◌^◌, ◌<◌, ◌≤◌, Bool, true, false, refl, sym, ap, subst, ◌∙◌, arith, List, [], ◌∷◌, length, get_or, inl, inr, filter}
+use Rattle.std.specs.Prelude.{◌==◌, if◌then◌else◌, slice_get, Some, unwrap_or, option_map, Result, Ok, Err, MatchResult}
+use Rattle.std.specs.List.Sorted.{IsBinarySearchResult, IsStrictlyIncreasing}
+use Rattle.std.specs.Ordering.{nat_cmp}
+use Rattle.std.proofs.lemmas.Bool.{cases_lt}
 use Rattle.std.proofs.lemmas.Bool.Decides.{nat_tests}
+use Rattle.std.proofs.lemmas.List.Kept.{AllPairs-from_increasing, IsStrictlyIncreasing-filter}
+use Rattle.std.proofs.lemmas.List.Sorted.{searched}
 use Rattle.std.proofs.lemmas.List.Sums.{position_or_len_is}
 use Rattle.std.proofs.lemmas.Option.{get_or_from_slice_get}
 use Rattle.std.proofs.Math.Nat.{mul-le-mul_right}
 use Rattle.water_model.specs.Hydrology.{place_in, inflow_at, inflow_of_kind}
-use Rattle.water_model.specs.Places.{places_of}
+use Rattle.water_model.specs.Places.{numbers_from, places_of}
 use Rattle.water_model.specs.Valid.{IsValidBasin, IsSeriesOf, is_gauged, is_gauged_kind}
 use Rattle.water_model.specs.declared.types.Basin.{Basin}
 use Rattle.water_model.specs.declared.types.Inflow.TheVariants.{Gauged}
 use Rattle.water_model.specs.declared.types.Inflows.{Inflows}
 use Rattle.water_model.specs.declared.types.Node.{Node}
-use Rattle.water_model.proofs.Order.{Has, numbers_from-has, length-numbers_from}
+use Rattle.water_model.proofs.Order.{Has, numbers_from-get, numbers_from-has, length-numbers_from}
 
 -- the place of a number that stands at i and nowhere before, or that stands nowhere where i is the length
 pub place_is : (xs : List ℕ) (x i : ℕ) → i ≤ length xs → ((k : ℕ) → k < i → get_or xs k 0 ≡ x → ⊥) →
@@ -25,6 +30,41 @@ place_is xs x i within before here =
 
     same : (a c : ℕ) → a ≡ c → a == c ≡ true
     same a c h = grind (arith, nat_tests)
+
+-- The gauges of a series rise, so that a search by halves finds one.
+
+rises : (from n : ℕ) → IsStrictlyIncreasing (numbers_from from n)
+rises from n = λ k l. (let within : k + 1 < n = omega (arith, length-numbers_from from n) in
+    let here = read k (omega arith) in let next = read (k + 1) within in omega arith)
+  where
+    read : (k : ℕ) → k < n → get_or (numbers_from from n) k 0 ≡ from + k
+    read k l = get_or_from_slice_get (numbers_from from n) k (from + k) 0 (numbers_from-get from n k (from + k) l refl)
+
+pub gauges_rise : (b : Basin) (series : Inflows) → IsSeriesOf b series → IsStrictlyIncreasing series.gauged
+gauges_rise b series fits =
+    subst IsStrictlyIncreasing (sym fits.gauged) (IsStrictlyIncreasing-filter (λ n. is_gauged b n) (places_of b.nodes) (rises 0 (length b.nodes)))
+
+pub searched_place : (xs : List ℕ) (x : ℕ) (r : Result ℕ ℕ) → IsStrictlyIncreasing xs → IsBinarySearchResult (λ y. nat_cmp y x) xs r →
+    MatchResult r (λ i. i ≡ place_in xs x) (λ i. length xs ≡ place_in xs x)
+searched_place xs x r up h = by_result r (searched xs x r h no_less)
+  where
+    below : (i j : ℕ) → i < j → j < length xs → get_or xs i 0 < get_or xs j 0
+    below i j l k = AllPairs-from_increasing xs up i j 0 l k
+
+    no_less : (i j : ℕ) → i ≤ j → j < length xs → get_or xs i 0 ≤ get_or xs j 0
+    no_less i j l k = elim (cases_lt i j) [
+      | inl less ↦ let up_to = below i j less k in omega arith
+      | inr same ↦ let is : i ≡ j = omega arith in let alike = ap (λ n. get_or xs n 0) is in omega arith
+    ]
+
+    by_result : (r : Result ℕ ℕ) → MatchResult r (λ i. (i < length xs) × (get_or xs i 0 ≡ x))
+        (λ i. (i ≤ length xs) × ((k : ℕ) → k < i → get_or xs k 0 < x) × ((k : ℕ) → i ≤ k → k < length xs → x < get_or xs k 0)) →
+        MatchResult r (λ i. i ≡ place_in xs x) (λ i. length xs ≡ place_in xs x)
+    by_result (Ok i) found = place_is xs x i (omega (arith, found.0)) (λ k l e. (let less = below k i l found.0 in omega (arith, found.1))) (λ l. found.1)
+    by_result (Err i) missing = place_is xs x (length xs) (omega arith) (λ k l e. elim (cases_lt k i) [
+      | inl before ↦ omega (arith, missing.1 k before)
+      | inr behind ↦ omega (arith, missing.2 k behind l)
+    ]) (λ l. absurd (omega arith))
 
 filter-has : (p : ℕ → Bool) (xs : List ℕ) (x : ℕ) → Has xs x → p x ≡ true → Has (filter p xs) x
 filter-has p [] x h e = h

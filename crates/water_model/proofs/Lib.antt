@@ -4,6 +4,7 @@ pub mod Duality
 pub mod Seniority
 pub mod Order
 pub mod Greatest
+pub mod Sheltered
 pub mod CutLemmas
 pub mod Balance
 pub mod Gauges

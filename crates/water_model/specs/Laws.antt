@@ -4,7 +4,7 @@ use Rattle.water_model.specs.Lookups.{has}
 use Rattle.water_model.specs.Basin.{is_senior, HasStrictPriority}
 use Rattle.water_model.specs.Plans.{IsPlan, IsGreatest, DeliversSame, delivery}
 use Rattle.water_model.specs.Cuts.{IsCut, IsTight, IsReach, cut_bound, takes_within}
-use Rattle.water_model.specs.History.{IsPartialHistory}
+use Rattle.water_model.specs.History.{IsPartialHistory, Calls, cut_of}
 use Rattle.water_model.specs.Valid.{IsValidBasin}
 use Rattle.water_text.specs.declared.month.Month.{Month}
 use Rattle.water_model.specs.declared.types.Basin.{Basin}
@@ -61,6 +61,31 @@ TightCutLeavesNothing =
     (b : Basin) (month : Month) (supply want delivered : List ℕ) (p : Plan) (right : ℕ) (cut : List Bool) →
     right < length b.rights → IsPlan b month supply want p → AreDeliveries b want p delivered →
     IsTight b month supply delivered right cut → LeavesNothing b p right cut
+
+-- In the set that a history has of a right, juniors get nothing: no diversion or zone that is junior to the right takes, and no
+-- outlet lets water out.
+abbrev pub HistoriesLeaveNothing : Type 0
+HistoriesLeaveNothing =
+    (b : Basin) (series : Inflows) (records : List MonthRecord) → IsPartialHistory b series records →
+    (i : ℕ) (m : MonthRecord) → slice_get records i ≡ Some m → (right : ℕ) → right < length b.rights →
+    (cut : List Bool) → cut_of m right ≡ Some cut → LeavesNothing b m.plan right cut
+
+-- A right that answers to a caller gets nothing.
+abbrev pub CalledRightsGetNothing : Type 0
+CalledRightsGetNothing =
+    (b : Basin) (series : Inflows) (records : List MonthRecord) → IsPartialHistory b series records →
+    (i : ℕ) (m : MonthRecord) → slice_get records i ≡ Some m → (right caller : ℕ) → right < length b.rights →
+    Calls b m caller right → slice_index m.delivered right ≡ 0
+
+-- Nothing outside helps. Whatever is supplied outside the set that a history has of a right, and whatever anyone wants, no
+-- plan of that month that delivers at least as much to each senior of the right delivers it more than it got.
+abbrev pub NothingOutsideHelps : Type 0
+NothingOutsideHelps =
+    (b : Basin) (series : Inflows) (records : List MonthRecord) → IsPartialHistory b series records →
+    (i : ℕ) (m : MonthRecord) → slice_get records i ≡ Some m → (right : ℕ) → right < length b.rights →
+    (cut : List Bool) → cut_of m right ≡ Some cut → (other_supply other_want : List ℕ) (q : Plan) →
+    IsPlan b m.month other_supply other_want q → AgreesOn cut m.supply other_supply →
+    ServesSeniors b m.delivered other_want q right → delivery b other_want q right ≤ slice_index m.delivered right
 
 -- One outcome of a month. Two greatest plans of one month deliver the same.
 abbrev pub GreatestPlansDeliverSame : Type 0

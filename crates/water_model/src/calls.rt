@@ -1,5 +1,6 @@
 //! What a basin says of a month.
 ghost use Rattle.std.specs.Prelude.{◌≡◌, ◌<◌, ◌≤◌, length};
+ghost use Rattle.std.specs.List.Sorted.{IsStrictlyIncreasing};
 ghost use Rattle.water_text.specs.Months.{IsMonth};
 ghost use Rattle.water_model.specs.Plans.{carry_of, carry_of_kind};
 ghost use Rattle.water_model.specs.Hydrology.{inflow_at, in_year, place_in, want_in_month};
@@ -63,16 +64,15 @@ fn place_in_year(basin: &Basin, index: u32) -> usize
     ((u64::from(basin.first.month) - 1 + u64::from(index)) % 12) as usize
 }
 
-/// The place of a node in a list of nodes, or the list's length where it isn't there.
+/// The place of a node in a list of nodes in rising order, or the list's length where it isn't there.
 fn place_of(nodes: &[u32], node: u32) -> usize
+    requires { IsStrictlyIncreasing nodes.now }
     ensures { result ≡ place_in nodes.now node }
 {
-    for (place, other) in nodes.iter().enumerate() {
-        if *other == node {
-            return place;
-        }
+    match nodes.binary_search(&node) {
+        Ok(place) => place,
+        Err(_) => nodes.len(),
     }
-    nodes.len()
 }
 
 /// The inflow of a node in the month with this index, in units of 1,000 cubic metres: the series' amount of a gauged

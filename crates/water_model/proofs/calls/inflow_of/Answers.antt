@@ -1,5 +1,5 @@
 use Rattle.std.proofs.Common.{arith}
-use Rattle.water_model.proofs.Gauges.{HasCell, has_cell, cell_is_inflow}
+use Rattle.water_model.proofs.Gauges.{HasCell, has_cell, cell_is_inflow, gauges_rise}
 use Rattle.water_model.proofs.calls.inflow_of.Goals as goal
 
 pub overflow_mul-index : goal.overflow_mul-index
@@ -24,3 +24,6 @@ pub returns-in-Gauged : goal.returns-in-Gauged
 returns-in-Gauged c =
     cell_is_inflow c.args.basin.now c.args.inflows.now c.args.node c.args.index c.index.result.now c.index-in-Gauged.result.now c.index.ensures c.in-Gauged.is
     (rw (c.len.ensures, c.place_of-gauge.ensures, c.as_slice.ensures) at c.index-in-Gauged.ensures)
+
+pub place_of-gauge-requires : goal.place_of-gauge-requires
+place_of-gauge-requires c = rw c.as_slice.ensures (gauges_rise c.args.basin.now c.args.inflows.now c.requires.series)

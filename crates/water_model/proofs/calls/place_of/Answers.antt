@@ -1,12 +1,9 @@
-use Rattle.std.proofs.Common.{◌≡◌, ◌∙◌, arith, length}
-use Rattle.water_model.proofs.Gauges.{place_is}
+use Rattle.std.specs.Prelude.{Ok, Err}
+use Rattle.water_model.proofs.Gauges.{searched_place}
 use Rattle.water_model.proofs.calls.place_of.Goals as goal
 
-pub returns-then-other-node : goal.returns-then-other-node
-returns-then-other-node c =
-    place_is c.args.nodes.now c.args.node c.loop-place.place (omega arith) c.loop-place.invariant (λ _. c.if-other-node.true)
+pub returns-in-Ok : goal.returns-in-Ok
+returns-in-Ok c = searched_place c.args.nodes.now c.args.node (Ok c.in-Ok.place) c.requires c.in-Ok.ensures.position
 
-pub returns : goal.returns
-returns c =
-    let end : length c.args.nodes.now ≡ c.loop-place.place = omega arith in
-    end ∙ place_is c.args.nodes.now c.args.node c.loop-place.place (omega arith) c.loop-place.invariant (λ l. absurd (omega arith))
+pub returns-in-Err : goal.returns-in-Err
+returns-in-Err c = searched_place c.args.nodes.now c.args.node (Err c.in-Err.field-0) c.requires c.in-Err.ensures.position

@@ -1,0 +1,84 @@
+-- Bytes spell one basin, and one series as far as a history speaks of it.
+use Rattle.std.proofs.Common.{◌≡◌, ℕ, ◌<◌, ◌≤◌, Bool, true, false, refl, sym, ◌∙◌, ap, subst, arith, List, length, length-take, take, ◌+◌, Option, Some, None}
+use Rattle.std.specs.Prelude.{slice_get, slice_index, option_map, unwrap_or}
+use Rattle.std.proofs.lemmas.Option.{slice_get_within}
+use Rattle.basin_file.specs.BasinFaults.{Spells}
+use Rattle.basin_file.specs.Spelled.{basin_of}
+use Rattle.inflow_file.specs.SeriesFaults.{SpellsSeries}
+use Rattle.month_terms.proofs.Amounts.{want_is}
+use Rattle.water_model.specs.History.{Follows, IsPartialHistory, IsHistory}
+use Rattle.water_model.specs.Hydrology.{inflow_at, inflow_of_kind, stored_at}
+use Rattle.water_model.specs.Valid.{IsValidBasin, is_gauged, is_gauged_kind}
+use Rattle.water_model.specs.declared.types.Basin.{Basin}
+use Rattle.water_model.specs.declared.types.Inflow.{Inflow}
+use Rattle.water_model.specs.declared.types.Inflow.TheVariants.{Monthly, Gauged}
+use Rattle.water_model.specs.declared.types.Inflows.{Inflows}
+use Rattle.water_model.specs.declared.types.MonthRecord.{MonthRecord}
+use Rattle.water_model.specs.declared.types.Node.{Node}
+
+-- bytes spell one basin
+pub one_basin : (bytes : List ℕ) (b c : Basin) → Spells bytes b → Spells bytes c → b ≡ c
+one_basin bytes b c one other =
+    let same : Some one.tree ≡ Some other.tree = sym one.document ∙ other.document in
+    let tree : one.tree ≡ other.tree = cc in
+    one.basin_is ∙ (ap basin_of tree ∙ sym other.basin_is)
+
+-- two series give each node the same inflow in each month of the run
+pub record GiveSame (b : Basin) (series other : Inflows) : Type 0 where
+  pub each : (n i : ℕ) → n < length b.nodes → i < b.months → inflow_at b series n i ≡ inflow_at b other n i
+
+-- and so do the series that the same bytes spell
+pub one_series : (b : Basin) (bytes : List ℕ) (series other : Inflows) → SpellsSeries b bytes series → SpellsSeries b bytes other → GiveSame b series other
+one_series b bytes series other one two = record { each = λ n i l m. by_gauge n i l m (is_gauged b n) refl }
+  where
+    by_kind : (n i : ℕ) (o : Option Node) → unwrap_or (option_map (λ x. is_gauged_kind x.inflow) o) false ≡ false →
+        unwrap_or (option_map (λ x. inflow_of_kind b series n i x.inflow) o) 0 ≡ unwrap_or (option_map (λ x. inflow_of_kind b other n i x.inflow) o) 0
+    by_kind n i None e = refl
+    by_kind n i (Some x) e = by_inflow x.inflow e
+      where
+        by_inflow : (inflow : Inflow) → is_gauged_kind inflow ≡ false → inflow_of_kind b series n i inflow ≡ inflow_of_kind b other n i inflow
+        by_inflow (Monthly amounts) f = refl
+        by_inflow Gauged f = cc
+
+    by_gauge : (n i : ℕ) → n < length b.nodes → i < b.months → (t : Bool) → is_gauged b n ≡ t → inflow_at b series n i ≡ inflow_at b other n i
+    by_gauge n i l m false e = by_kind n i (slice_get b.nodes n) e
+    by_gauge n i l m true e =
+        let both : Some (inflow_at b series n i) ≡ Some (inflow_at b other n i) = sym (one.each n i l e m) ∙ two.each n i l e m in
+        cc
+
+-- a record that follows others with one series does with the other
+same_follows : (b : Basin) (series other : Inflows) (before : List MonthRecord) (m : MonthRecord) → IsValidBasin b → GiveSame b series other →
+    m.index < b.months → Follows b series before m → Follows b other before m
+same_follows b series other before m valid same l f = record {
+  fits = f.fits;
+  index = f.index;
+  month = f.month;
+  opening = f.opening;
+  evaporated = f.evaporated;
+  returned = f.returned;
+  supply = λ n k. f.supply n k ∙ ap (λ x. x + slice_index m.returned n + stored_at b m.opening m.evaporated n) (same.each n m.index k l);
+  used = f.used;
+  want = λ r k. f.want r k ∙ (want_is b series r m.index (get_used r) valid k ∙ sym (want_is b other r m.index (get_used r) valid k));
+  plan = f.plan;
+  delivered = f.delivered;
+  short = f.short;
+  met = f.met;
+  closing = f.closing;
+}
+  where
+    get_used : ℕ → ℕ
+    get_used r = slice_index m.used r
+
+-- a history with one series is one with the other
+pub same_history : (b : Basin) (series other : Inflows) (records : List MonthRecord) → IsValidBasin b → GiveSame b series other →
+    IsHistory b series records → IsHistory b other records
+same_history b series other records valid same history = record {
+  partial = record {
+    within = history.partial.within;
+    each = λ i m at. (let f = history.partial.each i m at in same_follows b series other (take i records) m valid same (in_run i m at f) f);
+  };
+  whole = history.whole;
+}
+  where
+    in_run : (i : ℕ) (m : MonthRecord) → slice_get records i ≡ Some m → Follows b series (take i records) m → m.index < b.months
+    in_run i m at f = omega (arith, f.index, length-take i records, slice_get_within records i m at, history.partial.within)

@@ -1,0 +1,196 @@
+//! What commands do behind their files: they solve the months of a basin and write what was found, or check a result.
+ghost use Rattle.std.specs.Prelude.{◌≡◌, ◌+◌, ◌≤◌, ◌++◌, [], codes, IfOk};
+ghost use Rattle.std.specs.Fmt.{decimal};
+ghost use Rattle.basin_gen.specs.Generator.{generated};
+ghost use Rattle.cert_check.specs.KindNames.{kind_name};
+ghost use Rattle.cert_check.specs.Standing.{IsAnswer};
+ghost use Rattle.cert_check.specs.Whole.{text_verdict};
+ghost use Rattle.reports.specs.Ends.{IsRun};
+ghost use Rattle.reports.specs.Reports.{report_text, trial_text};
+ghost use Rattle.water_edge.specs.Edge.{Rose};
+ghost use Rattle.water_model.specs.Text.{text_bytes};
+ghost use Rattle.water_model.specs.Valid.{IsValidBasin, IsSeriesOf};
+ghost use Rattle.basin_cli.specs.Actions.{EndsChecking, LeavesRecords};
+ghost use Rattle.basin_cli.specs.Answer.{answered, ending_of, EndsAnswer};
+ghost use Rattle.basin_cli.specs.Ending.{status_of};
+ghost use Rattle.basin_cli.specs.Headline.{KeepsPriority, run_pushes};
+ghost use Rattle.basin_cli.specs.Outcome.{HasTrialCause, Leaves, MayWrite, WritesTrial, answer_line};
+
+use crate::ending::Ending;
+use crate::writing::text_of_run;
+use basin_gen::make;
+use cert_check::{Checker, Refuted, check_text};
+use reports::{ReportStop, period_report, trial_report};
+use std::alloc::{AllocError, Global};
+use std::sync::ledger::Ledger;
+use steps::Steps;
+use water_edge::Sink;
+use water_model::types::{Basin, Inflows};
+use water_text::line::Line;
+
+/// Solves the months of a basin with a series and puts their text.
+pub fn run_basin<K: Sink, L: Ledger>(
+    alloc: Global,
+    basin: &Basin,
+    series: &Inflows,
+    out: &mut K,
+    searches: &mut Steps<L>,
+) -> Ending
+    requires basin { IsValidBasin basin.now }
+    requires series { IsSeriesOf basin.now series.now }
+    ensures ends { HasTrialCause result (Rose (K.faults out.old) (K.faults out.new)) }
+    ensures leaves { LeavesRecords (KeepsPriority basin.now series.now) (text_bytes basin.now) result (K.taken out.old) (K.taken out.new) }
+    ensures out_stays { (MayWrite (status_of result) → ⊥) → out.new ≡ out.old }
+    ensures pushes { searches.new ≤ searches.old + run_pushes basin.now }
+{
+    let text = match text_of_run(alloc, basin, series, searches) {
+        Ok(text) => text,
+        Err(_) => return Ending::OutOfMemory,
+    };
+    match out.put(text.bytes()) {
+        Ok(()) => Ending::Done,
+        Err(_) => Ending::WriteFault,
+    }
+}
+
+/// Solves the months of a basin with a series and puts a report on them.
+pub fn report_basin<K: Sink, L: Ledger>(
+    alloc: Global,
+    basin: &Basin,
+    series: &Inflows,
+    out: &mut K,
+    searches: &mut Steps<L>,
+) -> Ending
+    requires basin { IsValidBasin basin.now }
+    requires series { IsSeriesOf basin.now series.now }
+    ensures ends { HasTrialCause result (Rose (K.faults out.old) (K.faults out.new)) }
+    ensures leaves { LeavesRecords (IsRun basin.now series.now) (report_text basin.now series.now) result (K.taken out.old) (K.taken out.new) }
+    ensures out_stays { (MayWrite (status_of result) → ⊥) → out.new ≡ out.old }
+    ensures pushes { searches.new ≤ searches.old + run_pushes basin.now }
+{
+    match period_report(alloc, basin, series, out, searches) {
+        Ok(()) => Ending::Done,
+        Err(ReportStop::SinkFailed) => Ending::WriteFault,
+        Err(ReportStop::OutOfMemory) => Ending::OutOfMemory,
+    }
+}
+
+/// Makes the basin of a number and a size, solves its months and puts a summary of them.
+pub fn try_basin<K: Sink, L: Ledger>(
+    alloc: Global,
+    number: u32,
+    size: u32,
+    out: &mut K,
+    searches: &mut Steps<L>,
+) -> Ending
+    requires some { 2 ≤ size }
+    requires size { size ≤ 2000 }
+    ensures ends { HasTrialCause result (Rose (K.faults out.old) (K.faults out.new)) }
+    ensures writes { MayWrite (status_of result) → WritesTrial (status_of result) number size (K.taken out.old) (K.taken out.new) }
+    ensures out_stays { (MayWrite (status_of result) → ⊥) → out.new ≡ out.old }
+    ensures pushes { searches.new ≤ searches.old + run_pushes (generated number size) }
+{
+    let (basin, series) = match make(alloc, number, size) {
+        Ok(made) => made,
+        Err(_) => return Ending::OutOfMemory,
+    };
+    match trial_report(alloc, number, size, &basin, &series, out, searches) {
+        Ok(()) => Ending::Done,
+        Err(ReportStop::SinkFailed) => Ending::WriteFault,
+        Err(ReportStop::OutOfMemory) => Ending::OutOfMemory,
+    }
+}
+
+/// Makes the line of a text that is accepted.
+fn put_checked(line: &mut Line, months: u32)
+    requires { line.old ≡ [] }
+    ensures { line.new ≡ codes "checked " ++ decimal months ++ codes "\n" }
+{
+    line.word(b"checked ");
+    line.amount(u64::from(months));
+    line.word(b"\n");
+}
+
+/// Makes the line of a text that is refuted.
+fn put_refuted(line: &mut Line, refuted: &Refuted)
+    requires { line.old ≡ [] }
+    ensures { line.new ≡ codes "refuted " ++ decimal refuted.now.line ++ codes " " ++ kind_name refuted.now.kind ++ codes "\n" }
+{
+    let number = refuted.line;
+    line.word(b"refuted ");
+    line.amount(number);
+    line.word(b" ");
+    line.word(refuted.kind.name().as_bytes());
+    line.word(b"\n");
+}
+
+/// Makes the line that answers a checked text.
+#[tactic(auto, unfolding(crate::specs::Answer::answered))]
+fn put_answer(line: &mut Line, answer: &Result<u32, Refuted>)
+    requires { line.old ≡ [] }
+    ensures { line.new ≡ answered answer.now }
+{
+    match answer {
+        Ok(months) => put_checked(line, *months),
+        Err(refuted) => put_refuted(line, refuted),
+    }
+}
+
+/// How a check ends whose answer is told.
+fn judged(answer: &Result<u32, Refuted>) -> Ending
+    ensures { result ≡ ending_of answer.now }
+{
+    match answer {
+        Ok(_) => Ending::Done,
+        Err(refuted) => Ending::Refuted(*refuted),
+    }
+}
+
+/// Puts the answer to a checked text. It takes no memory.
+fn tell_answer<K: Sink>(answer: &Result<u32, Refuted>, out: &mut K) -> Ending
+    ensures ends { EndsAnswer answer.now result (Rose (K.faults out.old) (K.faults out.new)) }
+    ensures leaves { Leaves (status_of result) (answered answer.now) (K.taken out.old) (K.taken out.new) }
+{
+    let mut line = Line::new();
+    put_answer(&mut line, answer);
+    match out.put(line.bytes()) {
+        Ok(()) => judged(answer),
+        Err(_) => Ending::WriteFault,
+    }
+}
+
+/// The answer to the bytes of a result.
+fn answer_of(
+    alloc: Global,
+    basin: &Basin,
+    series: &Inflows,
+    text: &[u8],
+) -> Result<Result<u32, Refuted>, AllocError>
+    requires basin { IsValidBasin basin.now }
+    requires series { IsSeriesOf basin.now series.now }
+    ensures { IfOk result (λ answer. IsAnswer basin.now answer (text_verdict basin.now series.now text.now)) }
+{
+    let mut checker = Checker::open(alloc, basin, series)?;
+    Ok(check_text(&mut checker, text))
+}
+
+/// Checks the bytes of a result and puts the answer: the number of its months, or the first line at fault and why.
+pub fn check_bytes<K: Sink>(
+    alloc: Global,
+    basin: &Basin,
+    series: &Inflows,
+    text: &[u8],
+    out: &mut K,
+) -> Ending
+    requires basin { IsValidBasin basin.now }
+    requires series { IsSeriesOf basin.now series.now }
+    ensures ends { EndsChecking basin.now series.now text.now result (Rose (K.faults out.old) (K.faults out.new)) }
+    ensures leaves { MayWrite (status_of result) →
+        Leaves (status_of result) (answer_line basin.now (text_verdict basin.now series.now text.now)) (K.taken out.old) (K.taken out.new) }
+    ensures out_stays { (MayWrite (status_of result) → ⊥) → out.new ≡ out.old }
+{
+    match answer_of(alloc, basin, series, text) {
+        Ok(answer) => tell_answer(&answer, out),
+        Err(_) => Ending::OutOfMemory,
+    }
+}

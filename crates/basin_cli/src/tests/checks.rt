@@ -1,0 +1,371 @@
+//! Results that are accepted and refuted.
+use super::basins::{
+    CANAL_1900, JUNIOR_DRY, JUNIOR_SHORT, LAKE, NOTHING_WANTED, ORDINARY, ORDINARY_SERIES,
+    ORDINARY_TEXT, OWN_BRANCHES, POOL, RETURNS, TROUT, TWO_CANALS,
+};
+use super::{NEVER, SERVED, expect, files};
+use crate::Status;
+use std::alloc::Global;
+use std::process::Abort;
+use std::test::Fail;
+
+/// A text with other lines in the place of one. Lines count from 1.
+fn with_line(alloc: Global, text: &str, number: usize, put: &str) -> Result<String, Fail> {
+    let mut changed = String::new(alloc);
+    for (place, line) in text.lines().enumerate() {
+        if number.checked_sub(1) == Some(place) {
+            changed.push_str(put)?;
+        } else {
+            changed.push_str(line)?;
+            changed.push_str("\n")?;
+        }
+    }
+    Ok(changed)
+}
+
+/// Checks a result, and compares the answer.
+fn checks<R: Abort + AllocGlobal>(
+    rt: &R,
+    basin: &str,
+    series: &str,
+    text: &str,
+    want: (Status, &str),
+) -> Result<(), Fail> {
+    let mut set = files(rt.alloc(), basin, series)?;
+    set.result.extend_from_slice(text.as_bytes())?;
+    let name = if series.is_empty() { "-" } else { "SERIES" };
+    expect(
+        rt,
+        &["check", "BASIN", name, "RESULT"],
+        set,
+        (want.0, want.1, ""),
+    )
+}
+
+/// What the program writes is accepted.
+#[test]
+fn accepts_what_is_written(rt: HostRuntime) -> Result<(), Fail> {
+    for (basin, text) in SERVED {
+        let months = text
+            .lines()
+            .filter(|line| line.starts_with("month "))
+            .count();
+        let answer = format!(in rt.alloc(); "checked {months}\n")?;
+        checks(&rt, basin, "", text, (Status::Done, answer.as_str()))?;
+    }
+    let yes = (Status::Done, "checked 2\n");
+    checks(&rt, ORDINARY, ORDINARY_SERIES, ORDINARY_TEXT, yes)
+}
+
+/// Texts by hand with other tight cuts and other flows: a basin, its text, a line and what stands in its place.
+const BY_HAND: [((&str, &str), usize, &str); 4] = [
+    // The new right's node and the old one's, without the mouth: 80 come in, and 60 are kept.
+    (JUNIOR_SHORT, 12, ""),
+    // The same set for the old right, which lets in 50, and for the new one, for which none of them is left.
+    (JUNIOR_DRY, 12, ""),
+    (JUNIOR_DRY, 16, ""),
+    // And with trout on the link between the two, which keep nothing of what leaves the set.
+    (TROUT, 13, ""),
+];
+
+#[test]
+fn accepts_other_cuts(rt: HostRuntime) -> Result<(), Fail> {
+    for ((basin, text), line, put) in BY_HAND {
+        let changed = with_line(rt.alloc(), text, line, put)?;
+        checks(
+            &rt,
+            basin,
+            "",
+            changed.as_str(),
+            (Status::Done, "checked 1\n"),
+        )?;
+    }
+    Ok(())
+}
+
+/// Two springs above one user, who may take the water of either.
+const EITHER_SPRING: &str = r#"format = 1
+first_month = "1900-01"
+months = 1
+[[node]]
+name = "p"
+inflow = 10
+[[node]]
+name = "q"
+inflow = 10
+[[node]]
+name = "d"
+[[node]]
+name = "m"
+outlet = true
+[[link]]
+name = "pm"
+from = "p"
+to = "m"
+[[link]]
+name = "qm"
+from = "q"
+to = "m"
+[[link]]
+name = "dm"
+from = "d"
+to = "m"
+[[link]]
+name = "pd"
+from = "p"
+to = "d"
+per_day = 1
+[[link]]
+name = "qd"
+from = "q"
+to = "d"
+per_day = 1
+[[diversion]]
+name = "old"
+node = "d"
+date = "1890-01-01"
+want = 10
+"#;
+
+/// The flows on the five links, in which the user is served.
+const SERVING_FLOWS: [&str; 3] = [
+    "flow pm 0\nflow qm 10\nflow dm 0\nflow pd 10\nflow qd 0\n",
+    "flow pm 10\nflow qm 0\nflow dm 0\nflow pd 0\nflow qd 10\n",
+    "flow pm 3\nflow qm 6\nflow dm 1\nflow pd 7\nflow qd 4\n",
+];
+
+#[test]
+fn accepts_other_flows(rt: HostRuntime) -> Result<(), Fail> {
+    for flows in SERVING_FLOWS {
+        let text = format!(in rt.alloc();
+            "river-result 1\nrun 1900-01 1\nmonth 1900-01\n{flows}deliver old 10 10\nout m 10\nend\ndone 1\n"
+        )?;
+        checks(
+            &rt,
+            EITHER_SPRING,
+            "",
+            text.as_str(),
+            (Status::Done, "checked 1\n"),
+        )?;
+    }
+    Ok(())
+}
+
+/// An instream right that is short: its cut holds the spring and not the mouth.
+const SHORT_INSTREAM: (&str, &str) = (
+    r#"format = 1
+first_month = "1900-01"
+months = 1
+[[node]]
+name = "top"
+inflow = 50
+[[node]]
+name = "mouth"
+outlet = true
+[[link]]
+name = "a"
+from = "top"
+to = "mouth"
+[[instream]]
+name = "fish"
+link = "a"
+date = "1880-01-01"
+want = 80
+"#,
+    r#"river-result 1
+run 1900-01 1
+month 1900-01
+flow a 50
+deliver fish 50 80
+out mouth 50
+call fish
+in top
+end
+done 1
+"#,
+);
+
+/// A basin and its text, the number of a line, what is put in its place, and the answer.
+const REFUTED: [((&str, &str), usize, &str, &str); 42] = [
+    // Behind the end.
+    (JUNIOR_DRY, 19, "done 1\nx", "refuted 20 AfterEnd\n"),
+    (JUNIOR_DRY, 19, "done 1\n\n", "refuted 20 AfterEnd\n"),
+    (JUNIOR_DRY, 19, "done 1\ndone 1\n", "refuted 20 AfterEnd\n"),
+    // Lines that aren't of the form.
+    (JUNIOR_DRY, 1, "river-result 2\n", "refuted 1 BadLine\n"),
+    (JUNIOR_DRY, 4, "flow a 050\n", "refuted 4 BadLine\n"),
+    (JUNIOR_DRY, 5, "flow c 0\n", "refuted 5 BadLine\n"),
+    (JUNIOR_DRY, 5, "", "refuted 5 BadLine\n"),
+    (JUNIOR_DRY, 17, "called old new\n", "refuted 17 BadLine\n"),
+    // Sets that are no cuts, and cuts that aren't tight.
+    (JUNIOR_DRY, 10, "", "refuted 9 CutLoose\n"),
+    (JUNIOR_DRY, 11, "", "refuted 9 CutLoose\n"),
+    (JUNIOR_DRY, 14, "", "refuted 13 CutLoose\n"),
+    (OWN_BRANCHES, 10, "in b\n", "refuted 9 CutLoose\n"),
+    (
+        SHORT_INSTREAM,
+        8,
+        "in top\nin mouth\n",
+        "refuted 7 CutLoose\n",
+    ),
+    (SHORT_INSTREAM, 8, "in mouth\n", "refuted 7 CutLoose\n"),
+    // A short right without a set.
+    (SHORT_INSTREAM, 7, "end\n", "refuted 7 CutMissing\n"),
+    (JUNIOR_DRY, 9, "call new\n", "refuted 9 CutMissing\n"),
+    // A set for a right that has what it wants.
+    (JUNIOR_SHORT, 9, "call old\n", "refuted 9 CutNeedless\n"),
+    (NOTHING_WANTED, 8, "call fish\n", "refuted 8 CutNeedless\n"),
+    // Callers.
+    (JUNIOR_DRY, 17, "", "refuted 17 Called\n"),
+    (
+        JUNIOR_SHORT,
+        13,
+        "called new old\nend\n",
+        "refuted 13 Called\n",
+    ),
+    (LAKE, 17, "called high dead\n", "refuted 17 Called\n"),
+    (LAKE, 17, "", "refuted 17 Called\n"),
+    // Another run.
+    (JUNIOR_DRY, 2, "run 1900-02 1\n", "refuted 2 Head\n"),
+    (JUNIOR_DRY, 2, "run 1900-01 2\n", "refuted 2 Head\n"),
+    // Storage, evaporation and returns.
+    (LAKE, 4, "open lake 61\n", "refuted 4 Opening\n"),
+    (POOL, 12, "open lake 60\n", "refuted 12 Opening\n"),
+    (LAKE, 5, "evap lake 1\n", "refuted 5 Evaporation\n"),
+    (POOL, 13, "evap lake 100\n", "refuted 13 Evaporation\n"),
+    (RETURNS, 4, "return mouth 3\n", "refuted 4 Return\n"),
+    (RETURNS, 28, "return mouth 3\n", "refuted 28 Return\n"),
+    // Flows, deliveries and balances.
+    (CANAL_1900, 6, "flow hd 57\n", "refuted 6 Flow\n"),
+    (TWO_CANALS, 7, "flow pd 32\n", "refuted 7 Flow\n"),
+    (
+        JUNIOR_SHORT,
+        6,
+        "deliver old 60 61\n",
+        "refuted 6 Delivery\n",
+    ),
+    (
+        JUNIOR_SHORT,
+        6,
+        "deliver old 61 60\n",
+        "refuted 6 Delivery\n",
+    ),
+    (TROUT, 6, "deliver fish 29 30\n", "refuted 6 Delivery\n"),
+    (OWN_BRANCHES, 5, "flow bm 41\n", "refuted 8 Balance\n"),
+    (JUNIOR_SHORT, 8, "out mouth 1\n", "refuted 8 Balance\n"),
+    (LAKE, 18, "close lake 21\n", "refuted 18 Closing\n"),
+    (POOL, 9, "close lake 99\n", "refuted 9 Closing\n"),
+    // Texts that stop.
+    (JUNIOR_DRY, 19, "", "refuted 19 EarlyEnd\n"),
+    (JUNIOR_DRY, 19, "done 1", "refuted 19 EarlyEnd\n"),
+    (POOL, 18, "", "refuted 18 BadLine\n"),
+];
+
+#[test]
+fn refutes_the_first_line_at_fault(rt: HostRuntime) -> Result<(), Fail> {
+    for ((basin, text), line, put, answer) in REFUTED {
+        let changed = with_line(rt.alloc(), text, line, put)?;
+        checks(&rt, basin, "", changed.as_str(), (Status::No, answer))?;
+    }
+    Ok(())
+}
+
+/// Whole texts and the answers: two faults in one line, of which the first kind is answered, and in two lines, of which the
+/// first line is.
+const TWICE: [((&str, &str), &str, &str); 6] = [
+    (JUNIOR_DRY, "", "refuted 1 EarlyEnd\n"),
+    (JUNIOR_DRY, "x\n", "refuted 1 BadLine\n"),
+    // Less for the senior than there was: its set lets 50 in, and it got 40.
+    (
+        JUNIOR_DRY,
+        "river-result 1\nrun 1900-01 1\nmonth 1900-01\nflow a 40\nflow b 0\ndeliver old 40 60\ndeliver new 10 50\nout mouth 0\ncall old\nin top\nin mid\nin mouth\ncall new\nin top\nin mid\nin mouth\ncalled new old\nend\ndone 1\n",
+        "refuted 9 CutLoose\n",
+    ),
+    // The junior has no set, and the line that passes over it ends the senior's, which is loose.
+    (
+        JUNIOR_DRY,
+        "river-result 1\nrun 1900-01 1\nmonth 1900-01\nflow a 50\nflow b 0\ndeliver old 50 60\ndeliver new 0 50\nout mouth 0\ncall old\nin mid\nend\ndone 1\n",
+        "refuted 9 CutLoose\n",
+    ),
+    // The lake opens and loses other amounts.
+    (
+        LAKE,
+        "river-result 1\nrun 1900-01 1\nmonth 1900-01\nopen lake 61\nevap lake 1\n",
+        "refuted 4 Opening\n",
+    ),
+    // The want is another, and more than it is delivered.
+    (
+        JUNIOR_SHORT,
+        "river-result 1\nrun 1900-01 1\nmonth 1900-01\nflow a 60\nflow b 0\ndeliver old 70 61\n",
+        "refuted 6 Delivery\n",
+    ),
+];
+
+#[test]
+fn refutes_for_the_first_of_two_faults(rt: HostRuntime) -> Result<(), Fail> {
+    for ((basin, _text), text, answer) in TWICE {
+        checks(&rt, basin, "", text, (Status::No, answer))?;
+    }
+    Ok(())
+}
+
+/// Lines of the ordinary basin's text that are changed: remainders, evaporation, callers and takes over two months.
+const ORDINARY_REFUTED: [(usize, &str, &str); 8] = [
+    (5, "evap lake 441\n", "refuted 5 Evaporation\n"),
+    (6, "return gauge 1\n", "refuted 6 Return\n"),
+    (33, "called city canalco\n", "refuted 33 Called\n"),
+    (37, "open lake 5461\n", "refuted 37 Opening\n"),
+    (38, "evap lake 272\n", "refuted 38 Evaporation\n"),
+    (39, "return gauge 774\n", "refuted 39 Return\n"),
+    (45, "flow c1 3101\n", "refuted 45 Flow\n"),
+    (55, "", "refuted 54 CutLoose\n"),
+];
+
+#[test]
+fn refutes_in_later_months(rt: HostRuntime) -> Result<(), Fail> {
+    for (line, put, answer) in ORDINARY_REFUTED {
+        let changed = with_line(rt.alloc(), ORDINARY_TEXT, line, put)?;
+        checks(
+            &rt,
+            ORDINARY,
+            ORDINARY_SERIES,
+            changed.as_str(),
+            (Status::No, answer),
+        )?;
+    }
+    Ok(())
+}
+
+/// A rest of more than 128 bytes is a line.
+#[test]
+fn takes_a_long_rest_for_a_line(rt: HostRuntime) -> Result<(), Fail> {
+    for (count, answer) in [
+        (200usize, "refuted 1 BadLine\n"),
+        (128, "refuted 1 EarlyEnd\n"),
+    ] {
+        let mut set = files(rt.alloc(), JUNIOR_DRY.0, "")?;
+        set.result = vec![in rt.alloc(); 120; count]?;
+        let words = ["check", "BASIN", "-", "RESULT"];
+        expect(&rt, &words, set, (Status::No, answer, ""))?;
+    }
+    Ok(())
+}
+
+#[test]
+fn tells_what_fails_in_a_check(rt: HostRuntime) -> Result<(), Fail> {
+    let words = ["check", "BASIN", "SERIES", "RESULT"];
+    let table = [
+        (0, NEVER, Status::ReadFault, "read: BASIN\n"),
+        (1, NEVER, Status::ReadFault, "read: SERIES\n"),
+        (2, NEVER, Status::ReadFault, "read: RESULT\n"),
+        (NEVER, 0, Status::WriteFault, "write: failed\n"),
+    ];
+    for (shelf_fails, out_fails, status, line) in table {
+        let mut set = files(rt.alloc(), ORDINARY, ORDINARY_SERIES)?;
+        set.result.extend_from_slice(ORDINARY_TEXT.as_bytes())?;
+        set.shelf_fails = shelf_fails;
+        set.out_fails = out_fails;
+        expect(&rt, &words, set, (status, "", line))?;
+    }
+    Ok(())
+}

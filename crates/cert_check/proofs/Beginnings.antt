@@ -1,0 +1,157 @@
+-- What a checker begins with.
+use Rattle.std.proofs.Common.{◌≡◌, ℕ, zero, suc, ◌+◌, ◌<◌, ◌≤◌, Bool, true, false, refl, sym, ap, ◌∙◌, arith, inl, inr, List, [], ◌∷◌, ◌++◌, length, map, replicate, filter, add-one, zero-add}
+use Rattle.std.specs.Prelude.{Option, Some, None, ◌&&◌, nat_le, slice_index, slice_set, if◌then◌else◌}
+use Rattle.std.specs.List.{list_all}
+use Rattle.std.proofs.lemmas.Bool.{cases_eq}
+use Rattle.std.proofs.lemmas.Bool.Decides.{nat_tests}
+use Rattle.std.proofs.lemmas.List.{length-map, length-replicate}
+use Rattle.std.proofs.lemmas.List.Folds.{list_all-append}
+use Rattle.std.proofs.lemmas.List.Elements.{filter-append}
+use Rattle.std.proofs.Math.ListN.{length-set}
+use Rattle.lag_returns.specs.Lags as lag
+use Rattle.month_terms.specs.Terms.{FitsRecord, HasReturned}
+use Rattle.water_model.specs.CutSets.{CutSets, set_of, with_set, with_room, without_sets, has_room}
+use Rattle.water_model.specs.Lookups.{of_entry, has}
+use Rattle.water_model.specs.Places.{numbers_from}
+use Rattle.water_model.specs.Valid.{IsValidBasin}
+use Rattle.water_model.specs.declared.types.Basin.{Basin}
+use Rattle.water_model.specs.declared.types.Inflows.{Inflows}
+use Rattle.water_model.specs.declared.types.MonthRecord.{MonthRecord}
+use Rattle.result_reader.specs.Standing as reader
+use Rattle.result_reader.specs.Telling.{nothing_told}
+use Rattle.cert_check.specs.Beginning.{IsBlank}
+use Rattle.cert_check.specs.Keeping.{Keeps}
+use Rattle.cert_check.specs.Standing.{IsBookOf}
+use Rattle.cert_check.specs.declared.account.Account.{Account}
+use Rattle.cert_check.specs.declared.book.Book.{Book}
+use Rattle.cert_check.proofs.Calls.{set_apart}
+
+-- One outlet more.
+
+numbers_more : (from count : ℕ) → numbers_from from (suc count) ≡ numbers_from from count ++ (from + count) ∷ []
+unfolding numbers_from
+numbers_more from zero = let same : from ≡ from + zero = omega arith in ap (λ n. n ∷ []) same
+numbers_more from (suc count) =
+    let last : suc from + count ≡ from + suc count = omega arith in
+    ap (λ ns. from ∷ ns) (numbers_more (suc from) count ∙ ap (λ n. numbers_from (suc from) count ++ n ∷ []) last)
+
+pub no_outlet : (p : ℕ → Bool) (n : ℕ) → list_all (λ other. nat_le other n) (filter p (numbers_from 0 0)) ≡ nat_le 0 n
+unfolding numbers_from
+no_outlet p n = least n
+  where
+    least : (n : ℕ) → true ≡ nat_le 0 n
+    least n = grind (arith, nat_tests)
+
+pub last_more : (p : ℕ → Bool) (k last n : ℕ) → last ≤ k → list_all (λ other. nat_le other n) (filter p (numbers_from 0 k)) ≡ nat_le last n →
+    list_all (λ other. nat_le other n) (filter p (numbers_from 0 (k + 1))) ≡ nat_le (if p k then k else last) n
+last_more p k last n most h =
+    rw add-one (ap (λ xs. list_all (λ other. nat_le other n) (filter p xs)) (numbers_more 0 k)
+    ∙ (ap (list_all (λ other. nat_le other n)) (filter-append p (numbers_from 0 k) ((0 + k) ∷ []))
+    ∙ (list_all-append (λ other. nat_le other n) (filter p (numbers_from 0 k)) (filter p ((0 + k) ∷ []))
+    ∙ (rw zero-add (by_test (p k))))))
+  where
+    both : (x y n : ℕ) → x ≤ y → nat_le x n && (nat_le y n && true) ≡ nat_le y n
+    both x y n l = grind (arith, nat_tests)
+
+    alone : (q : Bool) → q && true ≡ q
+    alone true = refl
+    alone false = refl
+
+    by_test : (t : Bool) → list_all (λ other. nat_le other n) (filter p (numbers_from 0 k)) && list_all (λ other. nat_le other n) (if t then k ∷ [] else []) ≡ nat_le (if t then k else last) n
+    by_test true = ap (λ q. q && (nat_le k n && true)) h ∙ both last k n most
+    by_test false = alone (list_all (λ other. nat_le other n) (filter p (numbers_from 0 k))) ∙ h
+
+pub most_more : (t : Bool) (k last : ℕ) → last ≤ k → (if t then k else last) ≤ k + 1
+most_more true k last l = omega arith
+most_more false k last l = omega arith
+
+-- Room for one set more.
+
+pub free_more : (c : CutSets) (right r : ℕ) (set : Option (List Bool)) → right + 1 ≤ r → set_of c r ≡ None → set_of (with_set c right set) r ≡ None
+free_more c right r set l h = set_apart c right r set (λ e. omega arith) ∙ h
+
+pub room_here : (c : CutSets) (right r : ℕ) → right < length c.room → r < right + 1 → ((k : ℕ) → k < right → has_room c k ≡ true) → has (slice_set c.room right true) r ≡ true
+room_here c right r l m h = in_list c.room right r l m h
+  where
+    in_list : (xs : List Bool) (i r : ℕ) → i < length xs → r < i + 1 → ((k : ℕ) → k < i → has xs k ≡ true) → has (slice_set xs i true) r ≡ true
+    in_list [] i r l m h = absurd (omega arith)
+    in_list (x ∷ xs) zero zero l m h = refl
+    in_list (x ∷ xs) zero (suc r) l m h = absurd (omega arith)
+    in_list (x ∷ xs) (suc i) zero l m h = h zero (omega arith)
+    in_list (x ∷ xs) (suc i) (suc r) l m h = in_list xs i r (omega arith) (omega arith) (λ k n. h (suc k) (omega arith))
+
+pub nothing_free : (n r : ℕ) → of_entry (replicate {A = Option (List Bool)} n None) r (λ set. set) None ≡ None
+nothing_free zero r = refl
+nothing_free (suc n) zero = refl
+nothing_free (suc n) (suc r) = nothing_free n r
+
+pub emptied : (sets : List (Option (List Bool))) (n : ℕ) → length sets ≡ n → map {A = Option (List Bool)} {B = Option (List Bool)} (λ _. None) sets ≡ replicate n None
+emptied [] zero e = refl
+emptied [] (suc n) e = absurd (omega (arith, e))
+emptied (x ∷ sets) zero e = absurd (omega (arith, e))
+emptied (x ∷ sets) (suc n) e = ap (λ ys. None ∷ ys) (emptied sets n (omega (arith, e)))
+
+-- An account of nothing.
+
+pub zeros_count : (xs : List ℕ) (n m : ℕ) → xs ≡ replicate n 0 → n ≡ m → length xs ≡ m
+zeros_count xs n m e h = ap length e ∙ (length-replicate n 0 ∙ h)
+
+pub zeros_are : (xs : List ℕ) (n m : ℕ) → xs ≡ replicate n 0 → n ≡ m → xs ≡ replicate m 0
+zeros_are xs n m e h = e ∙ ap (λ k. replicate {A = ℕ} k 0) h
+
+pub record Empty (b : Basin) (a : Account) : Type 0 where
+  pub done : a.done ≡ 0
+  pub lags : lag.StandsFor a.lags b.returns []
+  pub opens : a.opens ≡ map (λ v. v.opening) b.reservoirs
+  pub comes : HasReturned b [] a.comes
+  pub month : IsBlank b a.month
+  pub calling : a.calling ≡ None
+  pub has_supply : a.has_supply ≡ false
+  pub closes : length a.closes ≡ length b.reservoirs
+  pub has_closes : a.has_closes ≡ false
+  pub passed : a.passed ≡ 0
+  pub answered : a.answered ≡ 0
+  pub into : length a.into ≡ length b.nodes
+  pub out_of : length a.out_of ≡ length b.nodes
+
+clash : {X : Type 0} → false ≡ true → X
+clash e = cc
+
+pub keeps_nothing : (b : Basin) (series : Inflows) (a : Account) → Empty b a → Keeps b series a (nothing_told b)
+keeps_nothing b series a e = record {
+  fits = record {
+    month = e.month.fits;
+    calendar = e.month.calendar;
+    room = e.month.room;
+    opens = ap length e.opens ∙ length-map b.reservoirs (λ v. v.opening);
+    comes = e.comes.count;
+    closes = e.closes;
+    into = e.into;
+    out_of = e.out_of;
+    calling = λ r is. (let never : None ≡ Some r = sym e.calling ∙ is in cc);
+    passed = omega (arith, e.passed);
+    answered = omega (arith, e.answered);
+  };
+  shows = e.month.shows;
+  calling = e.calling;
+  done = e.done;
+  lags = e.lags;
+  opens = e.opens;
+  comes = e.comes.each;
+  supply = λ h. clash (sym e.has_supply ∙ h);
+  closes = λ h. clash (sym e.has_closes ∙ h);
+  passed = rw e.passed refl;
+  answered = rw e.answered refl;
+}
+
+-- a book of no line
+pub first_book : (b : Basin) (series : Inflows) (k : Book) → k.reader.basin ≡ b → reader.StandsFor k.reader [] → Keeps b series k.account (nothing_told b) →
+    k.read ≡ 0 → k.last_other ≡ 0 → k.ended ≡ false → IsBookOf b series k []
+first_book b series k basin stands account read last ended = record {
+  items = [];
+  verdict = refl;
+  basin = basin;
+  reader = stands;
+  account = account;
+  counts = record { read = read; last_other = last; ended = ended };
+}

@@ -1,0 +1,71 @@
+-- The first row that holds, in parts.
+use Rattle.std.proofs.Common.{◌≡◌, ℕ, Bool, true, false, refl, sym, ap, ◌∙◌, List, [], ◌∷◌, ◌++◌}
+use Rattle.std.specs.Prelude.{Option, Some, None, find, option_map, if◌then◌else◌}
+use Rattle.water_model.specs.declared.item.Item.{Item}
+use Rattle.water_model.specs.declared.item.Item.TheVariants as line
+use Rattle.water_model.specs.declared.types.Basin.{Basin}
+use Rattle.water_model.specs.declared.types.Inflows.{Inflows}
+use Rattle.result_reader.specs.Telling.{Told}
+use Rattle.cert_check.specs.Checking.{Row, rows, first_row}
+use Rattle.cert_check.specs.Coming.{Awaits, HasMonth, HasTold, MayCome, is_within}
+use Rattle.cert_check.specs.FirstRows.{first_of, call_rows, amount_rows, sum_rows}
+use Rattle.cert_check.specs.Keeping.{Keeps}
+use Rattle.cert_check.specs.declared.account.Account.{Account}
+use Rattle.cert_check.specs.declared.refuted.RefutedKind.{RefutedKind}
+
+found : (xs : List Row) → option_map (λ (row : Row). row.0) (find (λ (row : Row). row.1) xs) ≡ first_of xs
+found [] = refl
+found ((kind, holds) ∷ xs) = by_test holds (found xs)
+  where
+    by_test : (t : Bool) → option_map (λ (row : Row). row.0) (find (λ (row : Row). row.1) xs) ≡ first_of xs →
+        option_map (λ (row : Row). row.0) (find (λ (row : Row). row.1) ((kind, t) ∷ xs)) ≡ (if t then Some kind else first_of xs)
+    by_test true h = refl
+    by_test false h = h
+
+pub first_is : (b : Basin) (series : Inflows) (t : Told) (i : Item) → first_row b series t i ≡ first_of (rows b series t i)
+unfolding first_row
+first_is b series t i = found (rows b series t i)
+
+-- the first of some rows and others
+pub some_first : (xs ys : List Row) (kind : RefutedKind) → first_of xs ≡ Some kind → first_of (xs ++ ys) ≡ Some kind
+some_first [] ys kind h = cc
+some_first ((k, true) ∷ xs) ys kind h = h
+some_first ((k, false) ∷ xs) ys kind h = some_first xs ys kind h
+
+pub none_first : (xs ys : List Row) → first_of xs ≡ None → first_of (xs ++ ys) ≡ first_of ys
+none_first [] ys h = refl
+none_first ((k, true) ∷ xs) ys h = cc
+none_first ((k, false) ∷ xs) ys h = none_first xs ys h
+
+-- no amount is compared between the months
+pub outer_rows : (b : Basin) (series : Inflows) (t : Told) (i : Item) → is_within i ≡ false → first_of (amount_rows b series t i ++ sum_rows b series t i) ≡ None
+outer_rows b series t line.Title h = refl
+outer_rows b series t (line.Run first months) h = refl
+outer_rows b series t (line.Month month) h = refl
+outer_rows b series t (line.Done months) h = refl
+outer_rows b series t (line.Opening v amount) h = cc
+outer_rows b series t (line.Evaporated v amount) h = cc
+outer_rows b series t (line.Returned n amount) h = cc
+outer_rows b series t (line.Used r amount) h = cc
+outer_rows b series t (line.Flow e amount) h = cc
+outer_rows b series t (line.Deliver r amount want) h = cc
+outer_rows b series t (line.Outflow n amount) h = cc
+outer_rows b series t (line.Call r) h = cc
+outer_rows b series t (line.Member n) h = cc
+outer_rows b series t (line.Called r caller) h = cc
+outer_rows b series t (line.Closing v amount) h = cc
+outer_rows b series t line.End h = cc
+
+-- What is known stays while what is told stays.
+
+pub still_awaits : (b : Basin) (series : Inflows) (a c : Account) (i : Item) → Awaits b series a i → ((t : Told) → Keeps b series a t → Keeps b series c t) → Awaits b series c i
+still_awaits b series a c i h k = record { told = h.told; keeps = k h.told h.keeps; comes = h.comes }
+
+pub still_told : (b : Basin) (series : Inflows) (a c : Account) (i : Item) → Awaits b series a i → ((t : Told) → Keeps b series a t → Keeps b series c t) → HasTold b series c
+still_told b series a c i h k = record { told = h.told; keeps = k h.told h.keeps }
+
+pub has_month : (b : Basin) (series : Inflows) (a c : Account) (i : Item) → is_within i ≡ true → Awaits b series a i → ((t : Told) → Keeps b series a t → Keeps b series c t) → HasMonth b series c
+has_month b series a c i within h k = record { told = h.told; keeps = k h.told h.keeps; partial = h.comes.partial; under_way = h.comes.inner within }
+
+pub month_still : (b : Basin) (series : Inflows) (a c : Account) → HasMonth b series a → ((t : Told) → Keeps b series a t → Keeps b series c t) → HasMonth b series c
+month_still b series a c h k = record { told = h.told; keeps = k h.told h.keeps; partial = h.partial; under_way = h.under_way }

@@ -1,0 +1,132 @@
+-- Which rights a line passes over, by the order of seniority.
+use Rattle.std.proofs.Common.{◌≡◌, ℕ, zero, suc, ◌+◌, ◌<◌, ◌≤◌, Bool, true, false, refl, sym, ap, subst, ◌∙◌, arith, inl, inr, List, [], ◌∷◌, length, take, drop}
+use Rattle.std.specs.Prelude.{Option, Some, None, ◌⊎◌, ◌&&◌, ◌||◌, is_none, slice_index}
+use Rattle.std.specs.List.{list_any}
+use Rattle.std.proofs.lemmas.Bool.{cases_Bool}
+use Rattle.water_model.specs.Basin.{is_senior}
+use Rattle.water_model.specs.History.{cut_of}
+use Rattle.water_model.specs.Places.{seniors_first}
+use Rattle.water_model.specs.Valid.{IsValidBasin}
+use Rattle.water_model.specs.declared.item.Item.{Item}
+use Rattle.water_model.specs.declared.item.Item.TheVariants as line
+use Rattle.water_model.specs.declared.types.Basin.{Basin}
+use Rattle.water_model.specs.declared.types.Inflows.{Inflows}
+use Rattle.water_model.specs.declared.types.MonthRecord.{MonthRecord}
+use Rattle.water_model.proofs.Order.{Has, IsOrdered, seniors_have, seniors_below, seniors_ordered}
+use Rattle.water_model.proofs.Seniority.{senior_trans}
+use Rattle.result_reader.specs.Telling.{Told}
+use Rattle.cert_check.specs.Checking.{is_short, passes, cut_missing}
+use Rattle.cert_check.specs.Keeping.{Keeps, lacks_call}
+use Rattle.cert_check.specs.Walks.{ArePassed, IsMissed}
+use Rattle.cert_check.specs.declared.account.Account.{Account}
+use Rattle.cert_check.proofs.Calls.{missing_fails, none_missing}
+
+clash : {X : Type 0} → true ≡ false → X
+clash e = cc
+
+-- an element stands in front of a place or behind it
+by_place : (xs : List ℕ) (k y : ℕ) → Has xs y → Has (take k xs) y ⊎ Has (drop k xs) y
+by_place xs zero y h = inr h
+by_place [] (suc k) y h = absurd h
+by_place (x ∷ xs) (suc k) y (inl e) = inl (inl e)
+by_place (x ∷ xs) (suc k) y (inr h) = elim (by_place xs k y h) [ inl front ↦ inl (inr front) | inr behind ↦ inr behind ]
+
+-- nothing in a list passes a test that nothing in it passes
+none_in : (p : ℕ → Bool) (xs : List ℕ) (y : ℕ) → list_any p xs ≡ false → Has xs y → p y ≡ false
+none_in p [] y h m = absurd m
+none_in p (x ∷ xs) y h (inl e) = ap p e ∙ (parts (p x) (list_any p xs) h).0
+  where
+    parts : (q r : Bool) → q || r ≡ false → (q ≡ false) × (r ≡ false)
+    parts true r k = cc
+    parts false r k = (refl, k)
+none_in p (x ∷ xs) y h (inr m) = none_in p xs y (parts (p x) (list_any p xs) h).1 m
+  where
+    parts : (q r : Bool) → q || r ≡ false → (q ≡ false) × (r ≡ false)
+    parts true r k = cc
+    parts false r k = (refl, k)
+
+-- behind a place each right is the one there, or junior to it
+behind_place : (b : Basin) (xs : List ℕ) (k y : ℕ) → IsOrdered b.rights xs → Has (drop k xs) y →
+    (k < length xs) × ((y ≡ slice_index xs k) ⊎ (is_senior b (slice_index xs k) y ≡ true))
+behind_place b [] zero y o m = absurd m
+behind_place b [] (suc k) y o m = absurd m
+behind_place b (x ∷ xs) zero y o (inl e) = (omega arith, inl e)
+behind_place b (x ∷ xs) zero y o (inr m) = (omega arith, inr (o.0 y m))
+behind_place b (x ∷ xs) (suc k) y o m = (let f = behind_place b xs k y o.1 m in (omega (arith, f.0), f.1))
+
+-- a line passes over no right behind one that it doesn't pass over
+not_passed : (b : Basin) (item : Item) (x y : ℕ) → passes b item x ≡ false → (y ≡ x) ⊎ (is_senior b x y ≡ true) → passes b item y ≡ false
+not_passed b item x y h (inl e) = ap (passes b item) e ∙ h
+not_passed b (line.Call r) x y h (inr senior) = elim (cases_Bool (is_senior b y r)) [
+  | inl yes' ↦ clash (sym (senior_trans b.rights x y r senior yes') ∙ h)
+  | inr no' ↦ no'
+]
+not_passed b line.Title x y h (inr senior) = h
+not_passed b (line.Run first months) x y h (inr senior) = h
+not_passed b (line.Month month) x y h (inr senior) = h
+not_passed b (line.Opening v amount) x y h (inr senior) = h
+not_passed b (line.Evaporated v amount) x y h (inr senior) = h
+not_passed b (line.Returned n amount) x y h (inr senior) = h
+not_passed b (line.Used r amount) x y h (inr senior) = h
+not_passed b (line.Flow e amount) x y h (inr senior) = h
+not_passed b (line.Deliver r amount want) x y h (inr senior) = h
+not_passed b (line.Outflow n amount) x y h (inr senior) = h
+not_passed b (line.Member n) x y h (inr senior) = h
+not_passed b (line.Called r caller) x y h (inr senior) = h
+not_passed b (line.Closing v amount) x y h (inr senior) = h
+not_passed b line.End x y h (inr senior) = h
+not_passed b (line.Done months) x y h (inr senior) = h
+
+-- rights that lack their calls by what is told do so by the account's record
+pub lacks_told : (b : Basin) (series : Inflows) (a : Account) (t : Told) → Keeps b series a t → (xs : List ℕ) → list_any (lacks_call a.month) xs ≡ list_any (lacks_call t.now) xs
+lacks_told b series a t k xs = rw (k.shows.delivered, k.shows.want, k.shows.sets) refl
+
+pub none_missed : (b : Basin) (series : Inflows) (a : Account) (t : Told) (item : Item) (count : ℕ) → IsValidBasin b → Keeps b series a t → ArePassed b a.month item count →
+    cut_missing b t item ≡ false
+none_missed b series a t item count valid k p = missing_fails b t item (λ r l short free passed. missed r short free passed (by_place (seniors_first b) count r (seniors_have b.rights r l)))
+  where
+    lacks : (r : ℕ) → is_short t.now r ≡ true → cut_of t.now r ≡ None → lacks_call t.now r ≡ true
+    lacks r short free = rw (short, free) refl
+
+    missed : (r : ℕ) → is_short t.now r ≡ true → cut_of t.now r ≡ None → passes b item r ≡ true → Has (take count (seniors_first b)) r ⊎ Has (drop count (seniors_first b)) r → ⊥
+    missed r short free passed (inl front) =
+        clash (sym (lacks r short free) ∙ none_in (lacks_call t.now) (take count (seniors_first b)) r (sym (lacks_told b series a t k (take count (seniors_first b))) ∙ p.settled) front)
+    missed r short free passed (inr behind) =
+        let place = behind_place b (seniors_first b) count r (seniors_ordered b.rights valid.roll.strict) behind in
+        clash (sym passed ∙ not_passed b item (slice_index (seniors_first b) count) r (p.next place.0) place.1)
+
+pub some_missed : (b : Basin) (series : Inflows) (a : Account) (t : Told) (item : Item) → Keeps b series a t → IsMissed b a.month item → cut_missing b t item ≡ true
+some_missed b series a t item k m = elim (cases_Bool (cut_missing b t item)) [
+  | inl yes' ↦ yes'
+  | inr no' ↦ absurd (never no')
+]
+  where
+    r : ℕ
+    r = slice_index (seniors_first b) m.place
+
+    has_at : (xs : List ℕ) (k : ℕ) → k < length xs → Has xs (slice_index xs k)
+    has_at [] k l = omega (arith, l)
+    has_at (x ∷ xs) zero l = inl refl
+    has_at (x ∷ xs) (suc k) l = inr (has_at xs k (omega arith))
+
+    told : lacks_call t.now r ≡ true
+    told = sym (one (lacks_call a.month) (lacks_call t.now) (lacks_told b series a t k (r ∷ []))) ∙ m.lacks
+      where
+        either : (x y : Bool) → x || false ≡ y || false → x ≡ y
+        either true true e = refl
+        either true false e = e
+        either false true e = e
+        either false false e = refl
+
+        one : (p q : ℕ → Bool) → list_any p (r ∷ []) ≡ list_any q (r ∷ []) → p r ≡ q r
+        one p q e = either (p r) (q r) e
+
+    parts : (p q : Bool) → p && q ≡ true → (p ≡ true) × (q ≡ true)
+    parts true q e = (refl, e)
+    parts false q e = cc
+
+    never : cut_missing b t item ≡ false → ⊥
+    never none =
+        let two = parts (is_short t.now r) (is_none (cut_of t.now r)) told in
+        let set = none_missing b t item none r (seniors_below b.rights r (has_at (seniors_first b) m.place m.within)) two.0 m.passed in
+        clash (sym two.1 ∙ ap is_none set.1)

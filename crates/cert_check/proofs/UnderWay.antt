@@ -1,0 +1,357 @@
+-- What the lines of a month tell stays within bounds.
+use Rattle.std.proofs.Common.{◌≡◌, ℕ, zero, suc, ◌^◌, ◌<◌, ◌≤◌, Bool, true, false, refl, sym, ap, ◌∙◌, arith, inl, inr, List, [], ◌∷◌, ◌++◌, length, map, fold, replicate}
+use Rattle.std.specs.Prelude.{Option, Some, None, ◌&&◌, ◌||◌, ◌==◌, not, min, nat_lt, is_some, slice_index, slice_get, slice_set, unwrap_or, option_map, if◌then◌else◌}
+use Rattle.std.specs.List.{list_all}
+use Rattle.std.proofs.lemmas.Bool.{cases_lt}
+use Rattle.std.proofs.lemmas.Bool.Decides.{nat_tests}
+use Rattle.std.proofs.lemmas.Option.{slice_get_past}
+use Rattle.water_text.specs.declared.month.Month.{Month}
+use Rattle.water_model.specs.Basin.{instream_link, taking_node}
+use Rattle.water_model.specs.History.{opening_after, cut_of}
+use Rattle.water_model.specs.Hydrology.{run_month, in_year, evaporation, area_at, returned_at, want_of}
+use Rattle.water_model.specs.Lookups.{of_entry}
+use Rattle.water_model.specs.Plans.{carry_of}
+use Rattle.water_model.specs.Valid.{IsValidBasin}
+use Rattle.water_model.specs.declared.item.Item.{Item}
+use Rattle.water_model.specs.declared.item.Item.TheVariants as line
+use Rattle.water_model.specs.declared.types.Basin.{Basin}
+use Rattle.water_model.specs.declared.types.Inflows.{Inflows}
+use Rattle.water_model.specs.declared.types.MonthRecord.{MonthRecord}
+use Rattle.water_model.specs.declared.types.Reservoir.{Reservoir}
+use Rattle.result_text.proofs.Whole.{IsMonth-run_month}
+use Rattle.result_reader.specs.Telling.{Told, tell, blank_month, with_member}
+use Rattle.month_terms.proofs.Adds.{no_numbers}
+use Rattle.month_terms.proofs.Amounts.{want_is, want_most}
+use Rattle.cut_cert.proofs.Bounds.{carry_most}
+use Rattle.cert_check.specs.Checking.{rows, amount_wrong}
+use Rattle.cert_check.specs.Coming.{IsBounded, is_before_called}
+use Rattle.cert_check.proofs.Calls.{set_apart}
+use Rattle.cert_check.proofs.Rows.{NoneHolds, AreGood, is_same}
+
+-- a line within a month, but not its last
+abbrev pub is_amid : Item → Bool
+is_amid (line.Called r caller) = true
+is_amid (line.Closing v amount) = true
+is_amid other = is_before_called other
+
+pub before_is_amid : (i : Item) → is_before_called i ≡ true → is_amid i ≡ true
+before_is_amid (line.Called r caller) h = refl
+before_is_amid (line.Closing v amount) h = refl
+before_is_amid line.Title h = h
+before_is_amid (line.Run first months) h = h
+before_is_amid (line.Month month) h = h
+before_is_amid (line.Opening v amount) h = h
+before_is_amid (line.Evaporated v amount) h = h
+before_is_amid (line.Returned n amount) h = h
+before_is_amid (line.Used r amount) h = h
+before_is_amid (line.Flow e amount) h = h
+before_is_amid (line.Deliver r amount want) h = h
+before_is_amid (line.Outflow n amount) h = h
+before_is_amid (line.Call r) h = h
+before_is_amid (line.Member n) h = h
+before_is_amid line.End h = h
+before_is_amid (line.Done months) h = h
+
+-- what is told within a month
+pub record InMonth (b : Basin) (before : List MonthRecord) (i : ℕ) (t : Told) : Type 0 where
+  pub months : t.months ≡ before
+  pub index : t.now.index ≡ i
+  pub month : t.now.month ≡ run_month b i
+  pub bounded : IsBounded b before t.now
+
+-- one number of a list changes
+
+set_below : (xs : List ℕ) (i v : ℕ) (most : ℕ → ℕ) → ((k : ℕ) → slice_index xs k ≤ most k) → v ≤ most i → (k : ℕ) → slice_index (slice_set xs i v) k ≤ most k
+set_below [] i v most h l k = h k
+set_below (x ∷ xs) zero v most h l zero = l
+set_below (x ∷ xs) zero v most h l (suc k) = h (suc k)
+set_below (x ∷ xs) (suc i) v most h l zero = h zero
+set_below (x ∷ xs) (suc i) v most h l (suc k) = set_below xs i v (λ j. most (suc j)) (λ j. h (suc j)) l k
+
+set_above : (xs : List ℕ) (i v : ℕ) (least : ℕ → ℕ) → ((k : ℕ) → least k ≤ slice_index xs k) → least i ≤ v → (k : ℕ) → least k ≤ slice_index (slice_set xs i v) k
+set_above [] i v least h l k = h k
+set_above (x ∷ xs) zero v least h l zero = l
+set_above (x ∷ xs) zero v least h l (suc k) = h (suc k)
+set_above (x ∷ xs) (suc i) v least h l zero = h zero
+set_above (x ∷ xs) (suc i) v least h l (suc k) = set_above xs i v (λ j. least (suc j)) (λ j. h (suc j)) l k
+
+at_most : (x y : ℕ) → nat_lt x y ≡ false → y ≤ x
+at_most x y h = grind (arith, nat_tests)
+
+-- Bounds on what the rows allow.
+
+evaporated_most : (b : Basin) (v storage place : ℕ) → of_entry b.reservoirs v (λ r. evaporation r.area storage (slice_index r.rate place)) 0 ≤ storage
+evaporated_most b v storage place = by_entry (slice_get b.reservoirs v)
+  where
+    by_entry : (o : Option Reservoir) → unwrap_or (option_map (λ r. evaporation r.area storage (slice_index r.rate place)) o) 0 ≤ storage
+    by_entry None = omega arith
+    by_entry (Some r) = omega arith
+
+carried_most : (b : Basin) → IsValidBasin b → (i e : ℕ) → i < b.months → carry_of b (run_month b i) e ≤ 10 ^ 15
+carried_most b valid i e l = elim (cases_lt e (length b.links)) [
+  | inl within ↦ carry_most b (run_month b i) e valid (IsMonth-run_month b i valid.run l) within
+  | inr past ↦ rw (slice_get_past b.links e past) (omega arith)
+]
+
+wanted_most : (b : Basin) → IsValidBasin b → (series : Inflows) (i r used : ℕ) → want_of b series r i used ≤ 10 ^ 9
+wanted_most b valid series i r used = elim (cases_lt r (length b.rights)) [
+  | inl within ↦ rw (want_is b series r i used valid within) (want_most b (run_month b i) r valid within)
+  | inr past ↦ rw (slice_get_past b.rights r past) (omega arith)
+]
+
+amount_most : (link : Option ℕ) (flow : List ℕ) (amount want : ℕ) → amount_wrong link flow amount want ≡ false → amount ≤ want
+amount_most None flow amount want h = at_most want amount h
+amount_most (Some link) flow amount want h = (let e = is_same amount (min want (slice_index flow link)) h in omega arith)
+
+taken_most : (p : Bool) (amount most : ℕ) → amount ≤ most → (if p then amount else 0) ≤ most
+taken_most true amount most h = h
+taken_most false amount most h = omega arith
+
+both_fail : (p q : Bool) → not p || q ≡ false → (p ≡ true) × (q ≡ false)
+both_fail true q h = (refl, h)
+both_fail false q h = cc
+
+-- one line more
+pub in_month_more : (b : Basin) → IsValidBasin b → (series : Inflows) (before : List MonthRecord) (i : ℕ) → i ≡ length before → i < b.months → (t : Told) (item : Item) →
+    is_amid item ≡ true → NoneHolds (rows b series t item) → InMonth b before i t → InMonth b before i (tell b series t item)
+in_month_more b valid series before i at l t line.Title h n m = m
+in_month_more b valid series before i at l t (line.Run first months) h n m = m
+in_month_more b valid series before i at l t (line.Month month) h n m = (let never : false ≡ true = h in cc)
+in_month_more b valid series before i at l t (line.Opening v amount) h n m =
+    let is : amount ≡ slice_index (opening_after b before) v = is_same amount (slice_index (opening_after b t.months) v) n.1.1.1.1.1.0 ∙ ap (λ ms. slice_index (opening_after b ms) v) m.months in
+    record {
+      months = m.months;
+      index = m.index;
+      month = m.month;
+      bounded = record {
+        opening = set_below t.now.opening v amount (λ k. slice_index (opening_after b before) k) m.bounded.opening (omega (arith, is));
+        evaporated = set_above t.now.opening v amount (λ k. slice_index t.now.evaporated k) m.bounded.evaporated (omega (arith, is, m.bounded.evaporated v, m.bounded.opening v));
+        returned = m.bounded.returned;
+        flow = m.bounded.flow;
+        take = m.bounded.take;
+        delivered = m.bounded.delivered;
+      };
+    }
+in_month_more b valid series before i at l t (line.Evaporated v amount) h n m =
+    let is = is_same amount (of_entry b.reservoirs v (λ r. evaporation r.area (slice_index t.now.opening v) (slice_index r.rate (in_year b t.now.index))) 0) n.1.1.1.1.1.1.0 in
+    record {
+      months = m.months;
+      index = m.index;
+      month = m.month;
+      bounded = record {
+        opening = m.bounded.opening;
+        evaporated = set_below t.now.evaporated v amount (λ k. slice_index t.now.opening k) m.bounded.evaporated (omega (arith, is, evaporated_most b v (slice_index t.now.opening v) (in_year b t.now.index)));
+        returned = m.bounded.returned;
+        flow = m.bounded.flow;
+        take = m.bounded.take;
+        delivered = m.bounded.delivered;
+      };
+    }
+in_month_more b valid series before i at l t (line.Returned k amount) h n m =
+    let is = is_same amount (returned_at b (map (λ m. m.delivered) t.months) k t.now.index) n.1.1.1.1.1.1.1.0 in
+    let same : returned_at b (map (λ m. m.delivered) t.months) k t.now.index ≡ returned_at b (map (λ m. m.delivered) before) k (length before) = rw (m.months, m.index, at) refl in
+    record {
+      months = m.months;
+      index = m.index;
+      month = m.month;
+      bounded = record {
+        opening = m.bounded.opening;
+        evaporated = m.bounded.evaporated;
+        returned = set_below t.now.returned k amount (λ j. returned_at b (map (λ m. m.delivered) before) j (length before)) m.bounded.returned (omega (arith, is, same));
+        flow = m.bounded.flow;
+        take = m.bounded.take;
+        delivered = m.bounded.delivered;
+      };
+    }
+in_month_more b valid series before i at l t (line.Used r amount) h n m = record {
+  months = m.months;
+  index = m.index;
+  month = m.month;
+  bounded = record { opening = m.bounded.opening; evaporated = m.bounded.evaporated; returned = m.bounded.returned; flow = m.bounded.flow; take = m.bounded.take; delivered = m.bounded.delivered };
+}
+in_month_more b valid series before i at l t (line.Flow e amount) h n m =
+    let most = at_most (carry_of b t.now.month e) amount n.1.1.1.1.1.1.1.1.1.0 in
+    let same : carry_of b t.now.month e ≡ carry_of b (run_month b i) e = ap (λ k. carry_of b k e) m.month in
+    record {
+      months = m.months;
+      index = m.index;
+      month = m.month;
+      bounded = record {
+        opening = m.bounded.opening;
+        evaporated = m.bounded.evaporated;
+        returned = m.bounded.returned;
+        flow = set_below t.now.plan.flow e amount (λ k. 10 ^ 15) m.bounded.flow (omega (arith, most, same, carried_most b valid i e l));
+        take = m.bounded.take;
+        delivered = m.bounded.delivered;
+      };
+    }
+in_month_more b valid series before i at l t (line.Deliver r amount want) h n m =
+    let two = both_fail (want == want_of b series r t.now.index (slice_index t.now.used r)) (amount_wrong (instream_link b r) t.now.plan.flow amount want) n.1.1.1.1.1.1.1.1.1.1.0 in
+    let is = equal want (want_of b series r t.now.index (slice_index t.now.used r)) two.0 in
+    let small : amount ≤ 10 ^ 9 = omega (arith, is, wanted_most b valid series t.now.index r (slice_index t.now.used r), amount_most (instream_link b r) t.now.plan.flow amount want two.1) in
+    record {
+      months = m.months;
+      index = m.index;
+      month = m.month;
+      bounded = record {
+        opening = m.bounded.opening;
+        evaporated = m.bounded.evaporated;
+        returned = m.bounded.returned;
+        flow = m.bounded.flow;
+        take = set_below t.now.plan.take r (if is_some (taking_node b r) then amount else 0) (λ k. 10 ^ 9) m.bounded.take (taken_most (is_some (taking_node b r)) amount (10 ^ 9) small);
+        delivered = set_below t.now.delivered r amount (λ k. 10 ^ 9) m.bounded.delivered small;
+      };
+    }
+  where
+    equal : (x y : ℕ) → x == y ≡ true → x ≡ y
+    equal x y e = grind (arith, nat_tests)
+in_month_more b valid series before i at l t (line.Outflow k amount) h n m = record {
+  months = m.months;
+  index = m.index;
+  month = m.month;
+  bounded = record { opening = m.bounded.opening; evaporated = m.bounded.evaporated; returned = m.bounded.returned; flow = m.bounded.flow; take = m.bounded.take; delivered = m.bounded.delivered };
+}
+in_month_more b valid series before i at l t (line.Call r) h n m = record {
+  months = m.months;
+  index = m.index;
+  month = m.month;
+  bounded = record { opening = m.bounded.opening; evaporated = m.bounded.evaporated; returned = m.bounded.returned; flow = m.bounded.flow; take = m.bounded.take; delivered = m.bounded.delivered };
+}
+in_month_more b valid series before i at l t (line.Member k) h n m = by_call t.calling
+  where
+    by_call : (o : Option ℕ) → InMonth b before i (with_member t o k)
+    by_call None = m
+    by_call (Some right) = record {
+      months = m.months;
+      index = m.index;
+      month = m.month;
+      bounded = record { opening = m.bounded.opening; evaporated = m.bounded.evaporated; returned = m.bounded.returned; flow = m.bounded.flow; take = m.bounded.take; delivered = m.bounded.delivered };
+    }
+in_month_more b valid series before i at l t (line.Called r caller) h n m = record { months = m.months; index = m.index; month = m.month; bounded = m.bounded }
+in_month_more b valid series before i at l t (line.Closing v amount) h n m = record {
+  months = m.months;
+  index = m.index;
+  month = m.month;
+  bounded = record { opening = m.bounded.opening; evaporated = m.bounded.evaporated; returned = m.bounded.returned; flow = m.bounded.flow; take = m.bounded.take; delivered = m.bounded.delivered };
+}
+in_month_more b valid series before i at l t line.End h n m = (let never : false ≡ true = h in cc)
+in_month_more b valid series before i at l t (line.Done months) h n m = m
+
+-- all lines of a month so far
+pub in_month : (b : Basin) → IsValidBasin b → (series : Inflows) (before : List MonthRecord) (i : ℕ) → i ≡ length before → i < b.months → (xs : List Item) (t : Told) →
+    list_all is_amid xs ≡ true → AreGood b series t xs → InMonth b before i t → InMonth b before i (fold (tell b series) t xs)
+in_month b valid series before i at l [] t h g m = m
+in_month b valid series before i at l (x ∷ xs) t h g m =
+    let two = parts (is_amid x) (list_all is_amid xs) h in
+    in_month b valid series before i at l xs (tell b series t x) two.1 g.1 (in_month_more b valid series before i at l t x two.0 g.0 m)
+  where
+    parts : (p q : Bool) → p && q ≡ true → (p ≡ true) × (q ≡ true)
+    parts true q e = (refl, e)
+    parts false q e = cc
+
+-- a month begins
+pub month_begins : (b : Basin) (series : Inflows) (before : List MonthRecord) (i : ℕ) (t : Told) → i ≡ length before → t.months ≡ before →
+    InMonth b before i (tell b series t (line.Month (run_month b i)))
+month_begins b series before i t at months = record {
+  months = months;
+  index = ap length months ∙ sym at;
+  month = refl;
+  bounded = record {
+    opening = λ v. omega (arith, no_numbers (length b.reservoirs) v);
+    evaporated = λ v. omega (arith, no_numbers (length b.reservoirs) v);
+    returned = λ n. omega (arith, no_numbers (length b.nodes) n);
+    flow = λ e. omega (arith, no_numbers (length b.links) e);
+    take = λ r. omega (arith, no_numbers (length b.rights) r);
+    delivered = λ r. omega (arith, no_numbers (length b.rights) r);
+  };
+}
+
+-- No `called` line so far.
+
+uncalled_more : (b : Basin) (series : Inflows) (t : Told) (item : Item) → is_before_called item ≡ true → (tell b series t item).called ≡ t.called
+uncalled_more b series t line.Title h = refl
+uncalled_more b series t (line.Run first months) h = refl
+uncalled_more b series t (line.Month month) h = (let never : false ≡ true = h in cc)
+uncalled_more b series t (line.Opening v amount) h = refl
+uncalled_more b series t (line.Evaporated v amount) h = refl
+uncalled_more b series t (line.Returned n amount) h = refl
+uncalled_more b series t (line.Used r amount) h = refl
+uncalled_more b series t (line.Flow e amount) h = refl
+uncalled_more b series t (line.Deliver r amount want) h = refl
+uncalled_more b series t (line.Outflow n amount) h = refl
+uncalled_more b series t (line.Call r) h = refl
+uncalled_more b series t (line.Member n) h = by_call t.calling
+  where
+    by_call : (o : Option ℕ) → (with_member t o n).called ≡ t.called
+    by_call None = refl
+    by_call (Some right) = refl
+uncalled_more b series t (line.Called r caller) h = (let never : false ≡ true = h in cc)
+uncalled_more b series t (line.Closing v amount) h = refl
+uncalled_more b series t line.End h = refl
+uncalled_more b series t (line.Done months) h = refl
+
+pub uncalled : (b : Basin) (series : Inflows) (xs : List Item) (t : Told) → list_all is_before_called xs ≡ true → (fold (tell b series) t xs).called ≡ t.called
+uncalled b series [] t h = refl
+uncalled b series (x ∷ xs) t h =
+    let two = parts (is_before_called x) (list_all is_before_called xs) h in
+    uncalled b series xs (tell b series t x) two.1 ∙ uncalled_more b series t x two.0
+  where
+    parts : (p q : Bool) → p && q ≡ true → (p ≡ true) × (q ≡ true)
+    parts true q e = (refl, e)
+    parts false q e = cc
+
+-- A right that has no `call` so far has no set.
+
+abbrev pub no_call : ℕ → Item → Bool
+no_call r (line.Call s) = not (s == r)
+no_call r other = true
+
+pub record IsFree (r : ℕ) (t : Told) : Type 0 where
+  pub none : cut_of t.now r ≡ None
+  pub other : t.calling ≡ Some r → ⊥
+
+free_more : (b : Basin) (series : Inflows) (r : ℕ) (t : Told) (item : Item) → no_call r item ≡ true → IsFree r t → IsFree r (tell b series t item)
+free_more b series r t line.Title h f = f
+free_more b series r t (line.Run first months) h f = f
+free_more b series r t (line.Month month) h f = record { none = no_sets (length b.rights) r; other = λ e. (let never : None ≡ Some r = e in cc) }
+  where
+    no_sets : (n r : ℕ) → of_entry (replicate {A = Option (List Bool)} n None) r (λ s. s) None ≡ None
+    no_sets zero r = refl
+    no_sets (suc n) zero = refl
+    no_sets (suc n) (suc r) = no_sets n r
+free_more b series r t (line.Opening v amount) h f = record { none = f.none; other = λ e. (let never : None ≡ Some r = e in cc) }
+free_more b series r t (line.Evaporated v amount) h f = record { none = f.none; other = λ e. (let never : None ≡ Some r = e in cc) }
+free_more b series r t (line.Returned n amount) h f = record { none = f.none; other = λ e. (let never : None ≡ Some r = e in cc) }
+free_more b series r t (line.Used s amount) h f = record { none = f.none; other = λ e. (let never : None ≡ Some r = e in cc) }
+free_more b series r t (line.Flow e amount) h f = record { none = f.none; other = λ e. (let never : None ≡ Some r = e in cc) }
+free_more b series r t (line.Deliver s amount want) h f = record { none = f.none; other = λ e. (let never : None ≡ Some r = e in cc) }
+free_more b series r t (line.Outflow n amount) h f = record { none = f.none; other = λ e. (let never : None ≡ Some r = e in cc) }
+free_more b series r t (line.Call s) h f = record {
+  none = set_apart t.now.cuts s r (Some (replicate (length b.nodes) false)) (λ e. apart s r h (sym e)) ∙ f.none;
+  other = λ e. (let same : Some s ≡ Some r = e in let is : s ≡ r = cc in apart s r h is);
+}
+  where
+    apart : (s r : ℕ) → not (s == r) ≡ true → s ≡ r → ⊥
+    apart s r h e = grind (arith, nat_tests)
+free_more b series r t (line.Member n) h f = by_call t.calling refl
+  where
+    by_call : (o : Option ℕ) → t.calling ≡ o → IsFree r (with_member t o n)
+    by_call None e = f
+    by_call (Some right) e = record {
+      none = set_apart t.now.cuts right r (option_map (λ set. slice_set set n true) (cut_of t.now right)) (λ is. f.other (e ∙ ap (λ (x : ℕ). Some x) (sym is))) ∙ f.none;
+      other = f.other;
+    }
+free_more b series r t (line.Called s caller) h f = record { none = f.none; other = λ e. (let never : None ≡ Some r = e in cc) }
+free_more b series r t (line.Closing v amount) h f = record { none = f.none; other = λ e. (let never : None ≡ Some r = e in cc) }
+free_more b series r t line.End h f = record { none = f.none; other = λ e. (let never : None ≡ Some r = e in cc) }
+free_more b series r t (line.Done months) h f = f
+
+pub free : (b : Basin) (series : Inflows) (r : ℕ) (xs : List Item) (t : Told) → list_all (no_call r) xs ≡ true → IsFree r t → IsFree r (fold (tell b series) t xs)
+free b series r [] t h f = f
+free b series r (x ∷ xs) t h f =
+    let two = parts (no_call r x) (list_all (no_call r) xs) h in
+    free b series r xs (tell b series t x) two.1 (free_more b series r t x two.0 f)
+  where
+    parts : (p q : Bool) → p && q ≡ true → (p ≡ true) × (q ≡ true)
+    parts true q e = (refl, e)
+    parts false q e = cc

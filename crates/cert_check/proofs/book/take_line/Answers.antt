@@ -1,0 +1,51 @@
+use Rattle.std.proofs.Common.{◌≡◌, ◌+◌, sym, ap, subst, ◌∙◌, arith, List, ℕ}
+use Rattle.std.specs.Prelude.{Ok, Err}
+use Rattle.water_model.specs.declared.item.Item.{Item}
+use Rattle.result_reader.specs.Reading.{read_line}
+use Rattle.cert_check.specs.Checking.{judge_row, first_row}
+use Rattle.cert_check.specs.declared.refuted.Refuted.{Refuted}
+use Rattle.cert_check.specs.declared.refuted.RefutedKind.TheVariants as kind
+use Rattle.cert_check.proofs.Standings.{few_lines, line_judged, judged_ended, judged_bad, judged_item, line_comes, took}
+use Rattle.cert_check.proofs.book.take_line.Goals as goal
+
+pub overflow_add-next : goal.overflow_add-next
+overflow_add-next c = omega (arith, few_lines c.args.means.now.basin.now c.args.means.now.series.now c.args.book.now c.requires.lines.lines c.requires.means.valid c.requires.lines.stands)
+
+pub returns-then-book : goal.returns-then-book
+returns-then-book c = λ lines s.
+    rw s.counts.read (line_judged c.args.means.now.basin.now c.args.means.now.series.now lines c.args.text.now s.items _ s.verdict (judged_ended c.args.means.now.basin.now c.args.means.now.series.now s.items c.args.text.now (sym s.counts.ended ∙ c.if-book.true)))
+
+pub take_item-requires-clause-told : goal.take_item-requires-clause-told
+take_item-requires-clause-told c =
+    let s = c.requires.lines.stands in
+    record {
+      items = s.items;
+      told = record {
+        account = s.account;
+        counts = record { read = s.counts.read; last_other = s.counts.last_other; ended = s.counts.ended };
+        comes = line_comes c.args.means.now.basin.now c.args.means.now.series.now c.requires.lines.lines c.args.text.now s.items c.in-Ok.item c.requires.means.valid s.verdict
+            (ap (λ x. read_line x s.items c.args.text.now) (sym s.basin) ∙ sym (c.in-Ok.ensures.answer s.items s.reader));
+      };
+    }
+
+pub take_item-requires-clause-room : goal.take_item-requires-clause-room
+take_item-requires-clause-room c = few_lines c.args.means.now.basin.now c.args.means.now.series.now c.args.book.now c.requires.lines.lines c.requires.means.valid c.requires.lines.stands
+
+pub returns-in-Ok : goal.returns-in-Ok
+returns-in-Ok c = λ lines s.
+    let read : read_line c.args.means.now.basin.now s.items c.args.text.now ≡ Ok c.in-Ok.item = ap (λ x. read_line x s.items c.args.text.now) (sym s.basin) ∙ sym (c.in-Ok.ensures.answer s.items s.reader) in
+    took c.args.means.now.basin.now c.args.means.now.series.now c.take_item.new.book lines c.args.text.now s.items c.in-Ok.item c.take_item.result s.verdict
+    (judged_item c.args.means.now.basin.now c.args.means.now.series.now s.items c.args.text.now c.in-Ok.item (sym s.counts.ended ∙ c.if-book.false) read)
+    (ap (λ r. r.basin) c.take_item.ensures.reader ∙ (c.in-Ok.ensures.basin ∙ s.basin))
+    (rw c.take_item.ensures.reader (c.in-Ok.ensures.accepted s.items s.reader))
+    (c.take_item.ensures.takes s.items (record {
+      account = s.account;
+      counts = record { read = s.counts.read; last_other = s.counts.last_other; ended = s.counts.ended };
+      comes = line_comes c.args.means.now.basin.now c.args.means.now.series.now lines c.args.text.now s.items c.in-Ok.item c.requires.means.valid s.verdict read;
+    }))
+
+pub returns-in-Err : goal.returns-in-Err
+returns-in-Err c = λ lines s.
+    rw s.counts.read (line_judged c.args.means.now.basin.now c.args.means.now.series.now lines c.args.text.now s.items _ s.verdict
+    (judged_bad c.args.means.now.basin.now c.args.means.now.series.now s.items c.args.text.now c.in-Err.field-0 (sym s.counts.ended ∙ c.if-book.false)
+    (ap (λ x. read_line x s.items c.args.text.now) (sym s.basin) ∙ sym (c.in-Err.ensures.answer s.items s.reader))))

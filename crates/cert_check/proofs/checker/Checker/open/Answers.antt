@@ -1,0 +1,20 @@
+use Rattle.std.proofs.Common.{◌≡◌, sym, ap, subst, refl, [], ◌∙◌}
+use Rattle.rights_roll.specs.Rolls.{IsRollOf}
+use Rattle.cert_check.proofs.Beginnings.{first_book}
+use Rattle.cert_check.proofs.checker.Checker.open.Goals as goal
+
+pub returns-clause-none : goal.returns-clause-none
+returns-clause-none c =
+    first_book c.args.basin.now c.args.series.now _ c.in_ok-reader.ensures.basin c.in_ok-reader.ensures.none (c.in_ok-account.ensures c.args.series.now) refl refl refl
+
+pub invariant_of-result : goal.invariant_of-result
+invariant_of-result c = record {
+  means = record {
+    valid = c.requires.basin;
+    series = c.requires.series;
+    roll = rw c.roll.view_is (subst (λ rights. IsRollOf rights c.in-Ok.roll) c.as_slice.ensures c.in-Ok.ensures.ok);
+    tables = c.in_ok-tables_of.ensures;
+    last = c.last_outlet.ensures;
+  };
+  lines = record { lines = []; stands = first_book c.args.basin.now c.args.series.now _ c.in_ok-reader.ensures.basin c.in_ok-reader.ensures.none (c.in_ok-account.ensures c.args.series.now) refl refl refl };
+}

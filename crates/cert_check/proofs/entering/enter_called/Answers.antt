@@ -1,0 +1,6 @@
+use Rattle.std.proofs.Common.{arith}
+use Rattle.rights_roll.proofs.Seniors.{length-by_seniority}
+use Rattle.cert_check.proofs.entering.enter_called.Goals as goal
+
+pub overflow_add-account : goal.overflow_add-account
+overflow_add-account c = omega (arith, c.in-Some.ensures.within, length-by_seniority c.args.basin.now.rights, c.requires.basin.few.rights)

@@ -1,0 +1,25 @@
+use Rattle.std.proofs.Common.{◌≡◌, ◌≤◌, ◌^◌, ℕ, refl, sym, ap, ◌∙◌, arith, length}
+use Rattle.std.specs.Prelude.{slice_index}
+use Rattle.cert_check.proofs.Bounded.{supplies_small, all_most}
+use Rattle.cert_check.proofs.Even.{loose_is}
+use Rattle.cert_check.proofs.refusing.is_loose.Goals as goal
+
+pub tight-requires-clause-amounts : goal.tight-requires-clause-amounts
+tight-requires-clause-amounts c =
+    let month = c.requires.month in
+    let k = c.know_supply.ensures.keeps month.told month.keeps in
+    let all = supplies_small c.args.means.now.basin.now c.args.means.now.series.now month.told c.know_supply.new.account.month.supply c.requires.means.valid c.requires.means.series month.partial month.under_way
+    (k.supply (ap (λ a. a.has_supply) c.know_supply.ensures.rest)) in
+    rw (c.as_slice.ensures, c.as_slice-2.ensures) (record {
+      supplies = k.fits.month.fits.supply;
+      small = omega (arith, all);
+      deliveries = k.fits.month.fits.delivered;
+      most = rw k.shows.delivered (all_most month.told.now.delivered (10 ^ 9) month.under_way.bounded.delivered);
+    })
+
+pub tight-requires-clause-cut : goal.tight-requires-clause-cut
+tight-requires-clause-cut c =
+    let month = c.requires.month in
+    let k = c.know_supply.ensures.keeps month.told month.keeps in
+    let own = k.fits.calling c.args.right (ap (λ a. a.calling) c.know_supply.ensures.rest ∙ c.requires.calling) in
+    record { in_range = own.0; rights = k.fits.month.fits.cuts; nodes = k.fits.month.fits.cut_nodes; held = own.1 }

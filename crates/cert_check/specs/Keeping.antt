@@ -1,0 +1,61 @@
+-- What an account keeps of what lines tell.
+use Rattle.std.specs.Prelude.{◌≡◌, ℕ, ◌<◌, ◌≤◌, Bool, true, false, ◌&&◌, List, map, length, take, slice_index, slice_set, Some, IsSome, is_none}
+use Rattle.std.specs.List.{list_any, flat_map}
+use Rattle.place_sums.specs.Sums.{total_where}
+use Rattle.water_text.specs.Months.{IsMonth}
+use Rattle.water_model.specs.CutSets.{set_of, has_room}
+use Rattle.water_model.specs.History.{cut_of, opening_after, is_zone_of}
+use Rattle.water_model.specs.Hydrology.{returned_at}
+use Rattle.water_model.specs.Places.{seniors_first}
+use Rattle.water_model.specs.Text.{calling_right}
+use Rattle.water_model.specs.declared.types.Basin.{Basin}
+use Rattle.water_model.specs.declared.types.Inflows.{Inflows}
+use Rattle.water_model.specs.declared.types.MonthRecord.{MonthRecord}
+use Rattle.lag_returns.specs.Lags as lag
+use Rattle.month_terms.specs.Terms.{FitsRecord}
+use Rattle.result_reader.specs.Telling.{Told, with_supply}
+use Rattle.cert_check.specs.Checking.{is_short, caller_due}
+use Rattle.cert_check.specs.Shows.{Shows}
+use Rattle.cert_check.specs.declared.account.Account.{Account}
+
+-- an account's lists have a number for each reservoir or node, and its record fits the basin. Each right has room for a
+-- set, and the right whose nodes come has one
+pub record FitsAccount (b : Basin) (a : Account) : Type 0 where
+  pub month : FitsRecord b a.month
+  pub calendar : IsMonth a.month.month
+  pub room : (r : ℕ) → r < length b.rights → has_room a.month.cuts r ≡ true
+  pub opens : length a.opens ≡ length b.reservoirs
+  pub comes : length a.comes ≡ length b.nodes
+  pub closes : length a.closes ≡ length b.reservoirs
+  pub into : length a.into ≡ length b.nodes
+  pub out_of : length a.out_of ≡ length b.nodes
+  pub calling : (r : ℕ) → a.calling ≡ Some r → (r < length b.rights) × IsSome (set_of a.month.cuts r)
+  pub passed : a.passed ≤ length b.rights
+  pub answered : a.answered ≤ length b.rights
+
+-- the record where this amount leaves the basin at a node
+abbrev pub with_outflow : MonthRecord → ℕ → ℕ → MonthRecord
+with_outflow m n amount = record m { plan = record m.plan { out = slice_set m.plan.out n amount } }
+
+-- whether a right is short and has no set
+abbrev pub lacks_call : MonthRecord → ℕ → Bool
+lacks_call m r = is_short m r && is_none (cut_of m r)
+
+-- of some rights those that answer to a caller, each with it
+abbrev pub callers_of : Basin → MonthRecord → List ℕ → List (ℕ × ℕ)
+callers_of b m rights = flat_map (λ r. caller_due r (calling_right b m r)) rights
+
+-- the account keeps what is told, and what follows from it
+pub record Keeps (b : Basin) (series : Inflows) (a : Account) (t : Told) : Type 0 where
+  pub fits : FitsAccount b a
+  pub shows : Shows a.month t
+  pub calling : a.calling ≡ t.calling
+  pub done : a.done ≡ length t.months
+  pub lags : lag.StandsFor a.lags b.returns (map (λ m. m.delivered) t.months)
+  pub opens : a.opens ≡ opening_after b t.months
+  pub comes : (n : ℕ) → n < length b.nodes → slice_index a.comes n ≡ returned_at b (map (λ m. m.delivered) t.months) n (length t.months)
+  pub supply : a.has_supply ≡ true → a.month.supply ≡ (with_supply b series t.now).supply
+  pub closes : a.has_closes ≡ true → (v : ℕ) → v < length b.reservoirs → slice_index a.closes v
+      ≡ total_where (length b.rights) (λ r. is_zone_of b r v) (λ r. slice_index t.now.plan.take r)
+  pub passed : list_any (lacks_call t.now) (take a.passed (seniors_first b)) ≡ false
+  pub answered : t.called ≡ length (callers_of b t.now (take a.answered (seniors_first b)))

@@ -1,0 +1,42 @@
+-- Walks over the rights in the order of seniority.
+use Rattle.std.specs.Prelude.{◌≡◌, ℕ, ◌+◌, ◌<◌, ◌≤◌, true, false, ◌++◌, ◌∷◌, [], length, take, slice_index, Option, Some, None, IsTrue}
+use Rattle.std.specs.List.{list_any}
+use Rattle.water_model.specs.Places.{seniors_first}
+use Rattle.water_model.specs.declared.item.Item.{Item}
+use Rattle.water_model.specs.declared.types.Basin.{Basin}
+use Rattle.water_model.specs.declared.types.MonthRecord.{MonthRecord}
+use Rattle.cert_check.specs.Checking.{passes, callers_due}
+use Rattle.cert_check.specs.Keeping.{lacks_call, callers_of}
+use Rattle.cert_check.specs.declared.answering.Due.{Due}
+
+-- a line passes over so many rights, and none of them lacks its `call`
+pub record ArePassed (b : Basin) (m : MonthRecord) (item : Item) (count : ℕ) : Type 0 where
+  pub within : count ≤ length (seniors_first b)
+  pub settled : list_any (lacks_call m) (take count (seniors_first b)) ≡ false
+  pub next : count < length (seniors_first b) → passes b item (slice_index (seniors_first b) count) ≡ false
+
+-- a line passes over this right, which lacks its `call`
+pub record IsMissed (b : Basin) (m : MonthRecord) (item : Item) : Type 0 where
+  pub place : ℕ
+  pub within : place < length (seniors_first b)
+  pub lacks : lacks_call m (slice_index (seniors_first b) place) ≡ true
+  pub passed : passes b item (slice_index (seniors_first b) place) ≡ true
+
+abbrev pub IsPassed : Basin → MonthRecord → Item → Option ℕ → Type 0
+IsPassed b m item (Some count) = ArePassed b m item count
+IsPassed b m item None = IsMissed b m item
+
+-- from a place on this right is the first that answers to a caller
+pub record IsNextDue (b : Basin) (m : MonthRecord) (from : ℕ) (due : Due) : Type 0 where
+  pub within : due.place < length (seniors_first b)
+  pub up_to : callers_of b m (take (due.place + 1) (seniors_first b)) ≡ callers_of b m (take from (seniors_first b)) ++ (due.right, due.caller) ∷ []
+
+-- the first right from a place on that answers to a caller, or none
+abbrev pub IsDueFrom : Basin → MonthRecord → ℕ → Option Due → Type 0
+IsDueFrom b m from (Some due) = IsNextDue b m from due
+IsDueFrom b m from None = callers_due b m ≡ callers_of b m (take from (seniors_first b))
+
+-- so many rights are behind it
+abbrev pub behind : ℕ → Option Due → ℕ
+behind from None = from
+behind from (Some due) = due.place + 1

@@ -1,0 +1,40 @@
+//! Rights that answer to a caller: each has its `called` line, in the order of seniority.
+ghost use Rattle.std.specs.Prelude.{◌≡◌, ◌≤◌, length};
+ghost use Rattle.rights_roll.specs.Rolls.{IsRollOf};
+ghost use Rattle.water_model.specs.History.{FitsBasin};
+ghost use Rattle.water_model.specs.Valid.{IsValidBasin};
+ghost use Rattle.cert_check.specs.Walks.{IsDueFrom};
+
+use calls::calling_right;
+use rights_roll::roll::Roll;
+use water_model::types::{Basin, MonthRecord};
+
+/// A right that answers to a caller, and its place in the order of seniority.
+#[derive(Clone, Copy)]
+pub struct Due {
+    pub place: usize,
+    pub right: u32,
+    pub caller: u32,
+}
+
+/// The first right in the order of seniority that answers to a caller, from a place on.
+pub fn next_due(basin: &Basin, roll: &Roll, month: &MonthRecord, from: usize) -> Option<Due>
+    requires basin { IsValidBasin basin.now }
+    requires roll { IsRollOf basin.now.rights roll.now }
+    requires fits { FitsBasin basin.now month.now }
+    requires from { from ≤ length basin.now.rights }
+    ensures { IsDueFrom basin.now month.now from result }
+{
+    let order = roll.by_seniority();
+    for place in from..order.len() {
+        let right = order[place];
+        if let Some(caller) = calling_right(basin, roll, month, right) {
+            return Some(Due {
+                place,
+                right,
+                caller,
+            });
+        }
+    }
+    None
+}

@@ -1,0 +1,104 @@
+//! What a checker keeps of lines that are good, and how it takes the next.
+ghost use Rattle.std.specs.Prelude.{ℕ, ◌≡◌, ◌+◌, ◌^◌, ◌<◌, ◌++◌, ◌∷◌, [], List};
+ghost use Rattle.result_text.specs.Range.{IsOfBasin};
+ghost use Rattle.water_model.specs.declared.item.Item.{Item};
+ghost use Rattle.cert_check.specs.Checking.{named_line};
+ghost use Rattle.cert_check.specs.Means.{AreMeans};
+ghost use Rattle.cert_check.specs.Standing.{Counts, IsBookOf};
+ghost use Rattle.cert_check.specs.Taking.{HasItems, HasLines, IsTold, TakesItem, TakesLine};
+
+use crate::account::{Account, Means};
+use crate::compare::{is_done, is_member};
+use crate::entering::enter;
+use crate::refusing::first_row;
+use crate::refuted::{Refuted, RefutedKind};
+use result_reader::ResultReader;
+use water_model::item::Item;
+
+/// What is kept of lines none of which is at fault.
+#[derive(Drop)]
+pub struct Book<'b> {
+    /// What may come next.
+    pub reader: ResultReader<'b>,
+    /// What the lines tell.
+    pub account: Account,
+    /// How many lines there are.
+    pub read: u64,
+    /// The number of the last line that is no `in` line. While the nodes of a `call` come, it is that line's.
+    pub last_other: u64,
+    /// Whether the text has its last line.
+    pub ended: bool,
+}
+
+/// The number of the line that a row names: of a loose cut its `call` line, and else the next line.
+fn named_line(book: &Book, kind: RefutedKind) -> u64
+    requires { book.now.read + 1 < 2 ^ 64 }
+    ensures { (items : List Item) → Counts book.now items → result ≡ named_line items kind }
+{
+    match kind {
+        RefutedKind::CutLoose => book.last_other,
+        _ => book.read + 1,
+    }
+}
+
+/// Counts a line.
+fn count(book: &mut Book, item: &Item)
+    requires { book.old.read + 1 < 2 ^ 64 }
+    ensures counts { (items : List Item) → Counts book.old items → Counts book.new (items ++ item.now ∷ []) }
+    ensures account { book.new.account ≡ book.old.account }
+    ensures reader { book.new.reader ≡ book.old.reader }
+{
+    book.read += 1;
+    if !is_member(item) {
+        book.last_other = book.read;
+    }
+    if is_done(item) {
+        book.ended = true;
+    }
+}
+
+/// Takes what the next line says, or refuses it for the first row that holds of it.
+fn take_item(means: &Means, book: &mut Book, item: &Item) -> Result<(), Refuted>
+    requires means { AreMeans means.now }
+    requires item { IsOfBasin means.now.basin.now item.now }
+    requires told { HasItems means.now.basin.now means.now.series.now book.old item.now }
+    requires room { book.old.read + 1 < 2 ^ 64 }
+    ensures takes { (items : List Item) → IsTold means.now.basin.now means.now.series.now book.old items item.now →
+        TakesItem means.now.basin.now means.now.series.now book.new items item.now result }
+    ensures reader { book.new.reader ≡ book.old.reader }
+{
+    match first_row(means, &mut book.account, item) {
+        Some(kind) => Err(Refuted {
+            line: named_line(book, kind),
+            kind,
+        }),
+        None => {
+            enter(means, &mut book.account, item);
+            count(book, item);
+            Ok(())
+        }
+    }
+}
+
+/// Takes the next line, without its line feed, or refuses it. A refused line leaves a book that says nothing.
+pub fn take_line(means: &Means, book: &mut Book, text: &[u8]) -> Result<(), Refuted>
+    requires means { AreMeans means.now }
+    requires lines { HasLines means.now.basin.now means.now.series.now book.old }
+    ensures { (lines : List (List ℕ)) → IsBookOf means.now.basin.now means.now.series.now book.old lines →
+        TakesLine means.now.basin.now means.now.series.now book.new (lines ++ text.now ∷ []) result }
+{
+    let next = book.read + 1;
+    if book.ended {
+        return Err(Refuted {
+            line: next,
+            kind: RefutedKind::AfterEnd,
+        });
+    }
+    match book.reader.line(text) {
+        Ok(item) => take_item(means, book, &item),
+        Err(_) => Err(Refuted {
+            line: next,
+            kind: RefutedKind::BadLine,
+        }),
+    }
+}

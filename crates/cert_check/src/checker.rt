@@ -1,0 +1,131 @@
+//! A checker of result texts, line by line.
+ghost use Rattle.std.specs.Prelude.{ℕ, List, [], ◌≡◌, ◌≤◌, ◌++◌, ◌∷◌, length, Some, Err, IfOk, IfErr, IfSome};
+ghost use Rattle.cert_check.specs.Checking.{verdict, verdict_from};
+ghost use Rattle.cert_check.specs.Standing.{IsAnswer, IsLineAnswer, StandsFor};
+ghost use Rattle.water_model.specs.Valid.{IsValidBasin, IsSeriesOf};
+
+use crate::account::Means;
+use crate::book::{Book, take_line};
+use crate::opening::{blank_account, last_outlet};
+use crate::refuted::{Refuted, RefutedKind};
+use month_terms::evaporation::tables_of;
+use result_reader::ResultReader;
+use rights_roll::roll::Roll;
+use std::alloc::{AllocError, Global};
+use std::marker::Model;
+use water_model::types::{Basin, Inflows};
+
+/// Checks the lines of a result text of a basin and its series, one after the other, and refutes the first that is at fault.
+///
+/// It stands for the list of all lines that it was given.
+#[derive(Drop)]
+pub struct Checker<'b> {
+    means: Means<'b>,
+    book: Book<'b>,
+    refused: Option<Refuted>,
+}
+
+impl<'b> Model for Checker<'b> {
+    ghost use Rattle.cert_check.specs.Standing.{CheckerSeen};
+
+    ghost Value = { CheckerSeen };
+
+    ghost use Rattle.cert_check.specs.CheckerInside.{seen_of, IsReady};
+
+    ghost view = { seen_of };
+
+    ghost invariant = { IsReady };
+}
+
+impl<'b> Checker<'b> {
+    /// A checker that was given no line. AllocError comes where memory is lacking; no other call takes memory.
+    pub fn open(
+        alloc: Global,
+        basin: &'b Basin,
+        series: &'b Inflows,
+    ) -> Result<Checker<'b>, AllocError>
+        requires basin { IsValidBasin basin.now }
+        requires series { IsSeriesOf basin.now series.now }
+        ensures basin { IfOk result (λ checker. checker.basin ≡ basin.now) }
+        ensures series { IfOk result (λ checker. checker.series ≡ series.now) }
+        ensures none { IfOk result (λ checker. StandsFor checker []) }
+    {
+        let roll = match Roll::build(alloc, basin.rights.as_slice(), basin.returns.as_slice()) {
+            Ok(roll) => roll,
+            // In a valid basin a roll is refused for want of memory alone.
+            Err(_) => return Err(AllocError),
+        };
+        let reader = ResultReader::open(alloc, basin, &roll)?;
+        let account = blank_account(alloc, basin)?;
+        let means = Means {
+            basin,
+            series,
+            roll,
+            tables: tables_of(alloc, basin)?,
+            last_outlet: last_outlet(basin),
+        };
+        Ok(Checker {
+            means,
+            book: Book {
+                reader,
+                account,
+                read: 0,
+                last_other: 0,
+                ended: false,
+            },
+            refused: None,
+        })
+    }
+
+    /// Takes the next line, without its line feed. It is refused where it, or a line before it, is at fault: then with
+    /// the first line at fault and the first kind that holds of it. After a refusal each later call answers the same.
+    pub fn line(&mut self, text: &[u8]) -> Result<(), Refuted>
+        ensures answer { (lines : List (List ℕ)) → StandsFor self.old lines →
+            IsLineAnswer result (verdict_from self.old.basin self.old.series [] (lines ++ text.now ∷ [])) }
+        ensures stands { (lines : List (List ℕ)) → StandsFor self.old lines → StandsFor self.new (lines ++ text.now ∷ []) }
+        ensures basin { self.new.basin ≡ self.old.basin }
+        ensures series { self.new.series ≡ self.old.series }
+        ensures refused { IfErr result (λ e. self.new.refused ≡ Some e) }
+        ensures stays { IfSome self.old.refused (λ e. (result ≡ Err e) × (self.new ≡ self.old)) }
+    {
+        match self.refused {
+            Some(refused) => return Err(refused),
+            None => {}
+        }
+        match take_line(&self.means, &mut self.book, text) {
+            Ok(()) => Ok(()),
+            Err(refused) => {
+                self.refused = Some(refused);
+                Err(refused)
+            }
+        }
+    }
+
+    /// What the lines so far are, with this rest behind the last line feed, as a whole text: the number of months where
+    /// they are the text of a history, or why not. It changes nothing.
+    pub fn finish(&self, rest: &[u8]) -> Result<u32, Refuted>
+        requires { length rest.now ≤ 128 }
+        ensures answer { (lines : List (List ℕ)) → StandsFor self.now lines →
+            IsAnswer self.now.basin result (verdict self.now.basin self.now.series lines rest.now) }
+        ensures stays { IfSome self.now.refused (λ e. result ≡ Err e) }
+    {
+        match self.refused {
+            Some(refused) => return Err(refused),
+            None => {}
+        }
+        let next = self.book.read + 1;
+        if !self.book.ended {
+            return Err(Refuted {
+                line: next,
+                kind: RefutedKind::EarlyEnd,
+            });
+        }
+        if !rest.is_empty() {
+            return Err(Refuted {
+                line: next,
+                kind: RefutedKind::AfterEnd,
+            });
+        }
+        Ok(self.means.basin.months)
+    }
+}

@@ -1,0 +1,348 @@
+//! Enters what a line tells into an account.
+ghost use Rattle.std.specs.Prelude.{ℕ, ◌≡◌, ◌+◌, ◌^◌, ◌<◌, ◌≤◌, ◌++◌, ◌∷◌, [], List, Some, None, true, false, Bool, All, Option, IfSome, IsSome, length, replicate, slice_set, is_some, if◌then◌else◌};
+ghost use Rattle.lag_returns.specs.Lags.{return_rows};
+ghost use Rattle.lag_returns.specs.Lags as lag;
+ghost use Rattle.month_terms.specs.Terms.{HasReturned};
+ghost use Rattle.water_model.specs.Basin.{taking_node};
+ghost use Rattle.water_model.specs.CutSets.{set_of, with_set, with_room, without_sets, has_room};
+ghost use Rattle.water_model.specs.Valid.{IsValidBasin};
+ghost use Rattle.result_text.specs.Range.{IsOfBasin};
+ghost use Rattle.result_reader.specs.Telling.{Told, tell};
+ghost use Rattle.rights_roll.specs.Rolls.{IsRollOf};
+ghost use Rattle.water_model.specs.History.{FitsBasin};
+ghost use Rattle.cert_check.specs.Checking.{first_row};
+ghost use Rattle.cert_check.specs.Coming.{Awaits, MayCome};
+ghost use Rattle.cert_check.specs.Keeping.{Keeps};
+ghost use Rattle.cert_check.specs.Means.{AreMeans};
+ghost use Rattle.cert_check.specs.Walks.{IsDueFrom, behind};
+ghost use Rattle.cert_check.specs.declared.answering.Due.{Due};
+
+use crate::account::{Account, Means};
+use crate::answering::next_due;
+use crate::told;
+use lag_returns::Lags;
+use rights_roll::roll::Roll;
+use water_model::item::Item;
+use water_model::rows::Rows;
+use water_model::types::{Basin, MonthRecord};
+use water_text::month::Month;
+
+/// Makes all numbers of a list 0.
+fn clear(list: &mut Rows<u64>)
+    ensures { list.new ≡ replicate (length list.old) 0 }
+{
+    list.as_mut_slice().fill(0);
+}
+
+/// Makes a record one of which nothing is told but its index and month. Its supply stays, and its sets have room.
+fn blank(month: &mut MonthRecord, index: u32, calendar: Month)
+    ensures { month.new ≡ record month.old {
+      index = index;
+      month = calendar;
+      opening = replicate (length month.old.opening) 0;
+      evaporated = replicate (length month.old.evaporated) 0;
+      returned = replicate (length month.old.returned) 0;
+      used = replicate (length month.old.used) 0;
+      want = replicate (length month.old.want) 0;
+      plan = record {
+        flow = replicate (length month.old.plan.flow) 0;
+        take = replicate (length month.old.plan.take) 0;
+        out = replicate (length month.old.plan.out) 0;
+      };
+      delivered = replicate (length month.old.delivered) 0;
+      cuts = without_sets month.old.cuts;
+      closing = replicate (length month.old.closing) 0;
+    } }
+{
+    month.index = index;
+    month.month = calendar;
+    clear(&mut month.opening);
+    clear(&mut month.evaporated);
+    clear(&mut month.returned);
+    clear(&mut month.used);
+    clear(&mut month.want);
+    clear(&mut month.plan.flow);
+    clear(&mut month.plan.take);
+    clear(&mut month.plan.out);
+    clear(&mut month.delivered);
+    month.cuts.clear();
+    clear(&mut month.closing);
+}
+
+/// Enters a `month` line.
+pub fn enter_month(account: &mut Account, calendar: Month)
+    ensures rest { account.new ≡ record account.old {
+      month = account.new.month;
+      calling = None;
+      has_supply = false;
+      has_closes = false;
+      passed = 0;
+      answered = 0;
+    } }
+    ensures month { account.new.month ≡ record account.old.month {
+      index = account.old.done;
+      month = calendar;
+      opening = replicate (length account.old.month.opening) 0;
+      evaporated = replicate (length account.old.month.evaporated) 0;
+      returned = replicate (length account.old.month.returned) 0;
+      used = replicate (length account.old.month.used) 0;
+      want = replicate (length account.old.month.want) 0;
+      plan = record {
+        flow = replicate (length account.old.month.plan.flow) 0;
+        take = replicate (length account.old.month.plan.take) 0;
+        out = replicate (length account.old.month.plan.out) 0;
+      };
+      delivered = replicate (length account.old.month.delivered) 0;
+      cuts = without_sets account.old.month.cuts;
+      closing = replicate (length account.old.month.closing) 0;
+    } }
+{
+    blank(&mut account.month, account.done, calendar);
+    account.calling = None;
+    account.has_supply = false;
+    account.has_closes = false;
+    account.passed = 0;
+    account.answered = 0;
+}
+
+/// Enters an `open` line.
+pub fn enter_opening(account: &mut Account, reservoir: u32, amount: u64)
+    requires { reservoir < length account.old.month.opening }
+    ensures { account.new ≡ record account.old {
+      month = record account.old.month { opening = slice_set account.old.month.opening reservoir amount };
+      calling = None;
+      has_supply = false;
+    } }
+{
+    told::tell_opening(&mut account.month, reservoir, amount);
+    account.calling = None;
+    account.has_supply = false;
+}
+
+/// Enters an `evap` line.
+pub fn enter_evaporated(account: &mut Account, reservoir: u32, amount: u64)
+    requires { reservoir < length account.old.month.evaporated }
+    ensures { account.new ≡ record account.old {
+      month = record account.old.month { evaporated = slice_set account.old.month.evaporated reservoir amount };
+      calling = None;
+      has_supply = false;
+    } }
+{
+    told::tell_evaporated(&mut account.month, reservoir, amount);
+    account.calling = None;
+    account.has_supply = false;
+}
+
+/// Enters a `return` line.
+pub fn enter_returned(account: &mut Account, node: u32, amount: u64)
+    requires { node < length account.old.month.returned }
+    ensures { account.new ≡ record account.old {
+      month = record account.old.month { returned = slice_set account.old.month.returned node amount };
+      calling = None;
+      has_supply = false;
+    } }
+{
+    told::tell_returned(&mut account.month, node, amount);
+    account.calling = None;
+    account.has_supply = false;
+}
+
+/// Enters a `used` line.
+pub fn enter_used(account: &mut Account, right: u32, amount: u64)
+    requires { right < length account.old.month.used }
+    ensures { account.new ≡ record account.old {
+      month = record account.old.month { used = slice_set account.old.month.used right amount };
+      calling = None;
+    } }
+{
+    told::tell_used(&mut account.month, right, amount);
+    account.calling = None;
+}
+
+/// Enters a `flow` line.
+pub fn enter_flow(account: &mut Account, link: u32, amount: u64)
+    requires { link < length account.old.month.plan.flow }
+    ensures { account.new ≡ record account.old {
+      month = record account.old.month { plan = record account.old.month.plan { flow = slice_set account.old.month.plan.flow link amount } };
+      calling = None;
+    } }
+{
+    told::tell_flow(&mut account.month, link, amount);
+    account.calling = None;
+}
+
+/// Enters a `deliver` line. It comes before the month's `call` lines, so no right is passed over yet.
+pub fn enter_delivery(basin: &Basin, account: &mut Account, right: u32, amount: u64, want: u64)
+    requires basin { IsValidBasin basin.now }
+    requires right { right < length basin.now.rights }
+    requires delivered { right < length account.old.month.delivered }
+    requires want { right < length account.old.month.want }
+    requires take { right < length account.old.month.plan.take }
+    ensures { account.new ≡ record account.old {
+      month = record account.old.month {
+        delivered = slice_set account.old.month.delivered right amount;
+        want = slice_set account.old.month.want right want;
+        plan = record account.old.month.plan { take = slice_set account.old.month.plan.take right (if is_some (taking_node basin.now right) then amount else 0) };
+      };
+      calling = None;
+      has_closes = false;
+      passed = 0;
+      answered = 0;
+    } }
+{
+    told::tell_delivery(basin, &mut account.month, right, amount, want);
+    account.calling = None;
+    account.has_closes = false;
+    account.passed = 0;
+    account.answered = 0;
+}
+
+/// Enters an `out` line.
+pub fn enter_outflow(account: &mut Account, node: u32, amount: u64)
+    requires { node < length account.old.month.plan.out }
+    ensures { account.new ≡ record account.old {
+      month = record account.old.month { plan = record account.old.month.plan { out = slice_set account.old.month.plan.out node amount } };
+      calling = None;
+    } }
+{
+    told::tell_outflow(&mut account.month, node, amount);
+    account.calling = None;
+}
+
+/// Enters a `call` line. The right has room for a set and has none yet.
+pub fn enter_call(account: &mut Account, right: u32)
+    requires right { right < length account.old.month.cuts.sets }
+    requires free { set_of account.old.month.cuts right ≡ None }
+    requires room { has_room account.old.month.cuts right ≡ true }
+    ensures { account.new ≡ record account.old {
+      month = record account.old.month { cuts = with_room (with_set account.old.month.cuts right (Some (replicate account.old.month.cuts.nodes false))) right };
+      calling = Some right;
+      answered = 0;
+    } }
+{
+    match account.month.cuts.begin(right) {
+        Ok(()) => {}
+        Err(_) => unreachable!(),
+    }
+    account.calling = Some(right);
+    account.answered = 0;
+}
+
+/// Enters an `in` line of the right whose nodes come.
+pub fn enter_member(account: &mut Account, node: u32)
+    requires node { node < account.old.month.cuts.nodes }
+    requires calling { IfSome account.old.calling (λ right. (right < length account.old.month.cuts.sets) × IsSome (set_of account.old.month.cuts right)) }
+    ensures none { account.old.calling ≡ None → account.new ≡ record account.old { answered = 0 } }
+    ensures some { (right : ℕ) (set : List Bool) → account.old.calling ≡ Some right → set_of account.old.month.cuts right ≡ Some set →
+        account.new ≡ record account.old { month = record account.old.month { cuts = with_set account.old.month.cuts right (Some (slice_set set node true)) }; answered = 0 } }
+{
+    account.answered = 0;
+    match account.calling {
+        Some(right) => account.month.cuts.add(right, node),
+        None => {}
+    }
+}
+
+/// Enters a `called` line, which is that of the next right that answers to a caller.
+pub fn enter_called(basin: &Basin, roll: &Roll, account: &mut Account)
+    requires basin { IsValidBasin basin.now }
+    requires roll { IsRollOf basin.now.rights roll.now }
+    requires fits { FitsBasin basin.now account.old.month }
+    requires answered { account.old.answered ≤ length basin.now.rights }
+    ensures { (due : Option Due) × IsDueFrom basin.now account.old.month account.old.answered due
+        × (account.new ≡ record account.old { calling = None; answered = behind account.old.answered due }) }
+{
+    account.calling = None;
+    match next_due(basin, roll, &account.month, account.answered) {
+        Some(due) => account.answered = due.place + 1,
+        None => {}
+    }
+}
+
+/// Enters a `close` line.
+pub fn enter_closing(account: &mut Account, reservoir: u32, amount: u64)
+    requires { reservoir < length account.old.month.closing }
+    ensures { account.new ≡ record account.old {
+      month = record account.old.month { closing = slice_set account.old.month.closing reservoir amount };
+      calling = None;
+    } }
+{
+    told::tell_closing(&mut account.month, reservoir, amount);
+    account.calling = None;
+}
+
+/// Writes what comes back to each node next.
+pub fn bring_back(basin: &Basin, lags: &Lags, comes: &mut [u64])
+    requires basin { IsValidBasin basin.now }
+    requires rows { return_rows lags.now ≡ basin.now.returns }
+    requires comes { length comes.old ≡ length basin.now.nodes }
+    ensures length { length comes.new ≡ length comes.old }
+    ensures each { (deliveries : List (List ℕ)) → lag.StandsFor lags.now basin.now.returns deliveries → HasReturned basin.now deliveries comes.new }
+{
+    comes.fill(0);
+    lags.arrive(comes);
+}
+
+/// Enters an `end` line: what the month leaves to the next.
+pub fn enter_end(basin: &Basin, account: &mut Account)
+    requires basin { IsValidBasin basin.now }
+    requires rows { return_rows account.old.lags ≡ basin.now.returns }
+    requires comes { length account.old.comes ≡ length basin.now.nodes }
+    requires opens { length account.old.opens ≡ length account.old.month.closing }
+    requires delivered { length account.old.month.delivered ≡ length basin.now.rights }
+    requires small { All (λ n. n ≤ 10 ^ 9) account.old.month.delivered }
+    requires done { account.old.done < 2 ^ 31 }
+    ensures rest { account.new ≡ record account.old {
+      done = account.old.done + 1;
+      lags = account.new.lags;
+      opens = account.old.month.closing;
+      comes = account.new.comes;
+      calling = None;
+    } }
+    ensures lags { (deliveries : List (List ℕ)) → lag.StandsFor account.old.lags basin.now.returns deliveries →
+        lag.StandsFor account.new.lags basin.now.returns (deliveries ++ account.old.month.delivered ∷ []) }
+    ensures comes { (deliveries : List (List ℕ)) → lag.StandsFor account.old.lags basin.now.returns deliveries →
+        HasReturned basin.now (deliveries ++ account.old.month.delivered ∷ []) account.new.comes }
+{
+    account.lags.month_done(account.month.delivered.as_slice());
+    account
+        .opens
+        .as_mut_slice()
+        .copy_from_slice(account.month.closing.as_slice());
+    bring_back(basin, &account.lags, account.comes.as_mut_slice());
+    account.done += 1;
+    account.calling = None;
+}
+
+/// Enters what a good line tells.
+pub fn enter(means: &Means, account: &mut Account, item: &Item)
+    requires means { AreMeans means.now }
+    requires item { IsOfBasin means.now.basin.now item.now }
+    requires awaits { Awaits means.now.basin.now means.now.series.now account.old item.now }
+    ensures { (t : Told) → Keeps means.now.basin.now means.now.series.now account.old t → MayCome means.now.basin.now means.now.series.now t item.now →
+        first_row means.now.basin.now means.now.series.now t item.now ≡ None →
+        Keeps means.now.basin.now means.now.series.now account.new (tell means.now.basin.now means.now.series.now t item.now) }
+{
+    match *item {
+        Item::Title => {}
+        Item::Run { .. } => {}
+        Item::Month { month } => enter_month(account, month),
+        Item::Opening { reservoir, amount } => enter_opening(account, reservoir, amount),
+        Item::Evaporated { reservoir, amount } => enter_evaporated(account, reservoir, amount),
+        Item::Returned { node, amount } => enter_returned(account, node, amount),
+        Item::Used { right, amount } => enter_used(account, right, amount),
+        Item::Flow { link, amount } => enter_flow(account, link, amount),
+        Item::Deliver {
+            right,
+            amount,
+            want,
+        } => enter_delivery(means.basin, account, right, amount, want),
+        Item::Outflow { node, amount } => enter_outflow(account, node, amount),
+        Item::Call { right } => enter_call(account, right),
+        Item::Member { node } => enter_member(account, node),
+        Item::Called { .. } => enter_called(means.basin, &means.roll, account),
+        Item::Closing { reservoir, amount } => enter_closing(account, reservoir, amount),
+        Item::End => enter_end(means.basin, account),
+        Item::Done { .. } => {}
+    }
+}

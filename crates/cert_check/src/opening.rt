@@ -1,0 +1,138 @@
+//! What a checker begins with. Only these functions take memory.
+ghost use Rattle.std.specs.Prelude.{ℕ, ◌≡◌, ◌<◌, [], length, map, replicate, nat_le, if◌then◌else◌, IfOk};
+ghost use Rattle.std.specs.List.{list_all};
+ghost use Rattle.lag_returns.specs.Lags as lag;
+ghost use Rattle.month_terms.specs.Terms.{HasReturned};
+ghost use Rattle.result_reader.specs.Telling.{nothing_told};
+ghost use Rattle.water_model.specs.Basin.{is_outlet};
+ghost use Rattle.water_model.specs.Places.{outlets};
+ghost use Rattle.water_model.specs.Valid.{IsValidBasin};
+ghost use Rattle.water_model.specs.declared.types.Inflows.{Inflows};
+ghost use Rattle.cert_check.specs.Beginning.{HasRoom, IsBlank};
+ghost use Rattle.cert_check.specs.Keeping.{Keeps};
+
+use crate::account::Account;
+use crate::entering::bring_back;
+use lag_returns::Lags;
+use std::alloc::{AllocError, Global};
+use water_model::cut_list::CutList;
+use water_model::rows::Rows;
+use water_model::types::{Basin, MonthRecord, Plan};
+
+/// So many zeros.
+fn zeros(alloc: Global, count: usize) -> Result<Rows<u64>, AllocError>
+    ensures { IfOk result (λ rows. rows ≡ replicate count 0) }
+{
+    Ok(Rows::from_vec(vec![in alloc; 0; count]?))
+}
+
+/// What each reservoir holds when the run begins.
+fn openings(alloc: Global, basin: &Basin) -> Result<Rows<u64>, AllocError>
+    ensures { IfOk result (λ rows. rows ≡ map (λ v. v.opening) basin.now.reservoirs) }
+{
+    let mut openings = Vec::with_capacity(alloc, basin.reservoirs.len())?;
+    for reservoir in basin.reservoirs.as_slice() {
+        openings.push(reservoir.opening)?;
+    }
+    Ok(Rows::from_vec(openings))
+}
+
+/// No sets, with room for one of each right.
+fn room_for_sets(alloc: Global, rights: u32, nodes: u32) -> Result<CutList, AllocError>
+    ensures { IfOk result (HasRoom rights nodes) }
+{
+    let mut cuts = CutList::open(alloc, rights, nodes)?;
+    for right in 0..rights {
+        cuts.begin(right)?;
+    }
+    cuts.clear();
+    Ok(cuts)
+}
+
+/// A record with room for a month, of which nothing is told.
+fn blank_month(alloc: Global, basin: &Basin) -> Result<MonthRecord, AllocError>
+    requires basin { IsValidBasin basin.now }
+    ensures { IfOk result (IsBlank basin.now) }
+{
+    let nodes = basin.nodes.len();
+    let rights = basin.rights.len();
+    let reservoirs = basin.reservoirs.len();
+    let plan = Plan {
+        flow: zeros(alloc, basin.links.len())?,
+        take: zeros(alloc, rights)?,
+        out: zeros(alloc, nodes)?,
+    };
+    Ok(MonthRecord {
+        index: 0,
+        month: basin.first,
+        opening: zeros(alloc, reservoirs)?,
+        evaporated: zeros(alloc, reservoirs)?,
+        returned: zeros(alloc, nodes)?,
+        used: zeros(alloc, rights)?,
+        supply: zeros(alloc, nodes)?,
+        want: zeros(alloc, rights)?,
+        plan,
+        delivered: zeros(alloc, rights)?,
+        cuts: room_for_sets(alloc, rights as u32, nodes as u32)?,
+        closing: zeros(alloc, reservoirs)?,
+    })
+}
+
+/// What comes back to each node in the first month.
+fn first_comes(alloc: Global, basin: &Basin, lags: &Lags) -> Result<Rows<u64>, AllocError>
+    requires basin { IsValidBasin basin.now }
+    requires lags { lag.StandsFor lags.now basin.now.returns [] }
+    ensures { IfOk result (HasReturned basin.now []) }
+{
+    let mut comes = zeros(alloc, basin.nodes.len())?;
+    bring_back(basin, lags, comes.as_mut_slice());
+    Ok(comes)
+}
+
+/// An account of no line.
+pub fn blank_account(alloc: Global, basin: &Basin) -> Result<Account, AllocError>
+    requires { IsValidBasin basin.now }
+    ensures { IfOk result (λ account. (series : Inflows) → Keeps basin.now series account (nothing_told basin.now)) }
+{
+    let lags = Lags::open(alloc, basin.returns.as_slice())?;
+    let comes = first_comes(alloc, basin, &lags)?;
+    Ok(Account {
+        done: 0,
+        lags,
+        opens: openings(alloc, basin)?,
+        comes,
+        month: blank_month(alloc, basin)?,
+        calling: None,
+        has_supply: false,
+        closes: zeros(alloc, basin.reservoirs.len())?,
+        has_closes: false,
+        passed: 0,
+        answered: 0,
+        into: zeros(alloc, basin.nodes.len())?,
+        out_of: zeros(alloc, basin.nodes.len())?,
+    })
+}
+
+/// The node if it is an outlet, and else the last outlet before it.
+fn last_with(basin: &Basin, last: u32, node: u32) -> u32
+    requires { node < length basin.now.nodes }
+    ensures { result ≡ (if is_outlet basin.now node then node else last) }
+{
+    if basin.nodes[node as usize].outlet {
+        node
+    } else {
+        last
+    }
+}
+
+/// The last outlet in the order of the file.
+pub fn last_outlet(basin: &Basin) -> u32
+    requires { IsValidBasin basin.now }
+    ensures { (n : ℕ) → list_all (λ other. nat_le other n) (outlets basin.now) ≡ nat_le result n }
+{
+    let mut last = 0;
+    for node in 0..basin.nodes.len() as u32 {
+        last = last_with(basin, last, node);
+    }
+    last
+}

@@ -1,0 +1,77 @@
+//! Rights that a line passes over: each has to be met, or to have its `call`.
+ghost use Rattle.std.specs.Prelude.{◌≡◌, ◌<◌, ◌≤◌, false, not, length, take, is_none};
+ghost use Rattle.std.specs.List.{list_any};
+ghost use Rattle.result_text.specs.Range.{IsOfBasin};
+ghost use Rattle.water_model.specs.History.{FitsBasin, cut_of};
+ghost use Rattle.water_model.specs.Places.{seniors_first};
+ghost use Rattle.water_model.specs.Valid.{IsValidBasin};
+ghost use Rattle.cert_check.specs.Checking as checking;
+ghost use Rattle.cert_check.specs.Keeping.{lacks_call};
+ghost use Rattle.cert_check.specs.Walks.{IsPassed};
+
+use crate::compare::{is_behind_calls, is_short};
+use rights_roll::priority::is_senior;
+use water_model::item::Item;
+use water_model::types::{Basin, MonthRecord};
+
+/// Whether a right has a set in the record.
+fn has_set(month: &MonthRecord, right: u32) -> bool
+    requires right { right < length month.now.cuts.sets }
+    requires nodes { 0 < month.now.cuts.nodes }
+    ensures { not result ≡ is_none (cut_of month.now right) }
+{
+    month.cuts.holds(right, 0).is_some()
+}
+
+/// Whether a right is short and has no set.
+fn lacks_call(basin: &Basin, month: &MonthRecord, right: u32) -> bool
+    requires basin { IsValidBasin basin.now }
+    requires fits { FitsBasin basin.now month.now }
+    requires right { right < length basin.now.rights }
+    ensures { result ≡ lacks_call month.now right }
+{
+    is_short(month, right) && !has_set(month, right)
+}
+
+/// Whether a line stands behind the place of a right's `call` line.
+fn passes(basin: &Basin, item: &Item, right: u32) -> bool
+    requires item { IsOfBasin basin.now item.now }
+    requires right { right < length basin.now.rights }
+    ensures { result ≡ checking.passes basin.now item.now right }
+{
+    match *item {
+        Item::Call { right: own } => is_senior(
+            &basin.rights[right as usize],
+            &basin.rights[own as usize],
+        ),
+        _ => is_behind_calls(item),
+    }
+}
+
+/// How many of the rights in the order of seniority a line passes over, from a place on, or none where one of them is
+/// short and has no set.
+pub fn pass_over(
+    basin: &Basin,
+    order: &[u32],
+    month: &MonthRecord,
+    from: usize,
+    item: &Item,
+) -> Option<usize>
+    requires basin { IsValidBasin basin.now }
+    requires fits { FitsBasin basin.now month.now }
+    requires order { order.now ≡ seniors_first basin.now }
+    requires from { from ≤ length order.now }
+    requires item { IsOfBasin basin.now item.now }
+    requires before { list_any (lacks_call month.now) (take from order.now) ≡ false }
+    ensures { IsPassed basin.now month.now item.now result }
+{
+    for at in from..order.len() {
+        if !passes(basin, item, order[at]) {
+            return Some(at);
+        }
+        if lacks_call(basin, month, order[at]) {
+            return None;
+        }
+    }
+    Some(order.len())
+}

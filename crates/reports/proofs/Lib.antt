@@ -1,0 +1,10 @@
+pub mod Alike
+pub mod Balanced
+pub mod Growth
+pub mod Loops
+pub mod Room
+pub mod Rights
+pub mod Sums
+pub mod Told
+pub mod Worst
+pub mod Written

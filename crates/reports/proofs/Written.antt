@@ -1,0 +1,32 @@
+-- What is put piece by piece.
+use Rattle.std.proofs.Common.{◌≡◌, ℕ, List, [], ◌∷◌, ◌++◌, append_assoc, ◌∙◌, sym, ap, Result, Option, refl}
+use Rattle.std.specs.Prelude.{IsErr, slice_get, Some, unwrap_or, option_map}
+use Rattle.std.specs.List.{flat_map}
+use Rattle.water_edge.specs.Edge.{Puts}
+use Rattle.result_text.proofs.Puts.{PutsFront, PutsFront-fails, PutsFront-cut}
+use Rattle.reports.specs.Reports.{row, balance_row}
+use Rattle.water_model.specs.declared.types.Basin.{Basin}
+use Rattle.reports.specs.Texts.{balance_front, balance_rest, figures_row, row_in}
+use Rattle.reports.specs.declared.figures.RightFigures.{RightFigures}
+use Rattle.reports.specs.declared.waters.Waters.{Waters}
+
+-- a failed put leaves a front of whatever goes on with its piece
+pub Puts-cut : {E : Type 0} (old new : Option (List ℕ)) (r : Result (Unit {0}) E) (a b : List ℕ) → IsErr r → PutsFront old new a → Puts old new r (a ++ b)
+Puts-cut old new r a b failed front = PutsFront-fails old new r (a ++ b) failed (PutsFront-cut old new a b front)
+
+-- the row of the balance in two pieces
+pub balance_split : (w : Waters) → balance_front w ++ balance_rest w ≡ balance_row w
+unfolding balance_front balance_rest row
+balance_split w = simp append_assoc
+
+-- the row of a right by its entry
+pub row_listed : (b : Basin) (rights : List RightFigures) (right : ℕ) (f : RightFigures) → slice_get rights right ≡ Some f → figures_row b right f ≡ row_in b rights right
+row_listed b rights right f at = sym (ap (λ o. unwrap_or (option_map (figures_row b right) o) []) at)
+
+-- the rows of some rights, one right after another
+pub rows_of : (h : ℕ → List ℕ) (order rights : List ℕ) → order ≡ rights → flat_map h (flat_map (λ x. x ∷ []) order) ≡ flat_map h rights
+rows_of h order rights same = one_each order ∙ ap (flat_map h) same
+  where
+    one_each : (xs : List ℕ) → flat_map h (flat_map (λ x. x ∷ []) xs) ≡ flat_map h xs
+    one_each [] = refl
+    one_each (x ∷ xs) = ap (λ t. h x ++ t) (one_each xs)

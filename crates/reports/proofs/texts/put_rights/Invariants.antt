@@ -1,0 +1,9 @@
+use Rattle.std.proofs.Common.{[], ◌∷◌}
+use Rattle.result_text.proofs.Puts.{SoFar}
+use Rattle.reports.specs.Texts.{row_in}
+use Rattle.reports.proofs.texts.put_rights.Given as goal
+
+abbrev pub invariant-loop-right : goal.invariant-loop-right
+invariant-loop-right g l =
+    SoFar (row_in l.basin l.rights) (λ right. right ∷ []) l.order l.right-index
+    (g.K.Sink.taken l.fn.sink) (g.K.Sink.taken l.sink) (g.K.Sink.faults l.fn.sink) (g.K.Sink.faults l.sink)

@@ -1,0 +1,34 @@
+-- How a report may end.
+use Rattle.std.specs.Prelude.{ℕ, ◌*◌, ◌+◌, ◌≤◌, List, length, take, ⊤, Option, Result, Ok, Err}
+use Rattle.std.specs.Io.KnownBytes.{Appends}
+use Rattle.month_fold.specs.Reaches.{HaveReaches}
+use Rattle.senior_hold.specs.MonthNetwork.{arc_count}
+use Rattle.water_model.specs.History.{IsHistory}
+use Rattle.water_model.specs.declared.types.Basin.{Basin}
+use Rattle.water_model.specs.declared.types.Inflows.{Inflows}
+use Rattle.water_model.specs.declared.types.MonthRecord.{MonthRecord}
+use Rattle.reports.specs.Figures.{AreBalanced, waters_of}
+use Rattle.reports.specs.declared.stop.ReportStop.{ReportStop}
+use Rattle.reports.specs.declared.stop.ReportStop.TheVariants as stop
+
+-- the records of a whole run, with the reaches as the sets of short rights; no water is made or lost
+pub record IsRun (b : Basin) (series : Inflows) (records : List MonthRecord) : Type 0 where
+  pub history : IsHistory b series records
+  pub reaches : HaveReaches b records
+  pub balanced : AreBalanced (waters_of b series records)
+
+-- the text of a run is appended, or after a failure of the sink a front of it
+abbrev pub Reports : (List MonthRecord → List ℕ) → Basin → Inflows → Result (Unit {0}) ReportStop → Option (List ℕ) → Option (List ℕ) → Type 0
+Reports text b series (Ok _) old new =
+    (records : List MonthRecord) × IsRun b series records × Appends old new (text records)
+Reports text b series (Err stop.SinkFailed) old new =
+    (records : List MonthRecord) × IsRun b series records
+    × ((count : ℕ) × (count ≤ length (text records)) × Appends old new (take count (text records)))
+Reports text b series (Err stop.OutOfMemory) old new = ⊤
+
+-- the most pushes of the searches of a month, and of a whole run
+abbrev pub month_pushes : Basin → ℕ
+month_pushes b = length b.rights * (30 * (2 * arc_count b + 2))
+
+abbrev pub most_pushes : Basin → ℕ
+most_pushes b = b.months * month_pushes b

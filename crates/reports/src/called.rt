@@ -1,0 +1,75 @@
+//! How many right-months had a calling right.
+ghost use Rattle.std.specs.Prelude.{List, ◌≡◌, ◌<◌, ◌≤◌, ◌++◌, ◌∷◌, [], length, is_some, if◌then◌else◌, IfOk};
+ghost use Rattle.rights_roll.specs.Rolls.{IsRollOf};
+ghost use Rattle.water_model.specs.History.{FitsBasin};
+ghost use Rattle.water_model.specs.Text.{calling_right};
+ghost use Rattle.water_model.specs.Valid.{IsValidBasin, IsSeriesOf};
+ghost use Rattle.water_model.specs.declared.types.MonthRecord.{MonthRecord};
+ghost use Rattle.reports.specs.Figures.{called_in};
+ghost use Rattle.reports.specs.Tallies.{IsTrial, IsTrialBefore};
+
+use crate::tally::Tally;
+use calls::calling_right;
+use rights_roll::roll::Roll;
+use std::alloc::{AllocError, Global};
+use water_model::types::{Basin, Inflows, MonthRecord};
+
+/// A tally, and how often a right had a calling right in a month.
+#[derive(Drop)]
+pub struct Trial {
+    pub tally: Tally,
+    pub called: u64,
+}
+
+/// 1 where a right had a calling right in a month, else 0.
+fn called_once(basin: &Basin, roll: &Roll, month: &MonthRecord, right: u32) -> u64
+    requires basin { IsValidBasin basin.now }
+    requires roll { IsRollOf basin.now.rights roll.now }
+    requires month { FitsBasin basin.now month.now }
+    requires right { right < length basin.now.rights }
+    ensures { result ≡ (if is_some (calling_right basin.now month.now right) then 1 else 0) }
+{
+    match calling_right(basin, roll, month, right) {
+        Some(_) => 1,
+        None => 0,
+    }
+}
+
+/// How many rights had a calling right in a month.
+fn called_in(basin: &Basin, roll: &Roll, month: &MonthRecord) -> u64
+    requires basin { IsValidBasin basin.now }
+    requires roll { IsRollOf basin.now.rights roll.now }
+    requires month { FitsBasin basin.now month.now }
+    ensures value { result ≡ called_in basin.now month.now }
+    ensures few { result ≤ length basin.now.rights }
+{
+    let mut count = 0;
+    for right in 0..basin.rights.len() {
+        count += called_once(basin, roll, month, right as u32);
+    }
+    count
+}
+
+impl Trial {
+    /// The tally before the first month. AllocError comes where memory is lacking.
+    pub fn open(alloc: Global, basin: &Basin) -> Result<Trial, AllocError>
+        requires { IsValidBasin basin.now }
+        ensures { IfOk result (λ trial. (series : Inflows) → IsTrial basin.now series [] trial) }
+    {
+        let tally = Tally::open(alloc, basin)?;
+        Ok(Trial { tally, called: 0 })
+    }
+
+    /// Adds the month that follows those so far.
+    pub fn add(&mut self, basin: &Basin, series: &Inflows, roll: &Roll, month: &MonthRecord)
+        requires basin { IsValidBasin basin.now }
+        requires series { IsSeriesOf basin.now series.now }
+        requires roll { IsRollOf basin.now.rights roll.now }
+        requires next { IsTrialBefore basin.now series.now self.old month.now }
+        ensures { (records : List MonthRecord) → IsTrial basin.now series.now records self.old →
+            IsTrial basin.now series.now (records ++ month.now ∷ []) self.new }
+    {
+        self.called += called_in(basin, roll, month);
+        self.tally.add(basin, series, month);
+    }
+}

@@ -1,0 +1,45 @@
+//! The report of a run.
+ghost use Rattle.std.specs.Prelude.{◌≡◌, ◌+◌, ◌≤◌, Err};
+ghost use Rattle.water_edge.specs.Edge.{HasCause};
+ghost use Rattle.water_model.specs.Valid.{IsValidBasin, IsSeriesOf};
+ghost use Rattle.reports.specs.Ends.{Reports, most_pushes};
+ghost use Rattle.reports.specs.Reports.{report_text};
+ghost use Rattle.reports.specs.declared.stop.ReportStop.TheVariants.{SinkFailed, OutOfMemory};
+
+use crate::months::{roll_of, tally_run};
+use crate::stop::ReportStop;
+use crate::texts::put_report;
+use std::alloc::Global;
+use std::sync::ledger::Ledger;
+use steps::Steps;
+use water_edge::Sink;
+use water_model::types::{Basin, Inflows};
+
+/// Runs all months of a basin with a series, and then puts the report of the run.
+pub fn period_report<K: Sink, L: Ledger>(
+    alloc: Global,
+    basin: &Basin,
+    series: &Inflows,
+    sink: &mut K,
+    searches: &mut Steps<L>,
+) -> Result<(), ReportStop>
+    requires basin { IsValidBasin basin.now }
+    requires series { IsSeriesOf basin.now series.now }
+    ensures text { Reports (λ records. report_text basin.now series.now records) basin.now series.now result (K.taken sink.old) (K.taken sink.new) }
+    ensures cause { HasCause (K.faults sink.old) (K.faults sink.new) (result ≡ Err SinkFailed) }
+    ensures stays { result ≡ Err OutOfMemory → sink.new ≡ sink.old }
+    ensures pushes { searches.new ≤ searches.old + most_pushes basin.now }
+{
+    let roll = match roll_of(alloc, basin) {
+        Ok(roll) => roll,
+        Err(_) => return Err(ReportStop::OutOfMemory),
+    };
+    let tally = match tally_run(alloc, basin, series, searches) {
+        Ok(tally) => tally,
+        Err(_) => return Err(ReportStop::OutOfMemory),
+    };
+    match put_report(sink, basin, &roll, &tally) {
+        Ok(()) => Ok(()),
+        Err(_) => Err(ReportStop::SinkFailed),
+    }
+}

@@ -1,0 +1,63 @@
+//! Reports of generated basins against a program of its own, which tries flows right by right.
+ghost use Rattle.std.specs.Prelude.{◌≡◌, ◌<◌, ◌≤◌};
+
+use crate::{period_report, trial_report};
+use basin_gen::make;
+use std::alloc::Global;
+use std::marker::Brand;
+use std::sync::ledger::{Blank, Ledger};
+use std::test::Fail;
+use steps::Steps;
+use water_edge::MemorySink;
+
+/// The report and the summary of a generated basin.
+fn texts_of<L: Ledger>(
+    alloc: Global,
+    blank: Blank,
+    number: u32,
+    size: u32,
+) -> Result<(MemorySink, MemorySink), Fail>
+    requires name { blank.name ≡ L.name }
+    requires parts { blank.parts ≡ L.parts }
+    requires some { 0 < L.parts }
+    requires least { 2 ≤ size }
+    requires most { size ≤ 2000 }
+{
+    let (basin, series) = make(alloc, number, size)?;
+    let mut searches = Steps::<L>::new(blank);
+    let mut report = MemorySink::new(alloc, 4096, Vec::new(alloc))?;
+    let mut summary = MemorySink::new(alloc, 4096, Vec::new(alloc))?;
+    period_report(alloc, &basin, &series, &mut report, &mut searches)?;
+    trial_report(
+        alloc,
+        number,
+        size,
+        &basin,
+        &series,
+        &mut summary,
+        &mut searches,
+    )?;
+    Ok((report, summary))
+}
+
+/// Without rights all water flows out: five times what flows in in a year.
+const RIVER: (&str, &str) = (
+    "report 1950-10 60\nbalance 0 2355 0 0 0 0 2355\ndone 60\n",
+    "trial 7 2\nsize 2 1 0 60\nwanted 0\ndelivered 0\nshort 0\ncalled 0\nbalance 0 2355 0 0 0 0 2355\ndone 60\n",
+);
+
+/// Rights of all kinds, short in some months, in all and in none.
+const BASIN: (&str, &str) = (
+    "report 1950-10 60\nright z0a 0 14940 14940 -\nright z1a 0 9300 9300 -\nright d0 60 13800 2355 1951-04\nright d1 60 5880 3410 1951-02\nright s3 0 16740 16740 -\nright d2 60 17820 0 1950-10\nright z0b 0 12840 12840 -\nright z1b 34 5700 4631 1952-01\nbalance 554 131165 1030 713 2405 5765 123866\ndone 60\n",
+    "trial 7 85\nsize 85 105 8 60\nwanted 97020\ndelivered 64216\nshort 214\ncalled 60\nbalance 554 131165 1030 713 2405 5765 123866\ndone 60\n",
+);
+
+#[test]
+fn reports_generated_basins(rt: HostRuntime) -> Result<(), Fail> {
+    for (size, want) in [(2, RIVER), (85, BASIN)] {
+        let (report, summary) = texts_of::<Brand>(rt.alloc(), Blank::new(1), 7, size)?;
+        assert_eq!(rt; report.bytes(), want.0.as_bytes(), "report of {size}");
+        assert_eq!(rt; summary.bytes(), want.1.as_bytes(), "summary of {size}");
+    }
+    Ok(())
+}

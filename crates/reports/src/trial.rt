@@ -1,0 +1,57 @@
+//! The summary of a trial.
+ghost use Rattle.std.specs.Prelude.{◌≡◌, ◌+◌, ◌≤◌, Err};
+ghost use Rattle.water_edge.specs.Edge.{HasCause};
+ghost use Rattle.water_model.specs.Valid.{IsValidBasin, IsSeriesOf};
+ghost use Rattle.reports.specs.Ends.{Reports, most_pushes};
+ghost use Rattle.reports.specs.Reports.{trial_text};
+ghost use Rattle.reports.specs.declared.stop.ReportStop.TheVariants.{SinkFailed, OutOfMemory};
+
+use crate::months::{roll_of, try_run};
+use crate::stop::ReportStop;
+use crate::texts::put_summary;
+use crate::totals::totals_of;
+use std::alloc::Global;
+use std::sync::ledger::Ledger;
+use steps::Steps;
+use water_edge::Sink;
+use water_model::types::{Basin, Inflows};
+
+/// Runs all months of a basin that was made from a number and a size, and then puts the summary of the run.
+pub fn trial_report<K: Sink, L: Ledger>(
+    alloc: Global,
+    number: u32,
+    size: u32,
+    basin: &Basin,
+    series: &Inflows,
+    sink: &mut K,
+    searches: &mut Steps<L>,
+) -> Result<(), ReportStop>
+    requires basin { IsValidBasin basin.now }
+    requires series { IsSeriesOf basin.now series.now }
+    ensures text { Reports (λ records. trial_text number size basin.now series.now records) basin.now series.now result (K.taken sink.old) (K.taken sink.new) }
+    ensures cause { HasCause (K.faults sink.old) (K.faults sink.new) (result ≡ Err SinkFailed) }
+    ensures stays { result ≡ Err OutOfMemory → sink.new ≡ sink.old }
+    ensures pushes { searches.new ≤ searches.old + most_pushes basin.now }
+{
+    let roll = match roll_of(alloc, basin) {
+        Ok(roll) => roll,
+        Err(_) => return Err(ReportStop::OutOfMemory),
+    };
+    let trial = match try_run(alloc, basin, series, &roll, searches) {
+        Ok(trial) => trial,
+        Err(_) => return Err(ReportStop::OutOfMemory),
+    };
+    let totals = totals_of(&trial.tally.rights);
+    match put_summary(
+        sink,
+        number,
+        size,
+        basin,
+        &totals,
+        trial.called,
+        &trial.tally.waters,
+    ) {
+        Ok(()) => Ok(()),
+        Err(_) => Err(ReportStop::SinkFailed),
+    }
+}
