@@ -2,7 +2,7 @@ ghost use Rattle.std.specs.Prelude.{◌≡◌, ◌<◌};
 
 mod basins;
 mod checks;
-mod reports;
+mod reporting;
 
 use crate::{Status, basin_main};
 use basins::{
