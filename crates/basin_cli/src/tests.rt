@@ -1,14 +1,20 @@
 ghost use Rattle.std.specs.Prelude.{◌≡◌, ◌<◌};
 
-mod basins;
+mod canals;
 mod checks;
+mod lakes;
+mod ordinary;
 mod reporting;
+mod returning;
+mod rivers;
 
 use crate::{Status, basin_main};
-use basins::{
-    ALL_DRY, CANAL_1900, CANAL_2000, CANAL_2001, CANAL_INSTREAM, EVAPORATING, JUNIOR_DRY,
-    JUNIOR_SHORT, LAKE, NOTHING_WANTED, ONE_DATE, ORDINARY, ORDINARY_SERIES, ORDINARY_TEXT,
-    OWN_BRANCHES, POOL, RETURNS, TROUT, TWO_CANALS, TWO_INSTREAM, TWO_LAGS,
+use canals::{CANAL_1900, CANAL_2000, CANAL_2001, CANAL_INSTREAM, TWO_CANALS};
+use lakes::{EVAPORATING, LAKE, POOL};
+use ordinary::{ORDINARY, ORDINARY_SERIES, ORDINARY_TEXT};
+use returning::{RETURNS, TWO_LAGS};
+use rivers::{
+    ALL_DRY, JUNIOR_DRY, JUNIOR_SHORT, NOTHING_WANTED, ONE_DATE, OWN_BRANCHES, TROUT, TWO_INSTREAM,
 };
 use std::alloc::Global;
 use std::marker::Brand;

@@ -1,8 +1,9 @@
 //! Results that are accepted and refuted.
-use super::basins::{
-    CANAL_1900, JUNIOR_DRY, JUNIOR_SHORT, LAKE, NOTHING_WANTED, ORDINARY, ORDINARY_SERIES,
-    ORDINARY_TEXT, OWN_BRANCHES, POOL, RETURNS, TROUT, TWO_CANALS,
-};
+use super::canals::{CANAL_1900, TWO_CANALS};
+use super::lakes::{LAKE, POOL};
+use super::ordinary::{ORDINARY, ORDINARY_SERIES, ORDINARY_TEXT};
+use super::returning::RETURNS;
+use super::rivers::{JUNIOR_DRY, JUNIOR_SHORT, NOTHING_WANTED, OWN_BRANCHES, TROUT};
 use super::{NEVER, SERVED, expect, files};
 use crate::Status;
 use std::alloc::Global;

@@ -1,5 +1,8 @@
 //! Reports and trials.
-use super::basins::{JUNIOR_DRY, LAKE, ORDINARY, ORDINARY_SERIES, RETURNS};
+use super::lakes::LAKE;
+use super::ordinary::{ORDINARY, ORDINARY_SERIES};
+use super::returning::RETURNS;
+use super::rivers::JUNIOR_DRY;
 use super::{call_over, expect, files};
 use crate::Status;
 use std::marker::Brand;
