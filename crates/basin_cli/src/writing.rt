@@ -18,18 +18,6 @@ use std::sync::ledger::Ledger;
 use steps::Steps;
 use water_model::types::{Basin, Inflows};
 
-/// The roll of a valid basin, as far as memory reaches.
-fn roll_of(alloc: Global, basin: &Basin) -> Result<Roll, AllocError>
-    requires { IsValidBasin basin.now }
-    ensures { IfOk result (IsRollOf basin.now.rights) }
-{
-    // In a valid basin a roll is refused for want of memory alone.
-    match Roll::build(alloc, basin.rights.as_slice(), basin.returns.as_slice()) {
-        Ok(roll) => Ok(roll),
-        Err(_) => Err(AllocError),
-    }
-}
-
 /// Solves the next month and appends its lines.
 fn draft_month<L: Ledger>(
     draft: &mut Draft,
@@ -151,6 +139,6 @@ pub fn text_of_run<L: Ledger>(
     ensures text { IfOk result (λ draft. IsTextOfRun basin.now series.now draft.bytes) }
     ensures pushes { searches.new ≤ searches.old + run_pushes basin.now }
 {
-    let roll = roll_of(alloc, basin)?;
+    let roll = Roll::of_basin(alloc, basin)?;
     draft_by_roll(alloc, basin, series, &roll, searches)
 }

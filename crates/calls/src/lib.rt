@@ -11,21 +11,8 @@ ghost use Rattle.water_model.specs.Valid.{IsValidBasin};
 ghost use Rattle.rights_roll.specs.Rolls.{IsRollOf};
 
 use rights_roll::roll::Roll;
-use water_model::types::{Basin, MonthRecord, RightKind};
-
-/// The node at which a diversion or a zone takes water, or `None` for an instream right.
-fn taking_node(basin: &Basin, right: u32) -> Option<u32>
-    requires basin { IsValidBasin basin.now }
-    requires right { right < length basin.now.rights }
-    ensures value { result ≡ taking_node basin.now right }
-    ensures within { IfSome result (λ node. node < length basin.now.nodes) }
-{
-    match basin.rights[right as usize].kind {
-        RightKind::Diversion { node } => Some(node),
-        RightKind::Instream { .. } => None,
-        RightKind::Zone { reservoir, .. } => Some(basin.reservoirs[reservoir as usize].node),
-    }
-}
+use water_model::calls::taking_node;
+use water_model::types::{Basin, MonthRecord};
 
 /// Whether a right was delivered less than its want.
 fn is_short(month: &MonthRecord, right: u32) -> bool

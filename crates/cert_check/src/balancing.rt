@@ -8,8 +8,9 @@ ghost use Rattle.cert_check.specs.Checking.{balances};
 ghost use Rattle.cert_check.specs.Keeping.{with_outflow};
 
 use month_terms::add::add_at;
+use water_model::calls::taking_node;
 use water_model::rows::Rows;
-use water_model::types::{Basin, MonthRecord, RightKind};
+use water_model::types::{Basin, MonthRecord};
 
 /// Adds at each node what flows to it on links.
 fn add_inflows(basin: &Basin, flow: &[u64], into: &mut [u64])
@@ -36,20 +37,6 @@ fn add_outflows(basin: &Basin, flow: &[u64], out_of: &mut [u64])
 {
     for link in 0..basin.links.len() {
         add_at(out_of, basin.links[link].from as usize, flow[link]);
-    }
-}
-
-/// The node at which a diversion or a zone takes water, or `None` for an instream right.
-fn taking_node(basin: &Basin, right: u32) -> Option<u32>
-    requires basin { IsValidBasin basin.now }
-    requires right { right < length basin.now.rights }
-    ensures value { result ≡ taking_node basin.now right }
-    ensures within { IfSome result (λ node. node < length basin.now.nodes) }
-{
-    match basin.rights[right as usize].kind {
-        RightKind::Diversion { node } => Some(node),
-        RightKind::Instream { .. } => None,
-        RightKind::Zone { reservoir, .. } => Some(basin.reservoirs[reservoir as usize].node),
     }
 }
 

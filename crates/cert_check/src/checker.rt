@@ -50,11 +50,7 @@ impl<'b> Checker<'b> {
         ensures series { IfOk result (λ checker. checker.series ≡ series.now) }
         ensures none { IfOk result (λ checker. StandsFor checker []) }
     {
-        let roll = match Roll::build(alloc, basin.rights.as_slice(), basin.returns.as_slice()) {
-            Ok(roll) => roll,
-            // In a valid basin a roll is refused for want of memory alone.
-            Err(_) => return Err(AllocError),
-        };
+        let roll = Roll::of_basin(alloc, basin)?;
         let reader = ResultReader::open(alloc, basin, &roll)?;
         let account = blank_account(alloc, basin)?;
         let means = Means {

@@ -14,28 +14,11 @@ ghost use Rattle.cert_check.specs.Keeping.{Keeps};
 use crate::account::Account;
 use crate::entering::bring_back;
 use lag_returns::Lags;
+use month_terms::opening::{openings, zeros};
 use std::alloc::{AllocError, Global};
 use water_model::cut_list::CutList;
 use water_model::rows::Rows;
 use water_model::types::{Basin, MonthRecord, Plan};
-
-/// So many zeros.
-fn zeros(alloc: Global, count: usize) -> Result<Rows<u64>, AllocError>
-    ensures { IfOk result (λ rows. rows ≡ replicate count 0) }
-{
-    Ok(Rows::from_vec(vec![in alloc; 0; count]?))
-}
-
-/// What each reservoir holds when the run begins.
-fn openings(alloc: Global, basin: &Basin) -> Result<Rows<u64>, AllocError>
-    ensures { IfOk result (λ rows. rows ≡ map (λ v. v.opening) basin.now.reservoirs) }
-{
-    let mut openings = Vec::with_capacity(alloc, basin.reservoirs.len())?;
-    for reservoir in basin.reservoirs.as_slice() {
-        openings.push(reservoir.opening)?;
-    }
-    Ok(Rows::from_vec(openings))
-}
 
 /// No sets, with room for one of each right.
 fn room_for_sets(alloc: Global, rights: u32, nodes: u32) -> Result<CutList, AllocError>

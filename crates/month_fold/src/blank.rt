@@ -3,28 +3,11 @@ ghost use Rattle.std.specs.Prelude.{ℕ, ◌≡◌, ◌<◌, None, length, map, 
 ghost use Rattle.water_model.specs.Valid.{IsValidBasin};
 ghost use Rattle.month_terms.specs.Terms.{FitsRecord};
 
+use month_terms::opening::{openings, zeros};
 use std::alloc::{AllocError, Global};
 use water_model::cut_list::CutList;
 use water_model::rows::Rows;
 use water_model::types::{Basin, MonthRecord, Plan};
-
-/// So many zeros.
-fn zeros(alloc: Global, count: usize) -> Result<Rows<u64>, AllocError>
-    ensures { IfOk result (λ rows. rows ≡ replicate count 0) }
-{
-    Ok(Rows::from_vec(vec![in alloc; 0; count]?))
-}
-
-/// What each reservoir holds when the run begins.
-fn openings(alloc: Global, basin: &Basin) -> Result<Rows<u64>, AllocError>
-    ensures { IfOk result (λ rows. rows ≡ map (λ v. v.opening) basin.now.reservoirs) }
-{
-    let mut openings = Vec::with_capacity(alloc, basin.reservoirs.len())?;
-    for reservoir in basin.reservoirs.as_slice() {
-        openings.push(reservoir.opening)?;
-    }
-    Ok(Rows::from_vec(openings))
-}
 
 /// A record with room for a month, which has nothing but the storage with which the first month opens.
 pub fn blank_month(alloc: Global, basin: &Basin) -> Result<MonthRecord, AllocError>

@@ -7,5 +7,6 @@ pub mod add;
 pub mod closing;
 pub mod evaporation;
 pub mod month;
+pub mod opening;
 pub mod supply;
 pub mod want;

@@ -16,18 +16,6 @@ use std::sync::ledger::Ledger;
 use steps::Steps;
 use water_model::types::{Basin, Inflows};
 
-/// The roll of a valid basin, as far as memory reaches.
-pub fn roll_of(alloc: Global, basin: &Basin) -> Result<Roll, AllocError>
-    requires { IsValidBasin basin.now }
-    ensures { IfOk result (IsRollOf basin.now.rights) }
-{
-    // In a valid basin a roll is refused for want of memory alone.
-    match Roll::build(alloc, basin.rights.as_slice(), basin.returns.as_slice()) {
-        Ok(roll) => Ok(roll),
-        Err(_) => Err(AllocError),
-    }
-}
-
 /// Solves the next month and adds it to a tally.
 fn tally_month<L: Ledger>(
     tally: &mut Tally,

@@ -6,9 +6,10 @@ ghost use Rattle.reports.specs.Ends.{Reports, most_pushes};
 ghost use Rattle.reports.specs.Reports.{report_text};
 ghost use Rattle.reports.specs.declared.stop.ReportStop.TheVariants.{SinkFailed, OutOfMemory};
 
-use crate::months::{roll_of, tally_run};
+use crate::months::tally_run;
 use crate::stop::ReportStop;
 use crate::texts::put_report;
+use rights_roll::roll::Roll;
 use std::alloc::Global;
 use std::sync::ledger::Ledger;
 use steps::Steps;
@@ -30,7 +31,7 @@ pub fn period_report<K: Sink, L: Ledger>(
     ensures stays { result ≡ Err OutOfMemory → sink.new ≡ sink.old }
     ensures pushes { searches.new ≤ searches.old + most_pushes basin.now }
 {
-    let roll = match roll_of(alloc, basin) {
+    let roll = match Roll::of_basin(alloc, basin) {
         Ok(roll) => roll,
         Err(_) => return Err(ReportStop::OutOfMemory),
     };

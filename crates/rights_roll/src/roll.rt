@@ -1,6 +1,7 @@
 //! The roll of rights.
 ghost use Rattle.std.specs.Prelude.{◌≡◌, ◌-◌, ◌<◌, ◌≤◌, length, map, slice_index, slice_index_or, [], All, None, OnOk, IfOk, IfErr};
 ghost use Rattle.water_model.specs.Rights.{IsSoundRoll};
+ghost use Rattle.water_model.specs.Valid.{IsValidBasin};
 ghost use Rattle.rights_roll.specs.RollFaults.{roll_fault, IsRollRefusal};
 ghost use Rattle.rights_roll.specs.Rolls.{IsRollOf};
 
@@ -11,7 +12,7 @@ use crate::order::order_of;
 use crate::zones::check_zones;
 use std::alloc::{AllocError, Global};
 use std::marker::Model;
-use water_model::types::{ReturnRow, Right};
+use water_model::types::{Basin, ReturnRow, Right};
 
 /// The rights of a basin, without their names: their order by seniority, their wants, and the instream rights on each
 /// link. Rights and links are numbered from 0.
@@ -73,6 +74,18 @@ impl Roll {
             first_on,
             next_on,
         })
+    }
+
+    /// The roll of the rights of a valid basin, in which none is at fault. AllocError comes where memory is lacking.
+    pub fn of_basin(alloc: Global, basin: &Basin) -> Result<Roll, AllocError>
+        requires { IsValidBasin basin.now }
+        ensures { IfOk result (IsRollOf basin.now.rights) }
+    {
+        match Roll::build(alloc, basin.rights.as_slice(), basin.returns.as_slice()) {
+            Ok(roll) => Ok(roll),
+            // Nothing is at fault in a valid basin, so it is memory that is lacking.
+            Err(_) => Err(AllocError),
+        }
     }
 
     /// Every right once, seniors first.

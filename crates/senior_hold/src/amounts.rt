@@ -10,7 +10,7 @@ ghost use Rattle.senior_hold.specs.MonthNetwork.{arc_count, take_arc, out_arc, t
 ghost use Rattle.senior_hold.specs.Arcs.{AreArcs, AreAmounts, AreAmountsOf, AreBounds};
 ghost use Rattle.senior_hold.specs.Solved.{FitsPlan};
 
-use crate::arcs::{Arcs, taking_node};
+use crate::arcs::Arcs;
 use circulation::Circulation;
 use water_model::calls::carry_of;
 use water_model::types::{Basin, Plan};

@@ -7,6 +7,7 @@ ghost use Rattle.senior_hold.specs.Arcs.{AreArcs, AreEnds, AreEndsOf};
 
 use circulation::Ends;
 use std::alloc::{AllocError, Global};
+use water_model::calls::taking_node;
 use water_model::types::{Basin, RightKind};
 
 /// The arcs of rights and of outlets.
@@ -16,19 +17,6 @@ pub struct Arcs {
     pub rights: Vec<u32>,
     /// For each node the arc that it has if it is an outlet, and else that of the next outlet, if there is one.
     pub outs: Vec<u32>,
-}
-
-/// The node at which a right takes water, or none for an instream right.
-pub fn taking_node(basin: &Basin, right: u32) -> Option<u32>
-    requires valid { IsValidBasin basin.now }
-    requires right { right < length basin.now.rights }
-    ensures { result ≡ taking_node basin.now right }
-{
-    match basin.rights[right as usize].kind {
-        RightKind::Diversion { node } => Some(node),
-        RightKind::Instream { .. } => None,
-        RightKind::Zone { reservoir, .. } => Some(basin.reservoirs[reservoir as usize].node),
-    }
 }
 
 /// The arc of each right.

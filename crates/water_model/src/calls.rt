@@ -1,7 +1,8 @@
 //! What a basin says of a month.
-ghost use Rattle.std.specs.Prelude.{◌≡◌, ◌<◌, ◌≤◌, length};
+ghost use Rattle.std.specs.Prelude.{◌≡◌, ◌<◌, ◌≤◌, length, IfSome};
 ghost use Rattle.std.specs.List.Sorted.{IsStrictlyIncreasing};
 ghost use Rattle.water_text.specs.Months.{IsMonth};
+ghost use Rattle.water_model.specs.Basin.{taking_node};
 ghost use Rattle.water_model.specs.Plans.{carry_of, carry_of_kind};
 ghost use Rattle.water_model.specs.Hydrology.{inflow_at, in_year, place_in, want_in_month};
 ghost use Rattle.water_model.specs.Valid.{IsValidBasin, IsValidCarry, IsSeriesOf};
@@ -52,6 +53,20 @@ pub fn want_of(basin: &Basin, right: u32, month: Month) -> u64
         RightKind::Instream { link } => number.min(carry_of(basin, link, month)),
         RightKind::Diversion { .. } => number,
         RightKind::Zone { .. } => number,
+    }
+}
+
+/// The node at which a diversion or a zone takes water, or `None` for an instream right.
+pub fn taking_node(basin: &Basin, right: u32) -> Option<u32>
+    requires basin { IsValidBasin basin.now }
+    requires right { right < length basin.now.rights }
+    ensures value { result ≡ taking_node basin.now right }
+    ensures within { IfSome result (λ node. node < length basin.now.nodes) }
+{
+    match basin.rights[right as usize].kind {
+        RightKind::Diversion { node } => Some(node),
+        RightKind::Instream { .. } => None,
+        RightKind::Zone { reservoir, .. } => Some(basin.reservoirs[reservoir as usize].node),
     }
 }
 

@@ -12,7 +12,7 @@ invariant_of-result c = record {
   means = record {
     valid = c.requires.basin;
     series = c.requires.series;
-    roll = rw c.roll.view_is (subst (λ rights. IsRollOf rights c.in-Ok.roll) c.as_slice.ensures c.in-Ok.ensures.ok);
+    roll = rw c.roll.view_is c.in_ok-roll.ensures;
     tables = c.in_ok-tables_of.ensures;
     last = c.last_outlet.ensures;
   };

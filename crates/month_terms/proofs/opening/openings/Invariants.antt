@@ -1,5 +1,5 @@
 use Rattle.std.proofs.Common.{◌≡◌, map, take}
-use Rattle.cert_check.proofs.opening.openings.Given as goal
+use Rattle.month_terms.proofs.opening.openings.Given as goal
 
 abbrev pub invariant-loop-reservoir : goal.invariant-loop-reservoir
 invariant-loop-reservoir l = l.openings.items ≡ map (λ v. v.opening) (take l.reservoir-index l.reservoir-items)
