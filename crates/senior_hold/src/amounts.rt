@@ -12,7 +12,7 @@ ghost use Rattle.senior_hold.specs.Solved.{FitsPlan};
 
 use crate::arcs::Arcs;
 use circulation::Circulation;
-use water_model::calls::carry_of;
+use water_model::calls::{carry_of, taking_node};
 use water_model::types::{Basin, Plan};
 use water_text::month::Month;
 
