@@ -14,6 +14,6 @@ overflow_add-count c = omega (arith, c.loop-right.invariant, count_at_most c.loo
 
 pub loop-right-preserved : goal.loop-right-preserved
 loop-right-preserved c = elim c.if-is_some.branch [
-  | then-is_some w ↦ counted_more c.args.basin.now c.loop-right.right c.loop-right.count _ w.count-is c.loop-right.invariant (ap is_some (sym c.taking_node.ensures) ∙ sym c.is_some.ensures ∙ w.if-is_some.true)
-  | else-is_some w ↦ counted_same c.args.basin.now c.loop-right.right c.loop-right.count _ w.count-is c.loop-right.invariant (ap is_some (sym c.taking_node.ensures) ∙ sym c.is_some.ensures ∙ w.if-is_some.false)
+  | then-is_some w ↦ counted_more c.args.basin.now c.loop-right.right c.loop-right.count _ w.count-is c.loop-right.invariant (ap is_some (sym c.taking_node.ensures.value) ∙ sym c.is_some.ensures ∙ w.if-is_some.true)
+  | else-is_some w ↦ counted_same c.args.basin.now c.loop-right.right c.loop-right.count _ w.count-is c.loop-right.invariant (ap is_some (sym c.taking_node.ensures.value) ∙ sym c.is_some.ensures ∙ w.if-is_some.false)
 ]
