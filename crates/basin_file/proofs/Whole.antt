@@ -55,16 +55,16 @@ some_items (Some d) p k n = by (as_array d) (bool_not _ k) n
 
 -- the right at a place among the diversions is one
 front_diversion : (f : Members → ℕ) (rows : List Members) (more others : List Right) (k : ℕ) → k < length rows →
-    of_entry (map (λ row. right_of (kind.Diversion (f row)) row) rows ++ more ++ others) k (λ r. is_diversion_kind r.kind) false ≡ true
+    of_entry (map (λ members. right_of (kind.Diversion (f members)) members) rows ++ more ++ others) k (λ r. is_diversion_kind r.kind) false ≡ true
 front_diversion f [] more others k h = absurd (omega arith)
-front_diversion f (row ∷ rows) more others zero h = refl
-front_diversion f (row ∷ rows) more others (suc k) h = front_diversion f rows more others k (omega arith)
+front_diversion f (members ∷ rows) more others zero h = refl
+front_diversion f (members ∷ rows) more others (suc k) h = front_diversion f rows more others k (omega arith)
 
-ranked_more : (g : Members → Right) (n : ℕ) → ((row : Members) → rank_of_kind (g row).kind ≡ n) → (rows : List Members) (least : ℕ) (others : List Right) → least ≤ n →
+ranked_more : (g : Members → Right) (n : ℕ) → ((members : Members) → rank_of_kind (g members).kind ≡ n) → (rows : List Members) (least : ℕ) (others : List Right) → least ≤ n →
     ((m : ℕ) → m ≤ n → AreRanked m others) → AreRanked least (map g rows ++ others)
 ranked_more g n same [] least others low rest = rest least low
-ranked_more g n same (row ∷ rows) least others low rest =
-    (rw (same row) low, ranked_more g n same rows (rank_of_kind (g row).kind) others (rw (same row) (omega arith)) rest)
+ranked_more g n same (members ∷ rows) least others low rest =
+    (rw (same members) low, ranked_more g n same rows (rank_of_kind (g members).kind) others (rw (same members) (omega arith)) rest)
 
 eq_means : (m n : ℕ) → (m == n) ≡ true → m ≡ n
 eq_means m n e = grind (arith, nat_tests)
@@ -73,9 +73,9 @@ module _ (tree : Members) (none : HasNoFault tree) where
   fine : (table : BasinTable) → IsListed table → EachFrom (IsFine tree table) 0 (rows_in tree table)
   fine table is_listed = fine_rows tree none table is_listed
 
-  fine_at : (table : BasinTable) → IsListed table → (k : ℕ) (row : Members) → slice_get (rows_in tree table) k ≡ Some row → IsFine tree table k row
-  fine_at table is_listed k row there =
-      subst (λ (n : ℕ). IsFine tree table n row) (zero-add k) (from_at (IsFine tree table) 0 (rows_in tree table) k row there (fine table is_listed))
+  fine_at : (table : BasinTable) → IsListed table → (k : ℕ) (members : Members) → slice_get (rows_in tree table) k ≡ Some members → IsFine tree table k members
+  fine_at table is_listed k members there =
+      subst (λ (n : ℕ). IsFine tree table n members) (zero-add k) (from_at (IsFine tree table) 0 (rows_in tree table) k members there (fine table is_listed))
 
   length_texts : (table : BasinTable) → IsListed table → length (texts_in tree table) ≡ length (rows_in tree table)
   length_texts table is_listed = rw (texts_in-rows tree none table is_listed) (length-map (rows_in tree table) (text_at (own_key table)))
@@ -83,32 +83,32 @@ module _ (tree : Members) (none : HasNoFault tree) where
   few_nodes : length (rows_in tree Node) ≤ 2000
   few_nodes =
       let h : 0 + 0 + length (rows_in tree Node) ≤ 2000 = few_by 2000 0 0 (rows_in tree Node)
-      (from_then (IsFine tree Node) (λ k row. nat_lt 2000 (0 + (k + 1)) ≡ false) 0 (rows_in tree Node) (λ k row fine. rw zero-add fine.few) (fine Node tt)) (omega arith) in
+      (from_then (IsFine tree Node) (λ k members. nat_lt 2000 (0 + (k + 1)) ≡ false) 0 (rows_in tree Node) (λ k members fine. rw zero-add fine.few) (fine Node tt)) (omega arith) in
       omega arith
 
   few_links : length (rows_in tree Link) ≤ 4000
   few_links =
       let h : 0 + 0 + length (rows_in tree Link) ≤ 4000 = few_by 4000 0 0 (rows_in tree Link)
-      (from_then (IsFine tree Link) (λ k row. nat_lt 4000 (0 + (k + 1)) ≡ false) 0 (rows_in tree Link) (λ k row fine. rw zero-add fine.few) (fine Link tt)) (omega arith) in
+      (from_then (IsFine tree Link) (λ k members. nat_lt 4000 (0 + (k + 1)) ≡ false) 0 (rows_in tree Link) (λ k members fine. rw zero-add fine.few) (fine Link tt)) (omega arith) in
       omega arith
 
   few_diversions : 0 + 0 + length (rows_in tree Diversion) ≤ 2000
   few_diversions = few_by 2000 0 0 (rows_in tree Diversion)
-      (from_then (IsFine tree Diversion) (λ k row. nat_lt 2000 (0 + (k + 1)) ≡ false) 0 (rows_in tree Diversion) (λ k row fine. fine.few) (fine Diversion tt)) (omega arith)
+      (from_then (IsFine tree Diversion) (λ k members. nat_lt 2000 (0 + (k + 1)) ≡ false) 0 (rows_in tree Diversion) (λ k members fine. fine.few) (fine Diversion tt)) (omega arith)
 
   few_instreams : rights_before tree Instream + 0 + length (rows_in tree Instream) ≤ 2000
   few_instreams =
       let count = length-rows_in tree none Diversion tt in
       let low = few_diversions in
       few_by 2000 (rights_before tree Instream) 0 (rows_in tree Instream)
-      (from_then (IsFine tree Instream) (λ k row. nat_lt 2000 (rights_before tree Instream + (k + 1)) ≡ false) 0 (rows_in tree Instream) (λ k row fine. fine.few) (fine Instream tt)) (omega arith)
+      (from_then (IsFine tree Instream) (λ k members. nat_lt 2000 (rights_before tree Instream + (k + 1)) ≡ false) 0 (rows_in tree Instream) (λ k members fine. fine.few) (fine Instream tt)) (omega arith)
 
   few_zones : rights_before tree Zone + 0 + length (rows_in tree Zone) ≤ 2000
   few_zones =
       let count = length-rows_in tree none Instream tt in
       let low = few_instreams in
       few_by 2000 (rights_before tree Zone) 0 (rows_in tree Zone)
-      (from_then (IsFine tree Zone) (λ k row. nat_lt 2000 (rights_before tree Zone + (k + 1)) ≡ false) 0 (rows_in tree Zone) (λ k row fine. fine.few) (fine Zone tt)) (omega arith)
+      (from_then (IsFine tree Zone) (λ k members. nat_lt 2000 (rights_before tree Zone + (k + 1)) ≡ false) 0 (rows_in tree Zone) (λ k members fine. fine.few) (fine Zone tt)) (omega arith)
 
   few_rights : length (rights_of tree) ≤ 2000
   few_rights =
@@ -134,12 +134,12 @@ module _ (tree : Members) (none : HasNoFault tree) where
       missing.1)
 
   -- a text that should name an entry has a number below so many
-  number : (table : BasinTable) (k : ℕ) (row : Members) (i : ℕ) (key : List ℕ) (space : Space) (n : ℕ) →
-      slice_get (keys_of table) i ≡ Some (record { name = key; is_required = true; kind = Refers space }) → IsFine tree table k row →
-      length (texts_of tree space) ≡ n → number_at tree space key row < n
-  number table k row i key space n at fine len =
-      let there = refers_there tree table k row i key space at fine in
-      let h = number_within tree space key row there.0 there.1 there.2 there.3 in
+  number : (table : BasinTable) (k : ℕ) (members : Members) (i : ℕ) (key : List ℕ) (space : Space) (n : ℕ) →
+      slice_get (keys_of table) i ≡ Some (record { name = key; is_required = true; kind = Refers space }) → IsFine tree table k members →
+      length (texts_of tree space) ≡ n → number_at tree space key members < n
+  number table k members i key space n at fine len =
+      let there = refers_there tree table k members i key space at fine in
+      let h = number_within tree space key members there.0 there.1 there.2 there.3 in
       rw len at h
 
   node_texts : length (texts_of tree Nodes) ≡ length (basin_of tree).nodes
@@ -151,23 +151,23 @@ module _ (tree : Members) (none : HasNoFault tree) where
   reservoir_texts : length (texts_of tree Reservoirs) ≡ length (basin_of tree).reservoirs
   reservoir_texts = length_texts Reservoir tt ∙ sym (length-map (rows_in tree Reservoir) (reservoir_of tree))
 
-  name_of_row : (table : BasinTable) (k : ℕ) (row : Members) → slice_get (keys_of table) 0 ≡ Some (record { name = codes "name"; is_required = true; kind = Name }) →
-      IsFine tree table k row → (text_at (codes "name") row ≡ Some (name_at (codes "name") row)) × IsTrue (is_name (name_at (codes "name") row))
-  name_of_row table k row at fine =
-      let there = name_there tree table k row 0 (codes "name") at fine in
-      (own_name row there.0 there.1 there.2, rw (there.1) (rw (there.2) there.2))
+  name_of_row : (table : BasinTable) (k : ℕ) (members : Members) → slice_get (keys_of table) 0 ≡ Some (record { name = codes "name"; is_required = true; kind = Name }) →
+      IsFine tree table k members → (text_at (codes "name") members ≡ Some (name_at (codes "name") members)) × IsTrue (is_name (name_at (codes "name") members))
+  name_of_row table k members at fine =
+      let there = name_there tree table k members 0 (codes "name") at fine in
+      (own_name members there.0 there.1 there.2, rw (there.1) (rw (there.2) there.2))
 
-  node_valid : (k : ℕ) (row : Members) → IsFine tree Node k row → IsValidNode (node_of row)
-  node_valid k row fine = record { name = (name_of_row Node k row refl fine).1; inflow = inflow_valid (get_member (codes "inflow") row) }
+  node_valid : (k : ℕ) (members : Members) → IsFine tree Node k members → IsValidNode (node_of members)
+  node_valid k members fine = record { name = (name_of_row Node k members refl fine).1; inflow = inflow_valid (get_member (codes "inflow") members) }
 
-  link_valid : (k : ℕ) (row : Members) → IsFine tree Link k row → IsValidLink (basin_of tree) (link_of tree row)
-  link_valid k row fine = record {
-    name = (name_of_row Link k row refl fine).1;
+  link_valid : (k : ℕ) (members : Members) → IsFine tree Link k members → IsValidLink (basin_of tree) (link_of tree members)
+  link_valid k members fine = record {
+    name = (name_of_row Link k members refl fine).1;
     ends = record {
-      from = number Link k row 1 (codes "from") Nodes _ refl fine node_texts;
-      to = number Link k row 2 (codes "to") Nodes _ refl fine node_texts;
+      from = number Link k members 1 (codes "from") Nodes _ refl fine node_texts;
+      to = number Link k members 2 (codes "to") Nodes _ refl fine node_texts;
     };
-    carry = carry_valid (get_member (codes "per_day") row);
+    carry = carry_valid (get_member (codes "per_day") members);
   }
 
   -- the node that a place spells is an outlet where the document says so
@@ -180,7 +180,7 @@ module _ (tree : Members) (none : HasNoFault tree) where
 
       row_truth : (d : Data) → unwrap_or (option_map (λ n. n.outlet) (option_map node_of (as_table d))) false
           ≡ option_map_or (λ outlet. outlet) (option_and_then as_bool (get (codes "outlet") d)) false
-      row_truth (toml.table row) = truth (option_and_then as_bool (get_member (codes "outlet") row))
+      row_truth (toml.table members) = truth (option_and_then as_bool (get_member (codes "outlet") members))
       row_truth _ = refl
 
       by : (o : Option Data) → unwrap_or (option_map (λ n. n.outlet) (option_map node_of (option_and_then as_table o))) false
@@ -191,78 +191,78 @@ module _ (tree : Members) (none : HasNoFault tree) where
   few_node_texts : length (texts_of tree Nodes) ≤ 4000
   few_node_texts = let same = length_texts Node tt in let few = few_nodes in omega arith
 
-  reservoir_sound : (k : ℕ) (row : Members) → IsFine tree Reservoir k row → IsSoundReservoir (basin_of tree) (reservoir_of tree row)
-  reservoir_sound k row fine = record {
-    node = number Reservoir k row 0 (codes "node") Nodes _ refl fine node_texts;
+  reservoir_sound : (k : ℕ) (members : Members) → IsFine tree Reservoir k members → IsSoundReservoir (basin_of tree) (reservoir_of tree members)
+  reservoir_sound k members fine = record {
+    node = number Reservoir k members 0 (codes "node") Nodes _ refl fine node_texts;
     inner =
-        (let there = refers_there tree Reservoir k row 0 (codes "node") Nodes refl fine in
-        rw (number_is tree Nodes (codes "node") row there.0 there.1 there.2 there.3 few_node_texts)
+        (let there = refers_there tree Reservoir k members 0 (codes "node") Nodes refl fine in
+        rw (number_is tree Nodes (codes "node") members there.0 there.1 there.2 there.3 few_node_texts)
         (outlet_at there.1 ∙ (rw (there.2, there.3) at fine.inner)));
-    opening = (whole_in 0 (16 * 10 ^ 9) 0 (get_member (codes "opening") row) (omega arith) (omega arith)).1;
-    points = points_valid (get_member (codes "area") row);
-    few_points = few_points (get_member (codes "area") row) fine.few;
-    rate = monthly_in 10000 (get_member (codes "rate") row);
+    opening = (whole_in 0 (16 * 10 ^ 9) 0 (get_member (codes "opening") members) (omega arith) (omega arith)).1;
+    points = points_valid (get_member (codes "area") members);
+    few_points = few_points (get_member (codes "area") members) fine.few;
+    rate = monthly_in 10000 (get_member (codes "rate") members);
   }
 
-  order_most : (row : Members) → whole_at (codes "order") 0 1000000 0 row ≤ 1000000
-  order_most row = (whole_in 0 1000000 0 (get_member (codes "order") row) (omega arith) (omega arith)).1
+  order_most : (members : Members) → whole_at (codes "order") 0 1000000 0 members ≤ 1000000
+  order_most members = (whole_in 0 1000000 0 (get_member (codes "order") members) (omega arith) (omega arith)).1
 
-  diversion_valid : (k : ℕ) (row : Members) → IsFine tree Diversion k row → IsValidRight (basin_of tree) (diversion_of tree row)
-  diversion_valid k row fine = record {
-    name = (name_of_row Diversion k row refl fine).1;
-    order = order_most row;
-    place = number Diversion k row 1 (codes "node") Nodes _ refl fine node_texts;
-    want = monthly_in (10 ^ 9) (get_member (codes "want") row);
+  diversion_valid : (k : ℕ) (members : Members) → IsFine tree Diversion k members → IsValidRight (basin_of tree) (diversion_of tree members)
+  diversion_valid k members fine = record {
+    name = (name_of_row Diversion k members refl fine).1;
+    order = order_most members;
+    place = number Diversion k members 1 (codes "node") Nodes _ refl fine node_texts;
+    want = monthly_in (10 ^ 9) (get_member (codes "want") members);
     no_volume = refl;
     no_series = refl;
   }
 
-  instream_valid : (k : ℕ) (row : Members) → IsFine tree Instream k row → IsValidRight (basin_of tree) (instream_of tree row)
-  instream_valid k row fine = record {
-    name = (name_of_row Instream k row refl fine).1;
-    order = order_most row;
-    place = number Instream k row 1 (codes "link") Links _ refl fine link_texts;
-    want = monthly_in (10 ^ 9) (get_member (codes "want") row);
+  instream_valid : (k : ℕ) (members : Members) → IsFine tree Instream k members → IsValidRight (basin_of tree) (instream_of tree members)
+  instream_valid k members fine = record {
+    name = (name_of_row Instream k members refl fine).1;
+    order = order_most members;
+    place = number Instream k members 1 (codes "link") Links _ refl fine link_texts;
+    want = monthly_in (10 ^ 9) (get_member (codes "want") members);
     no_volume = refl;
     no_series = refl;
   }
 
-  zone_valid : (k : ℕ) (row : Members) → IsFine tree Zone k row → IsValidRight (basin_of tree) (zone_of tree row)
-  zone_valid k row fine = record {
-    name = (name_of_row Zone k row refl fine).1;
-    order = order_most row;
+  zone_valid : (k : ℕ) (members : Members) → IsFine tree Zone k members → IsValidRight (basin_of tree) (zone_of tree members)
+  zone_valid k members fine = record {
+    name = (name_of_row Zone k members refl fine).1;
+    order = order_most members;
     place =
-        (let level = whole_in 1 16 1 (get_member (codes "level") row) (omega arith) (omega arith) in
-        (number Zone k row 1 (codes "reservoir") Reservoirs _ refl fine reservoir_texts, level.0, level.1));
-    want = monthly_in (10 ^ 9) (get_member (codes "want") row);
+        (let level = whole_in 1 16 1 (get_member (codes "level") members) (omega arith) (omega arith) in
+        (number Zone k members 1 (codes "reservoir") Reservoirs _ refl fine reservoir_texts, level.0, level.1));
+    want = monthly_in (10 ^ 9) (get_member (codes "want") members);
     no_volume = refl;
     no_series = refl;
   }
 
-  own_diversion : (k : ℕ) (row : Members) → IsFine tree Return k row → number_at tree Diversions (codes "diversion") row < length (rows_in tree Diversion)
-  own_diversion k row fine = number Return k row 0 (codes "diversion") Diversions _ refl fine (length_texts Diversion tt)
+  own_diversion : (k : ℕ) (members : Members) → IsFine tree Return k members → number_at tree Diversions (codes "diversion") members < length (rows_in tree Diversion)
+  own_diversion k members fine = number Return k members 0 (codes "diversion") Diversions _ refl fine (length_texts Diversion tt)
 
-  return_valid : (k : ℕ) (row : Members) → IsFine tree Return k row → IsValidReturn (basin_of tree) (return_of tree row)
-  return_valid k row fine = record {
+  return_valid : (k : ℕ) (members : Members) → IsFine tree Return k members → IsValidReturn (basin_of tree) (return_of tree members)
+  return_valid k members fine = record {
     right =
-        (let own = own_diversion k row fine in
+        (let own = own_diversion k members fine in
         let same = length-map (rows_in tree Diversion) (diversion_of tree) in
         rw (length-append, length-append) (omega arith));
-    diversion = front_diversion (λ d. number_at tree Nodes (codes "node") d) (rows_in tree Diversion) _ _ _ (own_diversion k row fine);
-    node = number Return k row 1 (codes "node") Nodes _ refl fine node_texts;
-    part = whole_in 1 10000 1 (get_member (codes "part") row) (omega arith) (omega arith);
-    lag = whole_in 1 120 1 (get_member (codes "lag") row) (omega arith) (omega arith);
+    diversion = front_diversion (λ d. number_at tree Nodes (codes "node") d) (rows_in tree Diversion) _ _ _ (own_diversion k members fine);
+    node = number Return k members 1 (codes "node") Nodes _ refl fine node_texts;
+    part = whole_in 1 10000 1 (get_member (codes "part") members) (omega arith) (omega arith);
+    lag = whole_in 1 120 1 (get_member (codes "lag") members) (omega arith) (omega arith);
   }
 
   few_diversion_texts : length (texts_of tree Diversions) ≤ 4000
   few_diversion_texts = let same = length_texts Diversion tt in let few = few_diversions in omega arith
 
-  -- a row's diversion is the one that its text names
-  right_is : (k : ℕ) (row : Members) → IsFine tree Return k row →
-      (q : List ℕ) × (text_at (codes "diversion") row ≡ Some q) × (named_at tree Diversions q ≡ Some (return_of tree row).right)
-  right_is k row fine =
-      let there = refers_there tree Return k row 0 (codes "diversion") Diversions refl fine in
-      let same = number_is tree Diversions (codes "diversion") row there.0 there.1 there.2 there.3 few_diversion_texts in
+  -- a members's diversion is the one that its text names
+  right_is : (k : ℕ) (members : Members) → IsFine tree Return k members →
+      (q : List ℕ) × (text_at (codes "diversion") members ≡ Some q) × (named_at tree Diversions q ≡ Some (return_of tree members).right)
+  right_is k members fine =
+      let there = refers_there tree Return k members 0 (codes "diversion") Diversions refl fine in
+      let same = number_is tree Diversions (codes "diversion") members there.0 there.1 there.2 there.3 few_diversion_texts in
       (there.0, there.2, rw same there.3)
 
   abbrev is_row_of : ℕ → ReturnRow → Bool
@@ -271,10 +271,10 @@ module _ (tree : Members) (none : HasNoFault tree) where
   texts_of_rows : texts_behind (codes "diversion") (items_at tree Return) ≡ map (text_at (codes "diversion")) (rows_in tree Return)
   texts_of_rows = texts_behind-rows (codes "diversion") (items_at tree Return) (all_tables tree none Return tt)
 
-  -- fewer than 8 rows stand before a row with its text
-  few_like : (k : ℕ) (row : Members) (q : List ℕ) → IsFine tree Return k row → slice_get (rows_in tree Return) k ≡ Some row →
-      text_at (codes "diversion") row ≡ Some q → count_by (is_the_text q) (take k (map (text_at (codes "diversion")) (rows_in tree Return))) < 8
-  few_like k row q fine there text = by (k + 1 - 1) (omega arith) fine.few
+  -- fewer than 8 rows stand before a members with its text
+  few_like : (k : ℕ) (members : Members) (q : List ℕ) → IsFine tree Return k members → slice_get (rows_in tree Return) k ≡ Some members →
+      text_at (codes "diversion") members ≡ Some q → count_by (is_the_text q) (take k (map (text_at (codes "diversion")) (rows_in tree Return))) < 8
+  few_like k members q fine there text = by (k + 1 - 1) (omega arith) fine.few
     where
       few : (n : ℕ) → nat_le 8 n ≡ false → n < 8
       few n e = grind (arith, nat_tests)
@@ -288,21 +288,21 @@ module _ (tree : Members) (none : HasNoFault tree) where
       by : (n : ℕ) → n ≡ k → nat_le 8 (earlier_like (texts_behind (codes "diversion") (items_at tree Return)) n) ≡ false → count_by (is_the_text q) (take k texts) < 8
       by n same e = few (count_by (is_the_text q) (take k texts)) (rw (same, texts_of_rows, text_there) at e)
 
-  -- fewer than 8 rows of its diversion stand before a row
+  -- fewer than 8 rows of its diversion stand before a members
   few_before : (right k : ℕ) (entry : ReturnRow) → slice_get (map (return_of tree) (rows_in tree Return)) k ≡ Some entry → is_row_of right entry ≡ true →
       0 + count_by (is_row_of right) (take k (map (return_of tree) (rows_in tree Return))) < 8
   few_before right k entry there is_row =
       let len = length-map (rows_in tree Return) (return_of tree) in
-      let row = entry_at (rows_in tree Return) k (let h = slice_get_within (map (return_of tree) (rows_in tree Return)) k entry there in omega arith) in
-      let fine = fine_at Return tt k row.0 row.1 in
-      let text = right_is k row.0 fine in
-      let spelled : Some (return_of tree row.0) ≡ Some entry = (rw (slice_get-map (return_of tree) (rows_in tree Return) k, row.1) at there) in
-      let its : (return_of tree row.0).right ≡ right = eq_means (return_of tree row.0).right right (let same : return_of tree row.0 ≡ entry = cc in subst (λ (r : ReturnRow). is_row_of right r ≡ true) (sym same) is_row) in
+      let members = entry_at (rows_in tree Return) k (let h = slice_get_within (map (return_of tree) (rows_in tree Return)) k entry there in omega arith) in
+      let fine = fine_at Return tt k members.0 members.1 in
+      let text = right_is k members.0 fine in
+      let spelled : Some (return_of tree members.0) ≡ Some entry = (rw (slice_get-map (return_of tree) (rows_in tree Return) k, members.1) at there) in
+      let its : (return_of tree members.0).right ≡ right = eq_means (return_of tree members.0).right right (let same : return_of tree members.0 ≡ entry = cc in subst (λ (r : ReturnRow). is_row_of right r ≡ true) (sym same) is_row) in
       let within : count_by (is_row_of right) (take k (map (return_of tree) (rows_in tree Return)))
       ≤ count_by (is_the_text text.0) (take k (map (text_at (codes "diversion")) (rows_in tree Return))) =
       counts_within (return_of tree) (text_at (codes "diversion")) (is_row_of right) (is_the_text text.0) k (rows_in tree Return)
       (each_from (IsFine tree Return) _ 0 (rows_in tree Return) (λ j other fine_other. alike j other fine_other text.0 (rw its at text.2)) (module_fine)) in
-      let few = few_like k row.0 text.0 fine row.1 text.1 in
+      let few = few_like k members.0 text.0 fine members.1 text.1 in
       omega arith
     where
       module_fine : EachFrom (IsFine tree Return) 0 (rows_in tree Return)
@@ -326,7 +326,7 @@ module _ (tree : Members) (none : HasNoFault tree) where
   nodes_own =
       own_names (λ n. n.name) (map node_of (rows_in tree Node)) (texts_of tree Nodes)
       (names_of_rows node_of (λ n. n.name) (codes "name") (rows_in tree Node)
-      (each_from (IsFine tree Node) _ 0 (rows_in tree Node) (λ k row fine. (name_of_row Node k row refl fine).0) (fine Node tt))
+      (each_from (IsFine tree Node) _ 0 (rows_in tree Node) (λ k members fine. (name_of_row Node k members refl fine).0) (fine Node tt))
       ∙ sym (texts_in-rows tree none Node tt))
       (table_own tree none Node tt Nodes refl)
 
@@ -334,7 +334,7 @@ module _ (tree : Members) (none : HasNoFault tree) where
   links_own =
       own_names (λ l. l.name) (map (link_of tree) (rows_in tree Link)) (texts_of tree Links)
       (names_of_rows (link_of tree) (λ l. l.name) (codes "name") (rows_in tree Link)
-      (each_from (IsFine tree Link) _ 0 (rows_in tree Link) (λ k row fine. (name_of_row Link k row refl fine).0) (fine Link tt))
+      (each_from (IsFine tree Link) _ 0 (rows_in tree Link) (λ k members fine. (name_of_row Link k members refl fine).0) (fine Link tt))
       ∙ sym (texts_in-rows tree none Link tt))
       (table_own tree none Link tt Links refl)
 
@@ -347,28 +347,28 @@ module _ (tree : Members) (none : HasNoFault tree) where
 
       diversions : map (λ r. Some r.name) (map (diversion_of tree) (rows_in tree Diversion)) ≡ texts_in tree Diversion
       diversions = names_of_rows (diversion_of tree) (λ r. r.name) (codes "name") (rows_in tree Diversion)
-          (each_from (IsFine tree Diversion) _ 0 (rows_in tree Diversion) (λ k row fine. (name_of_row Diversion k row refl fine).0) (fine Diversion tt))
+          (each_from (IsFine tree Diversion) _ 0 (rows_in tree Diversion) (λ k members fine. (name_of_row Diversion k members refl fine).0) (fine Diversion tt))
           ∙ sym (texts_in-rows tree none Diversion tt)
 
       instreams : map (λ r. Some r.name) (map (instream_of tree) (rows_in tree Instream)) ≡ texts_in tree Instream
       instreams = names_of_rows (instream_of tree) (λ r. r.name) (codes "name") (rows_in tree Instream)
-          (each_from (IsFine tree Instream) _ 0 (rows_in tree Instream) (λ k row fine. (name_of_row Instream k row refl fine).0) (fine Instream tt))
+          (each_from (IsFine tree Instream) _ 0 (rows_in tree Instream) (λ k members fine. (name_of_row Instream k members refl fine).0) (fine Instream tt))
           ∙ sym (texts_in-rows tree none Instream tt)
 
       zones : map (λ r. Some r.name) (map (zone_of tree) (rows_in tree Zone)) ≡ texts_in tree Zone
       zones = names_of_rows (zone_of tree) (λ r. r.name) (codes "name") (rows_in tree Zone)
-          (each_from (IsFine tree Zone) _ 0 (rows_in tree Zone) (λ k row fine. (name_of_row Zone k row refl fine).0) (fine Zone tt))
+          (each_from (IsFine tree Zone) _ 0 (rows_in tree Zone) (λ k members fine. (name_of_row Zone k members refl fine).0) (fine Zone tt))
           ∙ sym (texts_in-rows tree none Zone tt)
 
   own_rights : (i j : ℕ) → i < j → j < length (basin_of tree).rights → right_name (basin_of tree) i ≢ right_name (basin_of tree) j
   own_rights = own_names (λ r. r.name) (rights_of tree) (texts_of tree Rights) rights_named (rights_own tree none)
 
   -- a reservoir's node is the one that its text names
-  node_is : (k : ℕ) (row : Members) → IsFine tree Reservoir k row →
-      (q : List ℕ) × (text_at (codes "node") row ≡ Some q) × (named_at tree Nodes q ≡ Some (reservoir_of tree row).node)
-  node_is k row fine =
-      let there = refers_there tree Reservoir k row 0 (codes "node") Nodes refl fine in
-      let same = number_is tree Nodes (codes "node") row there.0 there.1 there.2 there.3 few_node_texts in
+  node_is : (k : ℕ) (members : Members) → IsFine tree Reservoir k members →
+      (q : List ℕ) × (text_at (codes "node") members ≡ Some q) × (named_at tree Nodes q ≡ Some (reservoir_of tree members).node)
+  node_is k members fine =
+      let there = refers_there tree Reservoir k members 0 (codes "node") Nodes refl fine in
+      let same = number_is tree Nodes (codes "node") members there.0 there.1 there.2 there.3 few_node_texts in
       (there.0, there.2, rw same there.3)
 
   reservoirs_own : (i j : ℕ) → i < j → j < length (basin_of tree).reservoirs → node_of_reservoir (basin_of tree) i ≢ node_of_reservoir (basin_of tree) j
@@ -384,15 +384,15 @@ module _ (tree : Members) (none : HasNoFault tree) where
       own_texts (texts_of tree Reservoirs) (table_own tree none Reservoir tt Reservoirs refl) i j text.0 before
       (place i one.0 text.0 one.1 text.1) (rw same (place j other.0 text2.0 other.1 text2.1))
     where
-      place : (k : ℕ) (row : Members) (q : List ℕ) → slice_get (rows_in tree Reservoir) k ≡ Some row → text_at (codes "node") row ≡ Some q →
+      place : (k : ℕ) (members : Members) (q : List ℕ) → slice_get (rows_in tree Reservoir) k ≡ Some members → text_at (codes "node") members ≡ Some q →
           slice_get (texts_of tree Reservoirs) k ≡ Some (Some q)
-      place k row q there text =
+      place k members q there text =
           rw (texts_in-rows tree none Reservoir tt) (rw (slice_get-map (text_at (codes "node")) (rows_in tree Reservoir) k) (rw there (rw text refl)))
 
   each_valid : {X : Type 0} (P : X → Type 0) (table : BasinTable) → IsListed table → (spells : Members → X) →
-      ((k : ℕ) (row : Members) → IsFine tree table k row → P (spells row)) → Each P (map spells (rows_in tree table))
+      ((k : ℕ) (members : Members) → IsFine tree table k members → P (spells members)) → Each P (map spells (rows_in tree table))
   each_valid P table is_listed spells valid =
-      each_map P spells (rows_in tree table) (each_from (IsFine tree table) (λ row. P (spells row)) 0 (rows_in tree table) valid (fine table is_listed))
+      each_map P spells (rows_in tree table) (each_from (IsFine tree table) (λ members. P (spells members)) 0 (rows_in tree table) valid (fine table is_listed))
 
   run_valid : IsValidRun (basin_of tree)
   run_valid =
@@ -426,10 +426,10 @@ module _ (tree : Members) (none : HasNoFault tree) where
 
   ranked : AreRanked 0 (rights_of tree)
   ranked = rw append_assoc
-      (ranked_more (diversion_of tree) 0 (λ row. refl) (rows_in tree Diversion) 0 _ (omega arith)
-      (λ m low. ranked_more (instream_of tree) 1 (λ row. refl) (rows_in tree Instream) m _ (omega arith)
+      (ranked_more (diversion_of tree) 0 (λ members. refl) (rows_in tree Diversion) 0 _ (omega arith)
+      (λ m low. ranked_more (instream_of tree) 1 (λ members. refl) (rows_in tree Instream) m _ (omega arith)
       (λ m2 low2. rw (← append-nil (map (zone_of tree) (rows_in tree Zone)))
-      (ranked_more (zone_of tree) 2 (λ row. refl) (rows_in tree Zone) m2 [] (omega arith) (λ m3 low3. tt)))))
+      (ranked_more (zone_of tree) 2 (λ members. refl) (rows_in tree Zone) m2 [] (omega arith) (λ m3 low3. tt)))))
 
   pub sound_basin : IsSoundBasin (basin_of tree)
   sound_basin = record {
@@ -442,6 +442,6 @@ module _ (tree : Members) (none : HasNoFault tree) where
     reservoirs = each_all _ _ (each_valid (λ v. IsSoundReservoir (basin_of tree) v) Reservoir tt (reservoir_of tree) reservoir_sound);
     rights = each_all _ _ rights_valid;
     ranked = ranked;
-    returns = each_all _ _ (each_valid (λ row. IsValidReturn (basin_of tree) row) Return tt (return_of tree) return_valid);
+    returns = each_all _ _ (each_valid (λ members. IsValidReturn (basin_of tree) members) Return tt (return_of tree) return_valid);
     names = names_own;
   }
