@@ -3,6 +3,9 @@
 
 ghost use Rattle.std.specs.Prelude.{◌≡◌, ◌<◌};
 
+#[cfg(test)]
+mod tests;
+
 use basin_cli::{Status, basin_main};
 use std::io;
 use std::io::Write;

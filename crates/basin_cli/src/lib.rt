@@ -8,8 +8,6 @@ mod draft;
 mod ending;
 mod files;
 mod status;
-#[cfg(test)]
-mod tests;
 mod top;
 mod writing;
 

@@ -84,6 +84,34 @@ fn right_places<'a>(alloc: Global, tree: &'a Table) -> Result<IndexMap<&'a str, 
     Ok(places)
 }
 
+/// The places of nodes and of links.
+fn network_places<'a>(
+    alloc: Global,
+    tree: &'a Table,
+) -> Result<(IndexMap<&'a str, u64>, IndexMap<&'a str, u64>), AllocError>
+    ensures { IfOk result (λ places. KeepsPlaces places.0 (texts_in (table_view tree.now) BasinTable.Node)
+        × KeepsPlaces places.1 (texts_in (table_view tree.now) BasinTable.Link)) }
+{
+    let nodes = table_places(alloc, tree, BasinTable::Node)?;
+    let links = table_places(alloc, tree, BasinTable::Link)?;
+    Ok((nodes, links))
+}
+
+/// The places of reservoirs, of diversions and of rights.
+fn use_places<'a>(
+    alloc: Global,
+    tree: &'a Table,
+) -> Result<(IndexMap<&'a str, u64>, IndexMap<&'a str, u64>, IndexMap<&'a str, u64>), AllocError>
+    ensures { IfOk result (λ places. KeepsPlaces places.0 (texts_in (table_view tree.now) BasinTable.Reservoir)
+        × KeepsPlaces places.1 (texts_in (table_view tree.now) BasinTable.Diversion)
+        × KeepsPlaces places.2 (texts_of (table_view tree.now) Space.Rights)) }
+{
+    let reservoirs = table_places(alloc, tree, BasinTable::Reservoir)?;
+    let diversions = table_places(alloc, tree, BasinTable::Diversion)?;
+    let rights = right_places(alloc, tree)?;
+    Ok((reservoirs, diversions, rights))
+}
+
 impl<'a> Document<'a> {
     ghost use Rattle.basin_tree.specs.Documents.{tree_of};
 
@@ -91,12 +119,10 @@ impl<'a> Document<'a> {
     pub fn of(alloc: Global, tree: &'a Table) -> Result<Document<'a>, AllocError>
         ensures { IfOk result (λ document. tree_of document ≡ table_view tree.now) }
     {
-        let nodes = table_places(alloc, tree, BasinTable::Node)?;
-        let links = table_places(alloc, tree, BasinTable::Link)?;
-        let reservoirs = table_places(alloc, tree, BasinTable::Reservoir)?;
-        let diversions = table_places(alloc, tree, BasinTable::Diversion)?;
-        let rights = right_places(alloc, tree)?;
         let earlier = earlier_of(alloc, listed_at(tree, BasinTable::Return), "diversion")?;
+        let network = network_places(alloc, tree)?;
+        let (reservoirs, diversions, rights) = use_places(alloc, tree)?;
+        let (nodes, links) = network;
         Ok(Document {
             tree,
             nodes,

@@ -9,7 +9,9 @@ use Rattle.std.proofs.lemmas.List.Folds.{list_all-append}
 use Rattle.std.proofs.lemmas.List.Elements.{filter-append}
 use Rattle.std.proofs.Math.ListN.{length-set}
 use Rattle.lag_returns.specs.Lags as lag
-use Rattle.month_terms.specs.Terms.{FitsRecord, HasReturned}
+use Rattle.month_terms.specs.Blank.{blank_record}
+use Rattle.month_terms.specs.Terms.{HasReturned}
+use Rattle.month_terms.proofs.BlankRecords.{blank_fits}
 use Rattle.water_model.specs.CutSets.{CutSets, set_of, with_set, with_room, without_sets, has_room}
 use Rattle.water_model.specs.Lookups.{of_entry, has}
 use Rattle.water_model.specs.Places.{numbers_from}
@@ -19,7 +21,7 @@ use Rattle.water_model.specs.declared.types.Inflows.{Inflows}
 use Rattle.water_model.specs.declared.types.MonthRecord.{MonthRecord}
 use Rattle.result_reader.specs.Standing as reader
 use Rattle.result_reader.specs.Telling.{nothing_told}
-use Rattle.cert_check.specs.Beginning.{IsBlank}
+use Rattle.cert_check.specs.Beginning.{HasRoom, IsBlank}
 use Rattle.cert_check.specs.Keeping.{Keeps}
 use Rattle.cert_check.specs.Standing.{IsBookOf}
 use Rattle.cert_check.specs.declared.account.Account.{Account}
@@ -96,8 +98,28 @@ emptied (x ∷ sets) (suc n) e = ap (λ ys. None ∷ ys) (emptied sets n (omega 
 pub zeros_count : (xs : List ℕ) (n m : ℕ) → xs ≡ replicate n 0 → n ≡ m → length xs ≡ m
 zeros_count xs n m e h = ap length e ∙ (length-replicate n 0 ∙ h)
 
-pub zeros_are : (xs : List ℕ) (n m : ℕ) → xs ≡ replicate n 0 → n ≡ m → xs ≡ replicate m 0
-zeros_are xs n m e h = e ∙ ap (λ k. replicate {A = ℕ} k 0) h
+pub blank_is : (b : Basin) (cuts : CutSets) (rights nodes : ℕ) → IsValidBasin b → HasRoom rights nodes cuts → rights ≡ length b.rights → nodes ≡ length b.nodes →
+    IsBlank b (blank_record b cuts)
+blank_is b cuts rights nodes valid h r n = record {
+  fits = blank_fits b cuts (ap length h.sets ∙ (length-replicate {A = Option (List Bool)} rights None ∙ r)) (h.nodes_are ∙ n);
+  calendar = valid.run.first;
+  shows = record {
+    index = refl;
+    month = refl;
+    opening = refl;
+    evaporated = refl;
+    returned = refl;
+    used = refl;
+    want = refl;
+    flow = refl;
+    take = refl;
+    out = refl;
+    delivered = refl;
+    sets = h.sets ∙ ap (λ k. replicate {A = Option (List Bool)} k None) r;
+    closing = refl;
+  };
+  room = λ x l. h.room x (omega (arith, l, r));
+}
 
 pub record Empty (b : Basin) (a : Account) : Type 0 where
   pub done : a.done ≡ 0
@@ -145,7 +167,7 @@ keeps_nothing b series a e = record {
 }
 
 -- a book of no line
-pub first_book : (b : Basin) (series : Inflows) (k : Book) → k.reader.basin ≡ b → reader.StandsFor k.reader [] → Keeps b series k.account (nothing_told b) →
+pub first_book : (b : Basin) (series : Inflows) (k : Book) → k.reader.basin ≡ b → reader.StandsFor k.reader [] → Keeps b series k.account.value (nothing_told b) →
     k.read ≡ 0 → k.last_other ≡ 0 → k.ended ≡ false → IsBookOf b series k []
 first_book b series k basin stands account read last ended = record {
   items = [];

@@ -23,7 +23,7 @@ pub record IsBookOf (b : Basin) (series : Inflows) (k : Book) (lines : List (Lis
   pub verdict : verdict_from b series [] lines ≡ Ok items
   pub basin : k.reader.basin ≡ b
   pub reader : reader.StandsFor k.reader items
-  pub account : Keeps b series k.account (told_by b series items)
+  pub account : Keeps b series k.account.value (told_by b series items)
   pub counts : Counts k items
 
 -- the value that contracts see of a checker: its basin and series, what it keeps of good lines, and the refusal if a line

@@ -23,7 +23,7 @@ TakesLine b series k lines (Err e) = verdict_from b series [] lines ≡ Err e
 
 -- what these lines tell is kept, and this one may come behind them
 pub record IsTold (b : Basin) (series : Inflows) (k : Book) (items : List Item) (item : Item) : Type 0 where
-  pub account : Keeps b series k.account (told_by b series items)
+  pub account : Keeps b series k.account.value (told_by b series items)
   pub counts : Counts k items
   pub comes : MayCome b series (told_by b series items) item
 
@@ -34,5 +34,5 @@ pub record HasItems (b : Basin) (series : Inflows) (k : Book) (item : Item) : Ty
 -- an item that no row refutes is told, and of every other it is told why
 abbrev pub TakesItem : Basin → Inflows → Book → List Item → Item → Result (Unit {0}) Refuted → Type 0
 TakesItem b series k items item (Ok _) =
-    (first_row b series (told_by b series items) item ≡ None) × Keeps b series k.account (told_by b series (items ++ item ∷ [])) × Counts k (items ++ item ∷ [])
+    (first_row b series (told_by b series items) item ≡ None) × Keeps b series k.account.value (told_by b series (items ++ item ∷ [])) × Counts k (items ++ item ∷ [])
 TakesItem b series k items item (Err e) = judge_row items item (first_row b series (told_by b series items) item) ≡ Err e

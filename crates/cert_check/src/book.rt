@@ -21,7 +21,7 @@ pub struct Book<'b> {
     /// What may come next.
     pub reader: ResultReader<'b>,
     /// What the lines tell.
-    pub account: Account,
+    pub account: Box<Account>,
     /// How many lines there are.
     pub read: u64,
     /// The number of the last line that is no `in` line. While the nodes of a `call` come, it is that line's.
@@ -67,13 +67,13 @@ fn take_item(means: &Means, book: &mut Book, item: &Item) -> Result<(), Refuted>
         TakesItem means.now.basin.now means.now.series.now book.new items item.now result }
     ensures reader { book.new.reader ≡ book.old.reader }
 {
-    match first_row(means, &mut book.account, item) {
+    match first_row(means, &mut *book.account, item) {
         Some(kind) => Err(Refuted {
             line: named_line(book, kind),
             kind,
         }),
         None => {
-            enter(means, &mut book.account, item);
+            enter(means, &mut *book.account, item);
             count(book, item);
             Ok(())
         }

@@ -51,13 +51,14 @@ impl<'b> Checker<'b> {
         ensures none { IfOk result (λ checker. StandsFor checker []) }
     {
         let roll = Roll::of_basin(alloc, basin)?;
-        let reader = ResultReader::open(alloc, basin, &roll)?;
+        let tables = tables_of(alloc, basin)?;
         let account = blank_account(alloc, basin)?;
+        let reader = ResultReader::open(alloc, basin, &roll)?;
         let means = Means {
             basin,
             series,
             roll,
-            tables: tables_of(alloc, basin)?,
+            tables,
             last_outlet: last_outlet(basin),
         };
         Ok(Checker {

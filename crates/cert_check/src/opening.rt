@@ -14,11 +14,11 @@ ghost use Rattle.cert_check.specs.Keeping.{Keeps};
 use crate::account::Account;
 use crate::entering::bring_back;
 use lag_returns::Lags;
-use month_terms::opening::{openings, zeros};
+use month_terms::opening::{blank_record, openings, zeros};
 use std::alloc::{AllocError, Global};
 use water_model::cut_list::CutList;
 use water_model::rows::Rows;
-use water_model::types::{Basin, MonthRecord, Plan};
+use water_model::types::{Basin, MonthRecord};
 
 /// No sets, with room for one of each right.
 fn room_for_sets(alloc: Global, rights: u32, nodes: u32) -> Result<CutList, AllocError>
@@ -33,32 +33,17 @@ fn room_for_sets(alloc: Global, rights: u32, nodes: u32) -> Result<CutList, Allo
 }
 
 /// A record with room for a month, of which nothing is told.
-fn blank_month(alloc: Global, basin: &Basin) -> Result<MonthRecord, AllocError>
+fn blank_month(alloc: Global, basin: &Basin) -> Result<Box<MonthRecord>, AllocError>
     requires basin { IsValidBasin basin.now }
-    ensures { IfOk result (IsBlank basin.now) }
+    ensures { IfOk result (λ month. IsBlank basin.now month.value) }
 {
-    let nodes = basin.nodes.len();
-    let rights = basin.rights.len();
-    let reservoirs = basin.reservoirs.len();
-    let plan = Plan {
-        flow: zeros(alloc, basin.links.len())?,
-        take: zeros(alloc, rights)?,
-        out: zeros(alloc, nodes)?,
-    };
-    Ok(MonthRecord {
-        index: 0,
-        month: basin.first,
-        opening: zeros(alloc, reservoirs)?,
-        evaporated: zeros(alloc, reservoirs)?,
-        returned: zeros(alloc, nodes)?,
-        used: zeros(alloc, rights)?,
-        supply: zeros(alloc, nodes)?,
-        want: zeros(alloc, rights)?,
-        plan,
-        delivered: zeros(alloc, rights)?,
-        cuts: room_for_sets(alloc, rights as u32, nodes as u32)?,
-        closing: zeros(alloc, reservoirs)?,
-    })
+    let cuts = room_for_sets(
+        alloc,
+        basin.rights.len() as u32,
+        basin.nodes.len() as u32,
+    )?;
+    let month = blank_record(alloc, basin, cuts)?;
+    Ok(month)
 }
 
 /// What comes back to each node in the first month.
@@ -72,28 +57,48 @@ fn first_comes(alloc: Global, basin: &Basin, lags: &Lags) -> Result<Rows<u64>, A
     Ok(comes)
 }
 
+/// Room for a number for each reservoir, and for two for each node.
+fn room_for_sums(
+    alloc: Global,
+    basin: &Basin,
+) -> Result<(Rows<u64>, Rows<u64>, Rows<u64>), AllocError>
+    ensures { IfOk result (λ sums. (length sums.0 ≡ length basin.now.reservoirs) × (length sums.1 ≡ length basin.now.nodes) × (length sums.2 ≡ length basin.now.nodes)) }
+{
+    let closes = zeros(alloc, basin.reservoirs.len())?;
+    let into = zeros(alloc, basin.nodes.len())?;
+    let out_of = zeros(alloc, basin.nodes.len())?;
+    Ok((closes, into, out_of))
+}
+
 /// An account of no line.
-pub fn blank_account(alloc: Global, basin: &Basin) -> Result<Account, AllocError>
+pub fn blank_account(alloc: Global, basin: &Basin) -> Result<Box<Account>, AllocError>
     requires { IsValidBasin basin.now }
-    ensures { IfOk result (λ account. (series : Inflows) → Keeps basin.now series account (nothing_told basin.now)) }
+    ensures { IfOk result (λ account. (series : Inflows) → Keeps basin.now series account.value (nothing_told basin.now)) }
 {
     let lags = Lags::open(alloc, basin.returns.as_slice())?;
     let comes = first_comes(alloc, basin, &lags)?;
-    Ok(Account {
-        done: 0,
-        lags,
-        opens: openings(alloc, basin)?,
-        comes,
-        month: blank_month(alloc, basin)?,
-        calling: None,
-        has_supply: false,
-        closes: zeros(alloc, basin.reservoirs.len())?,
-        has_closes: false,
-        passed: 0,
-        answered: 0,
-        into: zeros(alloc, basin.nodes.len())?,
-        out_of: zeros(alloc, basin.nodes.len())?,
-    })
+    let opens = openings(alloc, basin)?;
+    let sums = room_for_sums(alloc, basin)?;
+    let month = blank_month(alloc, basin)?;
+    let (closes, into, out_of) = sums;
+    Ok(Box::new(
+        alloc,
+        Account {
+            done: 0,
+            lags,
+            opens,
+            comes,
+            month: Box::into_inner(month),
+            calling: None,
+            has_supply: false,
+            closes,
+            has_closes: false,
+            passed: 0,
+            answered: 0,
+            into,
+            out_of,
+        },
+    )?)
 }
 
 /// The node if it is an outlet, and else the last outlet before it.

@@ -4,9 +4,6 @@ use Rattle.std.proofs.lemmas.List.{length-replicate}
 use Rattle.water_model.specs.CutSets.{CutSets}
 use Rattle.std.specs.Prelude.{None, false}
 
-pub zeros_count : (xs : List ℕ) (n m : ℕ) → xs ≡ replicate n 0 → n ≡ m → length xs ≡ m
-zeros_count xs n m e h = ap length e ∙ (length-replicate n 0 ∙ h)
-
 pub mapped_count : {X : Type 0} (f : X → ℕ) (xs : List ℕ) (ys : List X) → xs ≡ map f ys → length xs ≡ length ys
 mapped_count f xs ys e = ap length e ∙ whole f ys
   where

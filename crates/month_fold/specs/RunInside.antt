@@ -6,14 +6,14 @@ use Rattle.month_fold.specs.Runs.{RunSeen, HasMonths}
 use Rattle.month_fold.specs.declared.run.Run.TheInside.{Inside}
 
 abbrev pub seen_of : Inside → RunSeen
-seen_of i = record { basin = i.basin.now; series = i.series.now; done = i.done; last = i.month; lags = i.lags }
+seen_of i = record { basin = i.basin.now; series = i.series.now; done = i.done; last = i.month.value; lags = i.lags }
 
 -- a valid basin, a series of it, and what is derived from it once; and some months stand behind the run
 pub record IsReady (i : Inside) : Type 0 where
   pub valid : IsValidBasin i.basin.now
   pub series : IsSeriesOf i.basin.now i.series.now
-  pub solver : i.solver ≡ i.basin.now
+  pub solver : i.solver.value ≡ i.basin.now
   pub tables : i.tables.items ≡ map (λ v. v.area) i.basin.now.reservoirs
-  pub month : FitsRecord i.basin.now i.month
-  pub used : i.month.used ≡ replicate (length i.basin.now.rights) 0
+  pub month : FitsRecord i.basin.now i.month.value
+  pub used : i.month.value.used ≡ replicate (length i.basin.now.rights) 0
   pub months : HasMonths (seen_of i)

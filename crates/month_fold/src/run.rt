@@ -26,10 +26,10 @@ use water_model::types::{Basin, Inflows, MonthRecord};
 pub struct Run<'b> {
     basin: &'b Basin,
     series: &'b Inflows,
-    solver: Solver<'b>,
+    solver: Box<Solver<'b>>,
     tables: Vec<AreaTable>,
     lags: Lags,
-    month: MonthRecord,
+    month: Box<MonthRecord>,
     done: u32,
 }
 
@@ -45,6 +45,14 @@ impl<'b> Model for Run<'b> {
     ghost invariant = { IsReady };
 }
 
+/// The solver of the basin's months. AllocError comes where memory is lacking.
+fn solver_of<'b>(alloc: Global, basin: &'b Basin) -> Result<Box<Solver<'b>>, AllocError>
+    requires { IsValidBasin basin.now }
+    ensures { IfOk result (λ solver. solver.value ≡ basin.now) }
+{
+    Ok(Box::new(alloc, Solver::open(alloc, basin)?)?)
+}
+
 impl<'b> Run<'b> {
     /// A run before its first month. AllocError comes where memory is lacking.
     pub fn open(alloc: Global, basin: &'b Basin, series: &'b Inflows) -> Result<Run<'b>, AllocError>
@@ -54,7 +62,7 @@ impl<'b> Run<'b> {
         ensures series { IfOk result (λ run. run.series ≡ series.now) }
         ensures stands { IfOk result (λ run. StandsFor run []) }
     {
-        let solver = Solver::open(alloc, basin)?;
+        let solver = solver_of(alloc, basin)?;
         let tables = tables_of(alloc, basin)?;
         let lags = Lags::open(alloc, basin.returns.as_slice())?;
         let month = blank_month(alloc, basin)?;
@@ -103,9 +111,9 @@ impl<'b> Run<'b> {
             self.series,
             &self.tables,
             &self.lags,
-            &mut self.solver,
+            &mut *self.solver,
             self.done,
-            &mut self.month,
+            &mut *self.month,
             searches,
         )?;
         self.lags.month_done(self.month.delivered.as_slice());

@@ -1,3 +1,4 @@
 pub mod Adds
 pub mod Amounts
 pub mod Bounds
+pub mod BlankRecords

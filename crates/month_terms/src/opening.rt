@@ -1,9 +1,11 @@
 //! What a run begins with.
-ghost use Rattle.std.specs.Prelude.{◌≡◌, map, replicate, IfOk};
+ghost use Rattle.std.specs.Prelude.{◌≡◌, length, map, replicate, IfOk};
+ghost use Rattle.month_terms.specs.Blank.{blank_plan, blank_record};
 
 use std::alloc::{AllocError, Global};
+use water_model::cut_list::CutList;
 use water_model::rows::Rows;
-use water_model::types::Basin;
+use water_model::types::{Basin, MonthRecord, Plan};
 
 /// A list of so many zeros. AllocError comes where memory is lacking.
 pub fn zeros(alloc: Global, count: usize) -> Result<Rows<u64>, AllocError>
@@ -21,4 +23,64 @@ pub fn openings(alloc: Global, basin: &Basin) -> Result<Rows<u64>, AllocError>
         openings.push(reservoir.opening)?;
     }
     Ok(Rows::from_vec(openings))
+}
+
+/// Three lists of so many zeros.
+fn three_zeros(
+    alloc: Global,
+    count: usize,
+) -> Result<(Rows<u64>, Rows<u64>, Rows<u64>), AllocError>
+    ensures first { IfOk result (λ lists. lists.0 ≡ replicate count 0) }
+    ensures second { IfOk result (λ lists. lists.1 ≡ replicate count 0) }
+    ensures third { IfOk result (λ lists. lists.2 ≡ replicate count 0) }
+{
+    let first = zeros(alloc, count)?;
+    let second = zeros(alloc, count)?;
+    let third = zeros(alloc, count)?;
+    Ok((first, second, third))
+}
+
+/// A plan of a basin in which nothing flows.
+fn blank_plan(alloc: Global, basin: &Basin) -> Result<Plan, AllocError>
+    ensures { IfOk result (λ plan. plan ≡ blank_plan basin.now) }
+{
+    let flow = zeros(alloc, basin.links.len())?;
+    let take = zeros(alloc, basin.rights.len())?;
+    let out = zeros(alloc, basin.nodes.len())?;
+    Ok(Plan { flow, take, out })
+}
+
+/// A record of the first month that has these sets and else zeros. AllocError comes where memory is lacking.
+pub fn blank_record(
+    alloc: Global,
+    basin: &Basin,
+    cuts: CutList,
+) -> Result<Box<MonthRecord>, AllocError>
+    ensures { IfOk result (λ month. month.value ≡ blank_record basin.now cuts) }
+{
+    let nodes = basin.nodes.len();
+    let plan = blank_plan(alloc, basin)?;
+    let by_reservoir = three_zeros(alloc, basin.reservoirs.len())?;
+    let by_right = three_zeros(alloc, basin.rights.len())?;
+    let returned = zeros(alloc, nodes)?;
+    let supply = zeros(alloc, nodes)?;
+    let (opening, evaporated, closing) = by_reservoir;
+    let (used, want, delivered) = by_right;
+    Ok(Box::new(
+        alloc,
+        MonthRecord {
+            index: 0,
+            month: basin.first,
+            opening,
+            evaporated,
+            returned,
+            used,
+            supply,
+            want,
+            plan,
+            delivered,
+            cuts,
+            closing,
+        },
+    )?)
 }

@@ -12,8 +12,8 @@ invariant_of-result c = record {
   means = record {
     valid = c.requires.basin;
     series = c.requires.series;
-    roll = rw c.roll.view_is c.in_ok-roll.ensures;
-    tables = c.in_ok-tables_of.ensures;
+    roll = c.in_ok-roll.ensures;
+    tables = c.in_ok-tables.ensures;
     last = c.last_outlet.ensures;
   };
   lines = record { lines = []; stands = first_book c.args.basin.now c.args.series.now _ c.in_ok-reader.ensures.basin c.in_ok-reader.ensures.none (c.in_ok-account.ensures c.args.series.now) refl refl refl };

@@ -13,7 +13,7 @@ invariant_of-result c = record {
   used = c.in_ok-month.ensures.used;
   months = record {
     records = [];
-    stands = stands_first c.args.basin.now c.args.series.now c.in_ok-month.month c.in_ok-lags.lags c.in_ok-month.ensures.closing
+    stands = stands_first c.args.basin.now c.args.series.now c.in_ok-month.month.value c.in_ok-lags.lags c.in_ok-month.ensures.closing
         (subst (λ rows. lag.StandsFor c.in_ok-lags.lags rows []) c.as_slice.ensures c.in_ok-lags.ensures);
   };
 }

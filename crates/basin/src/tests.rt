@@ -8,7 +8,7 @@ mod reporting;
 mod returning;
 mod rivers;
 
-use crate::{Status, basin_main};
+use basin_cli::{Status, basin_main};
 use canals::{CANAL_1900, CANAL_2000, CANAL_2001, CANAL_INSTREAM, TWO_CANALS};
 use lakes::{EVAPORATING, LAKE, POOL};
 use ordinary::{ORDINARY, ORDINARY_SERIES, ORDINARY_TEXT};

@@ -4,7 +4,7 @@ use super::ordinary::{ORDINARY, ORDINARY_SERIES};
 use super::returning::RETURNS;
 use super::rivers::JUNIOR_DRY;
 use super::{call_over, expect, files};
-use crate::Status;
+use basin_cli::Status;
 use std::marker::Brand;
 use std::sync::ledger::Blank;
 use std::test::Fail;

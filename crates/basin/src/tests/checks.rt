@@ -5,7 +5,7 @@ use super::ordinary::{ORDINARY, ORDINARY_SERIES, ORDINARY_TEXT};
 use super::returning::RETURNS;
 use super::rivers::{JUNIOR_DRY, JUNIOR_SHORT, NOTHING_WANTED, OWN_BRANCHES, TROUT};
 use super::{NEVER, SERVED, expect, files};
-use crate::Status;
+use basin_cli::Status;
 use std::alloc::Global;
 use std::process::Abort;
 use std::test::Fail;

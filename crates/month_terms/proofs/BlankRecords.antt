@@ -1,0 +1,48 @@
+-- The lengths of a blank record's lists.
+use Rattle.std.proofs.Common.{◌≡◌, ℕ, List, length}
+use Rattle.std.proofs.lemmas.List.{length-replicate}
+use Rattle.water_model.specs.CutSets.{CutSets}
+use Rattle.water_model.specs.declared.types.Basin.{Basin}
+use Rattle.water_model.specs.declared.types.MonthRecord.{MonthRecord}
+use Rattle.month_terms.specs.Blank.{blank_record}
+use Rattle.month_terms.specs.Terms.{FitsRecord}
+
+pub blank_fits : (b : Basin) (cuts : CutSets) → length cuts.sets ≡ length b.rights → cuts.nodes ≡ length b.nodes → FitsRecord b (blank_record b cuts)
+blank_fits b cuts sets nodes = record {
+  fits = record {
+    opening = length-replicate (length b.reservoirs) 0;
+    evaporated = length-replicate (length b.reservoirs) 0;
+    closing = length-replicate (length b.reservoirs) 0;
+    returned = length-replicate (length b.nodes) 0;
+    supply = length-replicate (length b.nodes) 0;
+    used = length-replicate (length b.rights) 0;
+    want = length-replicate (length b.rights) 0;
+    delivered = length-replicate (length b.rights) 0;
+    cuts = sets;
+    cut_nodes = nodes;
+  };
+  flow = length-replicate (length b.links) 0;
+  take = length-replicate (length b.rights) 0;
+  out = length-replicate (length b.nodes) 0;
+}
+
+-- other closings leave the lengths
+pub fits_with_closing : (b : Basin) (m : MonthRecord) (closing : List ℕ) → FitsRecord b m → length closing ≡ length b.reservoirs →
+    FitsRecord b (record m { closing = closing })
+fits_with_closing b m closing h count = record {
+  fits = record {
+    opening = h.fits.opening;
+    evaporated = h.fits.evaporated;
+    closing = count;
+    returned = h.fits.returned;
+    supply = h.fits.supply;
+    used = h.fits.used;
+    want = h.fits.want;
+    delivered = h.fits.delivered;
+    cuts = h.fits.cuts;
+    cut_nodes = h.fits.cut_nodes;
+  };
+  flow = h.flow;
+  take = h.take;
+  out = h.out;
+}
