@@ -1,5 +1,5 @@
 -- All months of a run.
-use Rattle.std.proofs.Common.{◌≡◌, ℕ, ◌+◌, ◌*◌, ◌<◌, ◌≤◌, arith, List}
+use Rattle.std.proofs.Common.{◌≡◌, ◌∙◌, sym, ℕ, ◌+◌, ◌*◌, ◌<◌, ◌≤◌, arith, List, [], ◌∷◌, ◌++◌}
 use Rattle.std.proofs.Math.Nat.{mul-le-mul_right}
 use Rattle.month_fold.specs.Reaches.{HaveReaches}
 use Rattle.month_fold.specs.Runs.{RunSeen, StandsFor}
@@ -11,6 +11,11 @@ use Rattle.water_model.specs.declared.types.MonthRecord.{MonthRecord}
 use Rattle.water_model.proofs.Histories.{all_months}
 use Rattle.reports.specs.Ends.{IsRun, month_pushes, most_pushes}
 use Rattle.reports.proofs.Balanced.{figures_balanced}
+
+-- the months that a run went through, and the next one
+pub next_partial : (b : Basin) (series : Inflows) (next : RunSeen) (records : List MonthRecord) (m : MonthRecord) → next.basin ≡ b → next.series ≡ series → m ≡ next.last →
+    StandsFor next (records ++ next.last ∷ []) → IsPartialHistory b series (records ++ m ∷ [])
+next_partial b series next records m same fits last stands = rw (← same, ← fits, last) stands.partial
 
 -- the months that a run went through are a whole run where they are all
 pub whole_run : (b : Basin) (series : Inflows) (run : RunSeen) (records : List MonthRecord) → IsValidBasin b → run.basin ≡ b → run.series ≡ series →
