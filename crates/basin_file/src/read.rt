@@ -142,6 +142,49 @@ fn refused(finding: Finding) -> BasinRefused
     }
 }
 
+/// The basin that a document spells, or the first fault that the document has by itself.
+fn unchecked_basin(alloc: Global, document: &Document) -> Result<Basin, BasinRefused>
+    ensures basin { IfOk result (λ basin. basin ≡ basin_of (tree_of document.now)) }
+    ensures sound { IfOk result IsSoundBasin }
+    ensures faultless { OnOk result (tree_fault (tree_of document.now) ≡ None) }
+    ensures refused { IfErr result (IsRefusalOf (document_fault (Some (tree_of document.now)))) }
+{
+    if let Some(finding) = tree_fault(document) {
+        return Err(refused(finding));
+    }
+    match sound_basin(alloc, document) {
+        Ok(basin) => Ok(basin),
+        Err(_) => Err(BasinRefused::OutOfMemory),
+    }
+}
+
+/// The basin that the top table of a document spells, or the first fault that the document has by itself.
+fn tree_basin(alloc: Global, tree: &Table) -> Result<Basin, BasinRefused>
+    ensures basin { IfOk result (λ basin. basin ≡ basin_of (table_view tree.now)) }
+    ensures sound { IfOk result IsSoundBasin }
+    ensures faultless { OnOk result (tree_fault (table_view tree.now) ≡ None) }
+    ensures refused { IfErr result (IsRefusalOf (document_fault (Some (table_view tree.now)))) }
+{
+    match Document::of(alloc, tree) {
+        Ok(document) => unchecked_basin(alloc, &document),
+        Err(_) => Err(BasinRefused::OutOfMemory),
+    }
+}
+
+/// Refuses a basin that has a fault by its network, its rights or its area tables.
+fn check_basin(alloc: Global, basin: &Basin) -> Result<(), BasinRefused>
+    requires { IsSoundBasin basin.now }
+    ensures valid { OnOk result (IsValidBasin basin.now) }
+    ensures faultless { OnOk result (basin_fault basin.now ≡ None) }
+    ensures refused { IfErr result (IsRefusalOf (basin_fault basin.now)) }
+{
+    match basin_fault(alloc, basin) {
+        Ok(None) => Ok(()),
+        Ok(Some(finding)) => Err(refused(finding)),
+        Err(_) => Err(BasinRefused::OutOfMemory),
+    }
+}
+
 /// The basin that the top table of a document spells, or the document's first fault.
 fn read_tree(alloc: Global, tree: &Table) -> Result<Basin, BasinRefused>
     ensures basin { IfOk result (λ basin. basin ≡ basin_of (table_view tree.now)) }
@@ -149,22 +192,9 @@ fn read_tree(alloc: Global, tree: &Table) -> Result<Basin, BasinRefused>
     ensures sound { OnOk result (document_fault (Some (table_view tree.now)) ≡ None) }
     ensures refused { IfErr result (IsRefusalOf (document_fault (Some (table_view tree.now)))) }
 {
-    let document = match Document::of(alloc, tree) {
-        Ok(document) => document,
-        Err(_) => return Err(BasinRefused::OutOfMemory),
-    };
-    if let Some(finding) = tree_fault(&document) {
-        return Err(refused(finding));
-    }
-    let basin = match sound_basin(alloc, &document) {
-        Ok(basin) => basin,
-        Err(_) => return Err(BasinRefused::OutOfMemory),
-    };
-    match basin_fault(alloc, &basin) {
-        Ok(None) => Ok(basin),
-        Ok(Some(finding)) => Err(refused(finding)),
-        Err(_) => Err(BasinRefused::OutOfMemory),
-    }
+    let basin = tree_basin(alloc, tree)?;
+    check_basin(alloc, &basin)?;
+    Ok(basin)
 }
 
 /// The basin that the bytes of a basin file spell, which is valid, or the first fault in them with its table and entry.
