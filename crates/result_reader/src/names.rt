@@ -80,6 +80,21 @@ fn places_of<'b>(
     Ok(places)
 }
 
+/// The place of each name of one space, and those of another.
+fn both_of<'b>(
+    alloc: Global,
+    first: Space,
+    second: Space,
+    basin: &'b Basin,
+) -> Result<(IndexMap<&'b [u8], u32>, IndexMap<&'b [u8], u32>), AllocError>
+    requires { IsValidBasin basin.now }
+    ensures first { IfOk result (λ both. KeepsNames both.0 basin.now first) }
+    ensures second { IfOk result (λ both. KeepsNames both.1 basin.now second) }
+{
+    let places = places_of(alloc, first, basin)?;
+    Ok((places, places_of(alloc, second, basin)?))
+}
+
 /// The names of a basin's entries, with the place of each in its space.
 #[derive(Drop)]
 pub struct Names<'b> {
@@ -100,12 +115,15 @@ impl<'b> Names<'b> {
         requires { IsValidBasin basin.now }
         ensures { IfOk result (λ names. names.basin.now ≡ basin.now) }
     {
+        let network = both_of(alloc, Space::Nodes, Space::Links, basin)?;
+        let (reservoirs, rights) = both_of(alloc, Space::Reservoirs, Space::Rights, basin)?;
+        let (nodes, links) = network;
         Ok(Names {
             basin,
-            nodes: places_of(alloc, Space::Nodes, basin)?,
-            links: places_of(alloc, Space::Links, basin)?,
-            reservoirs: places_of(alloc, Space::Reservoirs, basin)?,
-            rights: places_of(alloc, Space::Rights, basin)?,
+            nodes,
+            links,
+            reservoirs,
+            rights,
         })
     }
 

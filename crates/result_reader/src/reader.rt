@@ -67,9 +67,9 @@ impl<'b> ResultReader<'b> {
         ensures basin { IfOk result (λ reader. reader.basin ≡ basin.now) }
         ensures none { IfOk result (λ reader. StandsFor reader []) }
     {
-        let names = Names::of(alloc, basin)?;
         let dues = dues_of(alloc, basin, roll)?;
         let left = most_lines(basin, &dues);
+        let names = Names::of(alloc, basin)?;
         Ok(ResultReader {
             names,
             dues,
