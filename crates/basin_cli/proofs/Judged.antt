@@ -1,5 +1,5 @@
 -- What the verdict on a result's bytes says of them.
-use Rattle.std.proofs.Common.{◌≡◌, ℕ, ◌<◌, ◌≤◌, refl, sym, ◌∙◌, ap, subst, arith, List, length, Option, Some, None}
+use Rattle.std.proofs.Common.{◌≡◌, ℕ, ◌≤◌, subst, List, length, Option, Some, None}
 use Rattle.std.specs.Prelude.{Result, Ok, Err, IsOk, IfSome}
 use Rattle.inflow_file.specs.SeriesFaults.{SpellsSeries}
 use Rattle.cert_check.proofs.ByteLaws.{yes_exactly_for_histories}
@@ -11,14 +11,13 @@ use Rattle.water_model.specs.Valid.{IsValidBasin, IsSeriesOf}
 use Rattle.water_model.specs.declared.item.Item.{Item}
 use Rattle.water_model.specs.declared.types.Basin.{Basin}
 use Rattle.water_model.specs.declared.types.Inflows.{Inflows}
-use Rattle.water_model.specs.declared.types.MonthRecord.{MonthRecord}
 use Rattle.water_model.proofs.Greatest.{cuts_make_greatest}
 use Rattle.basin_cli.specs.declared.ending.Ending.{Ending}
 use Rattle.basin_cli.specs.declared.ending.Ending.TheVariants as ending
 use Rattle.basin_cli.specs.Actions.{EndsChecking}
 use Rattle.basin_cli.specs.Command.{Files}
 use Rattle.basin_cli.specs.Ending.{status_of}
-use Rattle.basin_cli.specs.Outcome.{AreSpelled, IsHistoryText, IsAccepted, IsRefuted, AreAccepted, BehindSeries, HasCheckingCause, IsGoodBasin, IsGoodSeries, Leaves, MayWrite, OfBoth, Told, WritesAnswer, answer_line, file_limit, series_told}
+use Rattle.basin_cli.specs.Outcome.{AreSpelled, IsHistoryText, IsAccepted, IsRefuted, HasCheckingCause, IsGoodBasin, IsGoodSeries, Leaves, MayWrite, OfBoth, Told, WritesAnswer, answer_line, file_limit, series_told}
 use Rattle.basin_cli.specs.Series.{AreLoaded, IsBasinText, IsSeriesText}
 use Rattle.basin_cli.proofs.OneSeries.{one_basin, one_series, same_history}
 

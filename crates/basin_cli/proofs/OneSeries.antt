@@ -1,12 +1,12 @@
 -- Bytes spell one basin, and one series as far as a history speaks of it.
-use Rattle.std.proofs.Common.{◌≡◌, ℕ, ◌<◌, ◌≤◌, Bool, true, false, refl, sym, ◌∙◌, ap, subst, arith, List, length, length-take, take, ◌+◌, Option, Some, None}
+use Rattle.std.proofs.Common.{◌≡◌, ℕ, ◌<◌, Bool, true, false, refl, sym, ◌∙◌, ap, arith, List, length, length-take, take, ◌+◌, Option, Some, None}
 use Rattle.std.specs.Prelude.{slice_get, slice_index, option_map, unwrap_or}
 use Rattle.std.proofs.lemmas.Option.{slice_get_within}
 use Rattle.basin_file.specs.BasinFaults.{Spells}
 use Rattle.basin_file.specs.Spelled.{basin_of}
 use Rattle.inflow_file.specs.SeriesFaults.{SpellsSeries}
 use Rattle.month_terms.proofs.Amounts.{want_is}
-use Rattle.water_model.specs.History.{Follows, IsPartialHistory, IsHistory}
+use Rattle.water_model.specs.History.{Follows, IsHistory}
 use Rattle.water_model.specs.Hydrology.{inflow_at, inflow_of_kind, stored_at}
 use Rattle.water_model.specs.Valid.{IsValidBasin, is_gauged, is_gauged_kind}
 use Rattle.water_model.specs.declared.types.Basin.{Basin}

@@ -1,11 +1,10 @@
 -- From the cause of an ending: where nothing is refused and nothing fails, the call is done.
-use Rattle.std.proofs.Common.{◌≡◌, ◌⊎◌, inl, inr, refl, ℕ, ◌≤◌, List, [], Option, Some, None, arith, append-nil, sym, ◌∙◌, ap, subst, length}
+use Rattle.std.proofs.Common.{◌≡◌, inl, inr, refl, ℕ, ◌≤◌, List, [], Option, Some, None, arith, append-nil, sym, ◌∙◌, ap, subst, length}
 use Rattle.std.specs.Prelude.{IfSome, IsTrue, Bool, true, false}
 use Rattle.std.specs.Option.{option_and_then}
 use Rattle.std.specs.Io.KnownBytes.{Appends}
 use Rattle.inflow_file.specs.SeriesFaults.{series_fault}
 use Rattle.basin_tree.specs.declared.walk.Finding.{Finding}
-use Rattle.cert_check.specs.declared.refuted.Refuted.{Refuted}
 use Rattle.basin_cli.specs.declared.status.Status.{Status}
 use Rattle.basin_cli.specs.declared.status.Status.TheVariants as its
 use Rattle.basin_cli.specs.declared.ending.Ending.{Ending}

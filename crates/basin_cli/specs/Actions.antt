@@ -1,5 +1,5 @@
 -- How the actions of commands may end, behind their files.
-use Rattle.std.specs.Prelude.{◌≡◌, ℕ, List, ⊤, IsOk, Result, Ok, Err, Option}
+use Rattle.std.specs.Prelude.{◌≡◌, ℕ, List, ⊤, IsOk, Err, Option}
 use Rattle.cert_check.specs.Whole.{text_verdict}
 use Rattle.water_model.specs.declared.types.Basin.{Basin}
 use Rattle.water_model.specs.declared.types.Inflows.{Inflows}

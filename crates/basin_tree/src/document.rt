@@ -101,7 +101,14 @@ fn network_places<'a>(
 fn use_places<'a>(
     alloc: Global,
     tree: &'a Table,
-) -> Result<(IndexMap<&'a str, u64>, IndexMap<&'a str, u64>, IndexMap<&'a str, u64>), AllocError>
+) -> Result<
+    (
+        IndexMap<&'a str, u64>,
+        IndexMap<&'a str, u64>,
+        IndexMap<&'a str, u64>,
+    ),
+    AllocError,
+>
     ensures { IfOk result (λ places. KeepsPlaces places.0 (texts_in (table_view tree.now) BasinTable.Reservoir)
         × KeepsPlaces places.1 (texts_in (table_view tree.now) BasinTable.Diversion)
         × KeepsPlaces places.2 (texts_of (table_view tree.now) Space.Rights)) }

@@ -1,24 +1,21 @@
 -- What a checker begins with.
-use Rattle.std.proofs.Common.{◌≡◌, ℕ, zero, suc, ◌+◌, ◌<◌, ◌≤◌, Bool, true, false, refl, sym, ap, ◌∙◌, arith, inl, inr, List, [], ◌∷◌, ◌++◌, length, map, replicate, filter, add-one, zero-add}
-use Rattle.std.specs.Prelude.{Option, Some, None, ◌&&◌, nat_le, slice_index, slice_set, if◌then◌else◌}
+use Rattle.std.proofs.Common.{◌≡◌, ℕ, zero, suc, ◌+◌, ◌<◌, ◌≤◌, Bool, true, false, refl, sym, ap, ◌∙◌, arith, List, [], ◌∷◌, ◌++◌, length, map, replicate, filter, add-one, zero-add}
+use Rattle.std.specs.Prelude.{Option, Some, None, ◌&&◌, nat_le, slice_set, if◌then◌else◌}
 use Rattle.std.specs.List.{list_all}
-use Rattle.std.proofs.lemmas.Bool.{cases_eq}
 use Rattle.std.proofs.lemmas.Bool.Decides.{nat_tests}
 use Rattle.std.proofs.lemmas.List.{length-map, length-replicate}
 use Rattle.std.proofs.lemmas.List.Folds.{list_all-append}
 use Rattle.std.proofs.lemmas.List.Elements.{filter-append}
-use Rattle.std.proofs.Math.ListN.{length-set}
 use Rattle.lag_returns.specs.Lags as lag
 use Rattle.month_terms.specs.Blank.{blank_record}
 use Rattle.month_terms.specs.Terms.{HasReturned}
 use Rattle.month_terms.proofs.BlankRecords.{blank_fits}
-use Rattle.water_model.specs.CutSets.{CutSets, set_of, with_set, with_room, without_sets, has_room}
+use Rattle.water_model.specs.CutSets.{CutSets, set_of, with_set, has_room}
 use Rattle.water_model.specs.Lookups.{of_entry, has}
 use Rattle.water_model.specs.Places.{numbers_from}
 use Rattle.water_model.specs.Valid.{IsValidBasin}
 use Rattle.water_model.specs.declared.types.Basin.{Basin}
 use Rattle.water_model.specs.declared.types.Inflows.{Inflows}
-use Rattle.water_model.specs.declared.types.MonthRecord.{MonthRecord}
 use Rattle.result_reader.specs.Standing as reader
 use Rattle.result_reader.specs.Telling.{nothing_told}
 use Rattle.cert_check.specs.Beginning.{HasRoom, IsBlank}
@@ -94,9 +91,6 @@ emptied (x ∷ sets) zero e = absurd (omega (arith, e))
 emptied (x ∷ sets) (suc n) e = ap (λ ys. None ∷ ys) (emptied sets n (omega (arith, e)))
 
 -- An account of nothing.
-
-pub zeros_count : (xs : List ℕ) (n m : ℕ) → xs ≡ replicate n 0 → n ≡ m → length xs ≡ m
-zeros_count xs n m e h = ap length e ∙ (length-replicate n 0 ∙ h)
 
 pub blank_is : (b : Basin) (cuts : CutSets) (rights nodes : ℕ) → IsValidBasin b → HasRoom rights nodes cuts → rights ≡ length b.rights → nodes ≡ length b.nodes →
     IsBlank b (blank_record b cuts)

@@ -1,8 +1,8 @@
 -- What a month under way supplies is less than a river can carry.
-use Rattle.std.proofs.Common.{◌≡◌, ℕ, ◌+◌, ◌-◌, ◌*◌, ◌^◌, ◌<◌, ◌≤◌, Bool, true, false, refl, sym, ap, ◌∙◌, arith, List, [], length, map, get_or}
+use Rattle.std.proofs.Common.{◌≡◌, ℕ, ◌+◌, ◌-◌, ◌*◌, ◌^◌, ◌<◌, ◌≤◌, ap, ◌∙◌, arith, List, [], length, map}
 use Rattle.std.specs.Prelude.{slice_index, All}
 use Rattle.std.proofs.lemmas.List.{get_or_default}
-use Rattle.place_sums.specs.Sums.{total, total_where}
+use Rattle.place_sums.specs.Sums.{total}
 use Rattle.place_sums.proofs.Totals.{total_le, total_same, total_where_le, term_le_total}
 use Rattle.water_model.specs.Basin.{is_at, node_of_reservoir}
 use Rattle.water_model.specs.History.{IsPartialHistory, opening_after}

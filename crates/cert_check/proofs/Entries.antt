@@ -1,7 +1,7 @@
 -- An account keeps what is told with one line more.
 use Rattle.std.proofs.Common.{◌≡◌, ℕ, zero, suc, ◌+◌, ◌<◌, ◌≤◌, Bool, true, false, refl, sym, ap, ◌∙◌, arith, inl, inr, List, [], ◌∷◌, ◌++◌, length, map, replicate, take, length-append}
-use Rattle.std.specs.Prelude.{Option, Some, None, IsSome, ◌&&◌, ◌||◌, not, is_none, is_some, slice_index, slice_set, slice_get, option_map, if◌then◌else◌}
-use Rattle.std.specs.List.{list_any, flat_map}
+use Rattle.std.specs.Prelude.{Option, Some, None, IsSome, ◌&&◌, ◌||◌, not, is_none, is_some, slice_set, slice_get, option_map, if◌then◌else◌}
+use Rattle.std.specs.List.{list_any}
 use Rattle.std.proofs.lemmas.Bool.{cases_eq}
 use Rattle.std.proofs.lemmas.List.{length-map, length-replicate, map-append}
 use Rattle.std.proofs.lemmas.Option.{slice_get_past}
@@ -26,7 +26,7 @@ use Rattle.water_model.specs.declared.types.Inflows.{Inflows}
 use Rattle.water_model.specs.declared.types.MonthRecord.{MonthRecord}
 use Rattle.result_reader.specs.Telling.{Told, tell, with_supply, with_member}
 use Rattle.cert_check.specs.Checking.{first_row, is_short, is_due, callers_due}
-use Rattle.cert_check.specs.Keeping.{FitsAccount, Keeps, lacks_call, callers_of}
+use Rattle.cert_check.specs.Keeping.{Keeps, lacks_call, callers_of}
 use Rattle.cert_check.specs.Shows.{Shows}
 use Rattle.cert_check.specs.Walks.{IsDueFrom, behind}
 use Rattle.cert_check.specs.declared.account.Account.{Account}

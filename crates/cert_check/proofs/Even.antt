@@ -1,6 +1,6 @@
 -- The tests of sums, by what an account keeps.
 use Rattle.std.proofs.Common.{◌≡◌, ℕ, ◌+◌, ◌<◌, ◌≤◌, Bool, true, false, refl, sym, ap, ◌∙◌, arith, inl, inr, List, [], ◌∷◌, length}
-use Rattle.std.specs.Prelude.{Option, Some, None, ◌⊎◌, ◌&&◌, ◌||◌, not, IsTrue, IsSome, ◌↔◌, nat_le, unwrap_or}
+use Rattle.std.specs.Prelude.{Option, Some, None, ◌&&◌, ◌||◌, not, IsTrue, IsSome, ◌↔◌, nat_le, unwrap_or}
 use Rattle.std.specs.List.{list_all, list_any}
 use Rattle.std.specs.Option.{option_map_or}
 use Rattle.std.proofs.lemmas.Bool.Decides.{nat_tests}
@@ -10,7 +10,6 @@ use Rattle.water_model.specs.History.{cut_of}
 use Rattle.water_model.specs.Places.{places_of, outlets}
 use Rattle.water_model.specs.declared.types.Basin.{Basin}
 use Rattle.water_model.specs.declared.types.Inflows.{Inflows}
-use Rattle.water_model.specs.declared.types.MonthRecord.{MonthRecord}
 use Rattle.water_model.proofs.Order.{Has, numbers_from-has, numbers_from-below}
 use Rattle.cut_cert.specs.Sets.{cut_at}
 use Rattle.result_reader.specs.Telling.{Told, with_supply}

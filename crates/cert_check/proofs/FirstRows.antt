@@ -1,14 +1,14 @@
 -- The first row that holds, in parts.
-use Rattle.std.proofs.Common.{◌≡◌, ℕ, Bool, true, false, refl, sym, ap, ◌∙◌, List, [], ◌∷◌, ◌++◌}
-use Rattle.std.specs.Prelude.{Option, Some, None, find, option_map, if◌then◌else◌}
+use Rattle.std.proofs.Common.{◌≡◌, Bool, true, false, refl, List, [], ◌∷◌, ◌++◌}
+use Rattle.std.specs.Prelude.{Some, None, find, option_map, if◌then◌else◌}
 use Rattle.water_model.specs.declared.item.Item.{Item}
 use Rattle.water_model.specs.declared.item.Item.TheVariants as line
 use Rattle.water_model.specs.declared.types.Basin.{Basin}
 use Rattle.water_model.specs.declared.types.Inflows.{Inflows}
 use Rattle.result_reader.specs.Telling.{Told}
 use Rattle.cert_check.specs.Checking.{Row, rows, first_row}
-use Rattle.cert_check.specs.Coming.{Awaits, HasMonth, HasTold, MayCome, is_within}
-use Rattle.cert_check.specs.FirstRows.{first_of, call_rows, amount_rows, sum_rows}
+use Rattle.cert_check.specs.Coming.{Awaits, HasMonth, HasTold, is_within}
+use Rattle.cert_check.specs.FirstRows.{first_of, amount_rows, sum_rows}
 use Rattle.cert_check.specs.Keeping.{Keeps}
 use Rattle.cert_check.specs.declared.account.Account.{Account}
 use Rattle.cert_check.specs.declared.refuted.RefutedKind.{RefutedKind}

@@ -1,10 +1,10 @@
 -- What is told behind the front of a text whose lines are good.
-use Rattle.std.proofs.Common.{◌≡◌, ℕ, zero, suc, ◌+◌, ◌<◌, Bool, true, false, refl, sym, ap, subst, ◌∙◌, arith, inl, inr, List, [], ◌∷◌, ◌++◌, length, map, fold, replicate, append_assoc, append-nil, length-append}
-use Rattle.std.specs.Prelude.{Option, Some, None, ◌⊎◌, ◌&&◌, ◌==◌, not}
+use Rattle.std.proofs.Common.{◌≡◌, ℕ, zero, suc, ◌+◌, ◌<◌, Bool, true, false, refl, sym, ap, subst, ◌∙◌, arith, inl, inr, List, [], ◌∷◌, ◌++◌, length, map, fold, replicate, append_assoc, length-append}
+use Rattle.std.specs.Prelude.{Option, Some, None, ◌⊎◌, ◌==◌, not}
 use Rattle.std.specs.List.{list_all, flat_map}
 use Rattle.std.proofs.lemmas.Bool.Decides.{nat_tests}
 use Rattle.std.proofs.lemmas.List.{length-map}
-use Rattle.water_model.specs.History.{IsPartialHistory, opening_after}
+use Rattle.water_model.specs.History.{IsPartialHistory}
 use Rattle.water_model.specs.Hydrology.{run_month}
 use Rattle.water_model.specs.Lookups.{of_entry}
 use Rattle.water_model.specs.Places.{numbers_from, places_of, members_from, seniors_first, return_nodes, outlets, rights_with_volume}
@@ -30,7 +30,7 @@ use Rattle.cert_check.proofs.Passages.{stands_in, all_both, all_first, all_at, a
 use Rattle.cert_check.proofs.Rows.{AreGood, good_first, good_rest}
 use Rattle.cert_check.proofs.RunSound.{from_month, OneMonth, one_month, last_line, BehindMonths, next_month}
 use Rattle.cert_check.proofs.Sheets.{Sheet, sheet_lines, record_of, seniors_apart}
-use Rattle.cert_check.proofs.UnderWay.{is_amid, before_is_amid, InMonth, in_month, month_begins, uncalled, no_call, IsFree, free}
+use Rattle.cert_check.proofs.UnderWay.{is_amid, before_is_amid, in_month, month_begins, uncalled, no_call, free}
 
 -- The lines of a month: those before its `call` lines, these, its `called` and `close` lines, and its last.
 

@@ -1,6 +1,6 @@
 -- Which rights a line passes over, by the order of seniority.
-use Rattle.std.proofs.Common.{◌≡◌, ℕ, zero, suc, ◌+◌, ◌<◌, ◌≤◌, Bool, true, false, refl, sym, ap, subst, ◌∙◌, arith, inl, inr, List, [], ◌∷◌, length, take, drop}
-use Rattle.std.specs.Prelude.{Option, Some, None, ◌⊎◌, ◌&&◌, ◌||◌, is_none, slice_index}
+use Rattle.std.proofs.Common.{◌≡◌, ℕ, zero, suc, ◌<◌, Bool, true, false, refl, sym, ap, ◌∙◌, arith, inl, inr, List, [], ◌∷◌, length, take, drop}
+use Rattle.std.specs.Prelude.{None, ◌⊎◌, ◌&&◌, ◌||◌, is_none, slice_index}
 use Rattle.std.specs.List.{list_any}
 use Rattle.std.proofs.lemmas.Bool.{cases_Bool}
 use Rattle.water_model.specs.Basin.{is_senior}
@@ -11,7 +11,6 @@ use Rattle.water_model.specs.declared.item.Item.{Item}
 use Rattle.water_model.specs.declared.item.Item.TheVariants as line
 use Rattle.water_model.specs.declared.types.Basin.{Basin}
 use Rattle.water_model.specs.declared.types.Inflows.{Inflows}
-use Rattle.water_model.specs.declared.types.MonthRecord.{MonthRecord}
 use Rattle.water_model.proofs.Order.{Has, IsOrdered, seniors_have, seniors_below, seniors_ordered}
 use Rattle.water_model.proofs.Seniority.{senior_trans}
 use Rattle.result_reader.specs.Telling.{Told}

@@ -1,5 +1,5 @@
 -- Where a line stands in a list of lines, and lists of lines that all pass a test.
-use Rattle.std.proofs.Common.{◌≡◌, ℕ, Bool, true, false, refl, sym, ap, ◌∙◌, inl, inr, List, [], ◌∷◌, ◌++◌, map}
+use Rattle.std.proofs.Common.{◌≡◌, ℕ, Bool, true, false, refl, sym, ap, inl, inr, List, [], ◌∷◌, ◌++◌, map}
 use Rattle.std.specs.Prelude.{Option, Some, None, ◌⊎◌, ◌&&◌}
 use Rattle.std.specs.List.{list_all, flat_map}
 use Rattle.water_model.specs.Places.{members_from}

@@ -1,6 +1,6 @@
 -- A book with one line more.
-use Rattle.std.proofs.Common.{◌≡◌, ℕ, ◌+◌, ◌*◌, ◌^◌, ◌<◌, ◌≤◌, Bool, true, false, refl, sym, ap, subst, ◌∙◌, arith, inl, inr, List, [], ◌∷◌, ◌++◌, length}
-use Rattle.std.specs.Prelude.{Option, Some, None, Result, Ok, Err, ◌⊎◌, if◌then◌else◌}
+use Rattle.std.proofs.Common.{◌≡◌, ℕ, ◌+◌, ◌*◌, ◌^◌, ◌<◌, ◌≤◌, true, false, refl, sym, ap, subst, ◌∙◌, arith, List, [], ◌∷◌, ◌++◌, length}
+use Rattle.std.specs.Prelude.{Option, Some, None, Result, Ok, Err}
 use Rattle.std.specs.Option.{option_and_then}
 use Rattle.std.proofs.Math.Nat.{mul-le-mul}
 use Rattle.water_model.specs.Valid.{IsValidBasin}
@@ -8,7 +8,7 @@ use Rattle.water_model.specs.declared.item.Item.{Item}
 use Rattle.water_model.specs.declared.types.Basin.{Basin}
 use Rattle.water_model.specs.declared.types.Inflows.{Inflows}
 use Rattle.result_reader.specs.Due.{Due, all_due, due_after, is_call, step}
-use Rattle.result_reader.specs.Form.{due, due_in_month}
+use Rattle.result_reader.specs.Form.{due_in_month}
 use Rattle.result_reader.specs.Reading.{read_line}
 use Rattle.result_reader.specs.Standing.{ReaderSeen, most_lines}
 use Rattle.result_reader.specs.Standing as reader
@@ -17,9 +17,9 @@ use Rattle.result_reader.specs.declared.bad_line.BadLine.{BadLine}
 use Rattle.result_reader.specs.declared.shape.Shape.{Shape}
 use Rattle.result_reader.proofs.Accepting.{fronts_are_accepted}
 use Rattle.result_reader.proofs.LinesLeft.{step-fewer, most_of_run, few_due}
-use Rattle.cert_check.specs.Checking.{first_row, is_whole, judge, judge_row, judge_read, ok_then, verdict_from}
+use Rattle.cert_check.specs.Checking.{first_row, is_whole, judge, judge_row, ok_then, verdict_from}
 use Rattle.cert_check.specs.Coming.{MayCome}
-use Rattle.cert_check.specs.Standing.{CheckerSeen, IsBookOf, Counts, Stands, StandsFor}
+use Rattle.cert_check.specs.Standing.{CheckerSeen, IsBookOf, Stands, StandsFor}
 use Rattle.cert_check.specs.Taking.{TakesItem, TakesLine}
 use Rattle.cert_check.specs.declared.book.Book.{Book}
 use Rattle.cert_check.specs.declared.refuted.Refuted.{Refuted}

@@ -1,14 +1,13 @@
 -- What the lines of a month tell stays within bounds.
-use Rattle.std.proofs.Common.{◌≡◌, ℕ, zero, suc, ◌^◌, ◌<◌, ◌≤◌, Bool, true, false, refl, sym, ap, ◌∙◌, arith, inl, inr, List, [], ◌∷◌, ◌++◌, length, map, fold, replicate}
+use Rattle.std.proofs.Common.{◌≡◌, ℕ, zero, suc, ◌^◌, ◌<◌, ◌≤◌, Bool, true, false, refl, sym, ap, ◌∙◌, arith, inl, inr, List, [], ◌∷◌, length, map, fold, replicate}
 use Rattle.std.specs.Prelude.{Option, Some, None, ◌&&◌, ◌||◌, ◌==◌, not, min, nat_lt, is_some, slice_index, slice_get, slice_set, unwrap_or, option_map, if◌then◌else◌}
 use Rattle.std.specs.List.{list_all}
 use Rattle.std.proofs.lemmas.Bool.{cases_lt}
 use Rattle.std.proofs.lemmas.Bool.Decides.{nat_tests}
 use Rattle.std.proofs.lemmas.Option.{slice_get_past}
-use Rattle.water_text.specs.declared.month.Month.{Month}
 use Rattle.water_model.specs.Basin.{instream_link, taking_node}
 use Rattle.water_model.specs.History.{opening_after, cut_of}
-use Rattle.water_model.specs.Hydrology.{run_month, in_year, evaporation, area_at, returned_at, want_of}
+use Rattle.water_model.specs.Hydrology.{run_month, in_year, evaporation, returned_at, want_of}
 use Rattle.water_model.specs.Lookups.{of_entry}
 use Rattle.water_model.specs.Plans.{carry_of}
 use Rattle.water_model.specs.Valid.{IsValidBasin}
@@ -19,7 +18,7 @@ use Rattle.water_model.specs.declared.types.Inflows.{Inflows}
 use Rattle.water_model.specs.declared.types.MonthRecord.{MonthRecord}
 use Rattle.water_model.specs.declared.types.Reservoir.{Reservoir}
 use Rattle.result_text.proofs.Whole.{IsMonth-run_month}
-use Rattle.result_reader.specs.Telling.{Told, tell, blank_month, with_member}
+use Rattle.result_reader.specs.Telling.{Told, tell, with_member}
 use Rattle.month_terms.proofs.Adds.{no_numbers}
 use Rattle.month_terms.proofs.Amounts.{want_is, want_most}
 use Rattle.cut_cert.proofs.Bounds.{carry_most}

@@ -1,5 +1,5 @@
 -- Walks over the rights in the order of seniority, one place further.
-use Rattle.std.proofs.Common.{◌≡◌, ℕ, suc, ◌+◌, ◌<◌, Bool, false, true, refl, sym, ap, ◌∙◌, arith, List, [], ◌∷◌, ◌++◌, length, take, append-nil, add-one}
+use Rattle.std.proofs.Common.{◌≡◌, ℕ, ◌+◌, ◌<◌, Bool, false, refl, sym, ap, ◌∙◌, arith, List, [], ◌∷◌, ◌++◌, length, take, append-nil, add-one}
 use Rattle.std.specs.Prelude.{Option, Some, None, ◌||◌, slice_index, if◌then◌else◌}
 use Rattle.place_sums.specs.Sums.{total_where}
 use Rattle.place_sums.proofs.Totals.{total_more}
@@ -8,7 +8,6 @@ use Rattle.std.specs.List.{list_any}
 use Rattle.std.proofs.Math.Seq.{take-suc}
 use Rattle.std.proofs.lemmas.Grind.{flat_map-append}
 use Rattle.std.proofs.lemmas.List.Folds.{list_any-append}
-use Rattle.water_model.specs.Places.{seniors_first}
 use Rattle.water_model.specs.Text.{calling_right}
 use Rattle.water_model.specs.declared.types.Basin.{Basin}
 use Rattle.water_model.specs.declared.types.MonthRecord.{MonthRecord}

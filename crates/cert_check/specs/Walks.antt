@@ -1,5 +1,5 @@
 -- Walks over the rights in the order of seniority.
-use Rattle.std.specs.Prelude.{◌≡◌, ℕ, ◌+◌, ◌<◌, ◌≤◌, true, false, ◌++◌, ◌∷◌, [], length, take, slice_index, Option, Some, None, IsTrue}
+use Rattle.std.specs.Prelude.{◌≡◌, ℕ, ◌+◌, ◌<◌, ◌≤◌, true, false, ◌++◌, ◌∷◌, [], length, take, slice_index, Option, Some, None}
 use Rattle.std.specs.List.{list_any}
 use Rattle.water_model.specs.Places.{seniors_first}
 use Rattle.water_model.specs.declared.item.Item.{Item}

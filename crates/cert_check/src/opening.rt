@@ -37,11 +37,7 @@ fn blank_month(alloc: Global, basin: &Basin) -> Result<Box<MonthRecord>, AllocEr
     requires basin { IsValidBasin basin.now }
     ensures { IfOk result (λ month. IsBlank basin.now month.value) }
 {
-    let cuts = room_for_sets(
-        alloc,
-        basin.rights.len() as u32,
-        basin.nodes.len() as u32,
-    )?;
+    let cuts = room_for_sets(alloc, basin.rights.len() as u32, basin.nodes.len() as u32)?;
     let month = blank_record(alloc, basin, cuts)?;
     Ok(month)
 }

@@ -15,11 +15,7 @@ pub fn blank_month(alloc: Global, basin: &Basin) -> Result<Box<MonthRecord>, All
     ensures used { IfOk result (λ m. m.value.used ≡ replicate (length basin.now.rights) 0) }
     ensures closing { IfOk result (λ m. m.value.closing ≡ map (λ v. v.opening) basin.now.reservoirs) }
 {
-    let cuts = CutList::open(
-        alloc,
-        basin.rights.len() as u32,
-        basin.nodes.len() as u32,
-    )?;
+    let cuts = CutList::open(alloc, basin.rights.len() as u32, basin.nodes.len() as u32)?;
     let closing = openings(alloc, basin)?;
     let mut month = blank_record(alloc, basin, cuts)?;
     month.closing = closing;

@@ -1,5 +1,5 @@
 -- What a record begins with.
-use Rattle.std.specs.Prelude.{ℕ, length, replicate}
+use Rattle.std.specs.Prelude.{length, replicate}
 use Rattle.water_model.specs.CutSets.{CutSets}
 use Rattle.water_model.specs.declared.types.Basin.{Basin}
 use Rattle.water_model.specs.declared.types.MonthRecord.{MonthRecord}

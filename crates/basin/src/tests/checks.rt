@@ -187,7 +187,22 @@ done 1
 );
 
 /// A basin and its text, the number of a line, what is put in its place, and the answer.
-const REFUTED: [((&str, &str), usize, &str, &str); 42] = [
+type Refuting = (
+    (&'static str, &'static str),
+    usize,
+    &'static str,
+    &'static str,
+);
+
+/// Checks a text with one line changed, and compares the answer.
+fn refutes<R: Abort + AllocGlobal>(rt: &R, row: Refuting) -> Result<(), Fail> {
+    let ((basin, text), line, put, answer) = row;
+    let changed = with_line(rt.alloc(), text, line, put)?;
+    checks(rt, basin, "", changed.as_str(), (Status::No, answer))
+}
+
+/// Lines behind the end, and lines that aren't of the form.
+const OUT_OF_FORM: [Refuting; 8] = [
     // Behind the end.
     (JUNIOR_DRY, 19, "done 1\nx", "refuted 20 AfterEnd\n"),
     (JUNIOR_DRY, 19, "done 1\n\n", "refuted 20 AfterEnd\n"),
@@ -198,6 +213,18 @@ const REFUTED: [((&str, &str), usize, &str, &str); 42] = [
     (JUNIOR_DRY, 5, "flow c 0\n", "refuted 5 BadLine\n"),
     (JUNIOR_DRY, 5, "", "refuted 5 BadLine\n"),
     (JUNIOR_DRY, 17, "called old new\n", "refuted 17 BadLine\n"),
+];
+
+#[test]
+fn refutes_lines_out_of_form(rt: HostRuntime) -> Result<(), Fail> {
+    for row in OUT_OF_FORM {
+        refutes(&rt, row)?;
+    }
+    Ok(())
+}
+
+/// Sets of nodes that don't show a shortage, and sets that lack or aren't needed.
+const SHORTAGES: [Refuting; 10] = [
     // Sets that are no cuts, and cuts that aren't tight.
     (JUNIOR_DRY, 10, "", "refuted 9 CutLoose\n"),
     (JUNIOR_DRY, 11, "", "refuted 9 CutLoose\n"),
@@ -216,6 +243,18 @@ const REFUTED: [((&str, &str), usize, &str, &str); 42] = [
     // A set for a right that has what it wants.
     (JUNIOR_SHORT, 9, "call old\n", "refuted 9 CutNeedless\n"),
     (NOTHING_WANTED, 8, "call fish\n", "refuted 8 CutNeedless\n"),
+];
+
+#[test]
+fn refutes_sets_of_nodes(rt: HostRuntime) -> Result<(), Fail> {
+    for row in SHORTAGES {
+        refutes(&rt, row)?;
+    }
+    Ok(())
+}
+
+/// Callers, and what a month begins with.
+const OPENINGS: [Refuting; 12] = [
     // Callers.
     (JUNIOR_DRY, 17, "", "refuted 17 Called\n"),
     (
@@ -236,6 +275,18 @@ const REFUTED: [((&str, &str), usize, &str, &str); 42] = [
     (POOL, 13, "evap lake 100\n", "refuted 13 Evaporation\n"),
     (RETURNS, 4, "return mouth 3\n", "refuted 4 Return\n"),
     (RETURNS, 28, "return mouth 3\n", "refuted 28 Return\n"),
+];
+
+#[test]
+fn refutes_callers_and_openings(rt: HostRuntime) -> Result<(), Fail> {
+    for row in OPENINGS {
+        refutes(&rt, row)?;
+    }
+    Ok(())
+}
+
+/// Flows, deliveries, balances and closings, and texts that stop.
+const FLOWS: [Refuting; 12] = [
     // Flows, deliveries and balances.
     (CANAL_1900, 6, "flow hd 57\n", "refuted 6 Flow\n"),
     (TWO_CANALS, 7, "flow pd 32\n", "refuted 7 Flow\n"),
@@ -263,10 +314,9 @@ const REFUTED: [((&str, &str), usize, &str, &str); 42] = [
 ];
 
 #[test]
-fn refutes_the_first_line_at_fault(rt: HostRuntime) -> Result<(), Fail> {
-    for ((basin, text), line, put, answer) in REFUTED {
-        let changed = with_line(rt.alloc(), text, line, put)?;
-        checks(&rt, basin, "", changed.as_str(), (Status::No, answer))?;
+fn refutes_flows_and_ends(rt: HostRuntime) -> Result<(), Fail> {
+    for row in FLOWS {
+        refutes(&rt, row)?;
     }
     Ok(())
 }

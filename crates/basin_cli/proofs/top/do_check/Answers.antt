@@ -1,4 +1,4 @@
-use Rattle.std.proofs.Common.{subst, ap, sym, ◌≡◌, ℕ, List, Option}
+use Rattle.std.proofs.Common.{subst, ◌≡◌, ℕ, List, Option}
 use Rattle.std.specs.Prelude.{IfSome}
 use Rattle.basin_cli.specs.Command.{named}
 use Rattle.basin_cli.proofs.Judged.{checking_cause, checking_writes}

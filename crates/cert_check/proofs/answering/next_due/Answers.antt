@@ -1,4 +1,4 @@
-use Rattle.std.proofs.Common.{sym, ap, ◌∙◌, subst, arith}
+use Rattle.std.proofs.Common.{◌∙◌, arith}
 use Rattle.calls.proofs.Search.{order_in_range}
 use Rattle.cert_check.proofs.answering.next_due.Goals as goal
 

@@ -1,4 +1,4 @@
-use Rattle.std.proofs.Common.{◌≡◌, ◌<◌, ◌∙◌, refl, ap, sym, arith, length, ℕ, Some}
+use Rattle.std.proofs.Common.{◌≡◌, ◌<◌, ◌∙◌, refl, ap, arith, length, Some}
 use Rattle.std.specs.Prelude.{◌==◌, slice_index, unwrap_or, option_map}
 use Rattle.water_model.specs.Basin.{head_of}
 use Rattle.water_model.proofs.Balance.{ends}

@@ -1,4 +1,4 @@
-use Rattle.std.proofs.Common.{◌≡◌, ◌<◌, ◌∙◌, refl, ap, sym, arith, length, ℕ, Some, None}
+use Rattle.std.proofs.Common.{◌<◌, ◌∙◌, refl, ap, sym, arith, length}
 use Rattle.std.specs.Prelude.{slice_index}
 use Rattle.water_model.specs.Basin.{taking_node, takes_at}
 use Rattle.month_terms.proofs.Adds.{nothing_yet, one_more, sum_within}

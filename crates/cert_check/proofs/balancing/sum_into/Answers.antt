@@ -1,4 +1,4 @@
-use Rattle.std.proofs.Common.{◌≡◌, ◌∙◌, ◌*◌, ◌^◌, ◌≤◌, ap, arith, length}
+use Rattle.std.proofs.Common.{◌≡◌, ◌∙◌, ◌^◌, ap, arith, length}
 use Rattle.std.specs.Prelude.{◌==◌, slice_index}
 use Rattle.water_model.specs.Basin.{head_of}
 use Rattle.water_model.specs.Plans.{inflow_to}

@@ -1,4 +1,4 @@
-use Rattle.std.proofs.Common.{◌≡◌, ◌∙◌, ◌*◌, ◌^◌, ◌≤◌, ap, arith, length}
+use Rattle.std.proofs.Common.{◌≡◌, ◌∙◌, ◌^◌, ap, arith, length}
 use Rattle.std.specs.Prelude.{◌==◌, slice_index}
 use Rattle.water_model.specs.Basin.{tail_of, takes_at}
 use Rattle.water_model.specs.Plans.{outflow_from, taken_at}

@@ -1,10 +1,6 @@
-use Rattle.std.proofs.Common.{◌≡◌, ◌+◌, sym, ap, subst, ◌∙◌, arith, List, ℕ}
-use Rattle.std.specs.Prelude.{Ok, Err}
-use Rattle.water_model.specs.declared.item.Item.{Item}
+use Rattle.std.proofs.Common.{◌≡◌, sym, ap, ◌∙◌, arith}
+use Rattle.std.specs.Prelude.{Ok}
 use Rattle.result_reader.specs.Reading.{read_line}
-use Rattle.cert_check.specs.Checking.{judge_row, first_row}
-use Rattle.cert_check.specs.declared.refuted.Refuted.{Refuted}
-use Rattle.cert_check.specs.declared.refuted.RefutedKind.TheVariants as kind
 use Rattle.cert_check.proofs.Standings.{few_lines, line_judged, judged_ended, judged_bad, judged_item, line_comes, took}
 use Rattle.cert_check.proofs.book.take_line.Goals as goal
 

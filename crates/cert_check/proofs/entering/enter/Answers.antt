@@ -1,4 +1,4 @@
-use Rattle.std.proofs.Common.{◌≡◌, ℕ, refl, sym, ap, subst, ◌∙◌, Some, None, List, Bool, false, map}
+use Rattle.std.proofs.Common.{◌≡◌, ℕ, refl, ap, subst, ◌∙◌, Some, None, List, Bool, false, map}
 use Rattle.std.specs.Prelude.{Option, IsSome}
 use Rattle.water_model.specs.CutSets.{set_of}
 use Rattle.result_text.specs.Range.{IsOfBasin}
@@ -6,7 +6,7 @@ use Rattle.result_reader.specs.Telling.{Told, tell}
 use Rattle.cert_check.specs.Checking.{first_row}
 use Rattle.cert_check.specs.Coming.{is_before_called}
 use Rattle.cert_check.specs.Keeping.{Keeps}
-use Rattle.cert_check.proofs.Entries.{along, keeps_month, keeps_opening, keeps_evaporated, keeps_returned, keeps_used, keeps_flow, keeps_delivery, keeps_outflow, keeps_call, keeps_stray, keeps_member, keeps_next, keeps_closing, keeps_end}
+use Rattle.cert_check.proofs.Entries.{along, keeps_month, keeps_opening, keeps_evaporated, keeps_returned, keeps_used, keeps_flow, keeps_outflow, keeps_call, keeps_stray, keeps_member, keeps_next, keeps_closing, keeps_end}
 use Rattle.cert_check.proofs.entering.enter.Goals as goal
 
 pub returns-in-Opening : goal.returns-in-Opening

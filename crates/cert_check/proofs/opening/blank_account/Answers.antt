@@ -1,6 +1,5 @@
-use Rattle.std.proofs.Common.{◌≡◌, ◌∙◌, sym, ap, refl, subst, [], List, ℕ}
+use Rattle.std.proofs.Common.{sym, refl, subst, []}
 use Rattle.lag_returns.specs.Lags as lag
-use Rattle.month_terms.specs.Terms.{HasReturned}
 use Rattle.result_reader.specs.Telling.{nothing_told}
 use Rattle.cert_check.specs.Beginning.{IsBlank}
 use Rattle.cert_check.specs.Keeping.{Keeps}

@@ -1,6 +1,5 @@
 use Rattle.std.proofs.Common.{◌∙◌, sym, ap, subst, [], length}
 use Rattle.month_terms.specs.Terms.{HasReturned}
-use Rattle.cert_check.proofs.Beginnings.{zeros_count}
 use Rattle.cert_check.proofs.Supplies.{whole_rows}
 use Rattle.cert_check.proofs.opening.first_comes.Goals as goal
 

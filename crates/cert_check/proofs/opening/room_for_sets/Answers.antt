@@ -1,4 +1,4 @@
-use Rattle.std.proofs.Common.{◌≡◌, ◌<◌, ◌≤◌, refl, sym, ap, ◌∙◌, arith, ℕ, Bool, List, None, Some, length, replicate, true, false}
+use Rattle.std.proofs.Common.{◌≡◌, ap, ◌∙◌, arith, Bool, List, None, Some, length, replicate, true, false}
 use Rattle.std.specs.Prelude.{Option}
 use Rattle.std.proofs.lemmas.List.{length-replicate}
 use Rattle.std.proofs.Math.ListN.{length-set}

@@ -1,5 +1,4 @@
-use Rattle.std.proofs.Common.{◌≡◌, ◌≤◌, sym, ap, subst, ◌∙◌, arith}
-use Rattle.cert_check.specs.Checking.{balance_wrong}
+use Rattle.std.proofs.Common.{◌∙◌, arith}
 use Rattle.cert_check.proofs.Even.{last_is}
 use Rattle.cert_check.proofs.refusing.balance_wrong.Goals as goal
 

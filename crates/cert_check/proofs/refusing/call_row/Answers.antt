@@ -1,4 +1,4 @@
-use Rattle.std.proofs.Common.{◌≡◌, refl, sym, ◌∙◌}
+use Rattle.std.proofs.Common.{refl, sym, ◌∙◌}
 use Rattle.cert_check.proofs.refusing.call_row.Goals as goal
 
 pub returns-then-called_wrong-clause-value : goal.returns-then-called_wrong-clause-value

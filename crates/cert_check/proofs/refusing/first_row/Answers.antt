@@ -1,4 +1,4 @@
-use Rattle.std.proofs.Common.{◌≡◌, ◌++◌, refl, sym, ap, ◌∙◌}
+use Rattle.std.proofs.Common.{◌++◌, sym, ◌∙◌}
 use Rattle.cert_check.specs.FirstRows.{call_rows, amount_rows, sum_rows}
 use Rattle.cert_check.proofs.FirstRows.{first_is, some_first, none_first, outer_rows}
 use Rattle.cert_check.proofs.refusing.first_row.Goals as goal

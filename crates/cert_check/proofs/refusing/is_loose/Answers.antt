@@ -1,7 +1,5 @@
-use Rattle.std.proofs.Common.{◌≡◌, ◌≤◌, ◌^◌, ℕ, refl, sym, ap, ◌∙◌, arith, length}
-use Rattle.std.specs.Prelude.{slice_index}
+use Rattle.std.proofs.Common.{◌^◌, ap, ◌∙◌, arith}
 use Rattle.cert_check.proofs.Bounded.{supplies_small, all_most}
-use Rattle.cert_check.proofs.Even.{loose_is}
 use Rattle.cert_check.proofs.refusing.is_loose.Goals as goal
 
 pub tight-requires-clause-amounts : goal.tight-requires-clause-amounts

@@ -1,5 +1,4 @@
-use Rattle.std.proofs.Common.{◌≡◌, ◌<◌, sym, ap, subst, arith}
-use Rattle.cert_check.specs.Keeping.{Keeps}
+use Rattle.std.proofs.Common.{arith}
 use Rattle.cert_check.proofs.Bounded.{node_small}
 use Rattle.cert_check.proofs.Entries.{keeps_supply}
 use Rattle.cert_check.proofs.refusing.know_supply.Goals as goal

@@ -1,4 +1,4 @@
-use Rattle.std.proofs.Common.{◌≡◌, ◌∙◌, ap, sym, length}
+use Rattle.std.proofs.Common.{◌∙◌, ap, length}
 use Rattle.cert_check.proofs.Supplies.{whole_rows, supply_is}
 use Rattle.cert_check.proofs.supplying.make_supply.Goals as goal
 

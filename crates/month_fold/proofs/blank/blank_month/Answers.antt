@@ -10,7 +10,7 @@ returns-clause-fits c =
     let same : c.deref_mut.result.now ≡ blank_record c.args.basin.now c.in_ok-cuts.cuts = c.deref_mut.ensures.value ∙ c.in_ok-month.ensures in
     fits_with_closing c.args.basin.now c.deref_mut.result.now c.in_ok-closing.closing
     (subst (FitsRecord c.args.basin.now) (sym same) (blank_fits c.args.basin.now c.in_ok-cuts.cuts
-        (no_sets_count _ _ _ _ c.in_ok-cuts.ensures c.len.ensures) (no_sets_nodes _ _ _ _ c.in_ok-cuts.ensures c.len-2.ensures)))
+    (no_sets_count _ _ _ _ c.in_ok-cuts.ensures c.len.ensures) (no_sets_nodes _ _ _ _ c.in_ok-cuts.ensures c.len-2.ensures)))
     (mapped_count _ _ c.args.basin.now.reservoirs c.in_ok-closing.ensures)
 
 pub returns-clause-used : goal.returns-clause-used

@@ -1,4 +1,4 @@
-use Rattle.std.proofs.Common.{◌≡◌, sym, ap, ◌∙◌, arith, List, ℕ}
+use Rattle.std.proofs.Common.{arith}
 use Rattle.cert_check.specs.CheckerInside.{seen_of}
 use Rattle.cert_check.proofs.Standings.{few_lines, good_is}
 use Rattle.cert_check.proofs.checker.Checker.finish.Goals as goal

@@ -1,5 +1,4 @@
-use Rattle.std.proofs.Common.{◌≡◌, sym, ap, ◌∙◌, [], ◌∷◌, ◌++◌, List, ℕ}
-use Rattle.std.specs.Prelude.{Some, None}
+use Rattle.std.proofs.Common.{sym, ap, ◌∙◌, [], ◌∷◌, ◌++◌}
 use Rattle.cert_check.specs.CheckerInside.{seen_of}
 use Rattle.cert_check.proofs.Standings.{still_refused, refusal_is, refusal_stands, good_is, good_stands}
 use Rattle.cert_check.proofs.checker.Checker.line.Goals as goal

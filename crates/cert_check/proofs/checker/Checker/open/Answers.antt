@@ -1,5 +1,4 @@
-use Rattle.std.proofs.Common.{◌≡◌, sym, ap, subst, refl, [], ◌∙◌}
-use Rattle.rights_roll.specs.Rolls.{IsRollOf}
+use Rattle.std.proofs.Common.{refl, []}
 use Rattle.cert_check.proofs.Beginnings.{first_book}
 use Rattle.cert_check.proofs.checker.Checker.open.Goals as goal
 
