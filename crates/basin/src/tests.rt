@@ -343,30 +343,34 @@ fn runs_on_gauged_inflows(rt: HostRuntime) -> Result<(), Fail> {
     Ok(())
 }
 
+/// Runs the basin with one gauge on a series that is refused, and compares the line.
+fn refuses_series<R: Abort + AllocGlobal>(rt: &R, series: &[u8], line: &str) -> Result<(), Fail> {
+    let mut set = files(rt.alloc(), GAUGED, "")?;
+    set.series.extend_from_slice(series)?;
+    let words = ["run", "BASIN", "SERIES"];
+    expect(rt, &words, set, (Status::SeriesRefused, "", line))
+}
+
 #[test]
 fn names_what_is_refused_in_a_series(rt: HostRuntime) -> Result<(), Fail> {
-    let words = ["run", "BASIN", "SERIES"];
     for (series, line) in REFUSED_SERIES {
-        let set = files(rt.alloc(), GAUGED, series)?;
-        expect(&rt, &words, set, (Status::SeriesRefused, "", line))?;
+        refuses_series(&rt, series.as_bytes(), line)?;
     }
+    Ok(())
+}
+
+#[test]
+fn reads_what_is_no_text_in_a_series(rt: HostRuntime) -> Result<(), Fail> {
+    let series = b"month,node,amount\n\xff,top,1\n";
+    refuses_series(&rt, series, "series: BadMonth 2\n")
+}
+
+#[test]
+fn names_a_gauge_without_a_series(rt: HostRuntime) -> Result<(), Fail> {
     let set = files(rt.alloc(), GAUGED, "")?;
     let line = "series: Missing 1900-01 top\n";
-    expect(
-        &rt,
-        &["run", "BASIN", "-"],
-        set,
-        (Status::SeriesRefused, "", line),
-    )?;
-    let mut set = files(rt.alloc(), GAUGED, "month,node,amount\n")?;
-    set.series.extend_from_slice(&[255])?;
-    set.series.extend_from_slice(b",top,1\n")?;
-    expect(
-        &rt,
-        &words,
-        set,
-        (Status::SeriesRefused, "", "series: BadMonth 2\n"),
-    )
+    let want = (Status::SeriesRefused, "", line);
+    expect(&rt, &["run", "BASIN", "-"], set, want)
 }
 
 #[test]
