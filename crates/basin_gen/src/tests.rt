@@ -1,7 +1,10 @@
 //! Basins against a program of its own that follows the description of the generator.
 use crate::make;
-use std::test::Fail;
-use water_model::types::{Carry, Inflow, Link, Node, Reservoir, ReturnRow, Right, RightKind};
+use std::alloc::AllocError;
+use std::process::Abort;
+use water_model::types::{
+    Basin, Carry, Inflow, Inflows, Link, Node, Reservoir, ReturnRow, Right, RightKind,
+};
 
 /// The sum of all inflows of a year.
 fn inflow_of(nodes: &[Node]) -> u64 {
@@ -73,46 +76,57 @@ fn parts_of(returns: &[ReturnRow]) -> (u64, u64) {
     (part, lag)
 }
 
-#[test]
-fn makes_two_nodes(rt: HostRuntime) -> Result<(), Fail> {
-    let (basin, inflows) = make(rt.alloc(), 7, 2)?;
-    let nodes = basin.nodes.as_slice();
-    let links = basin.links.as_slice();
-    assert!(rt; nodes.len() == 2 && links.len() == 1);
-    assert!(rt; nodes[0].name.bytes() == "n0".as_bytes() && !nodes[0].outlet);
-    assert!(rt; nodes[1].name.bytes() == "n1".as_bytes() && nodes[1].outlet);
-    let drawn = [44, 12, 12, 7, 54, 23, 10, 91, 15, 93, 15, 95];
-    for (node, wanted) in [(0, drawn), (1, [0; 12])] {
-        match &nodes[node].inflow {
-            Inflow::Monthly(amounts) => assert_eq!(rt; *amounts, wanted),
-            Inflow::Gauged => return Err("no node is gauged".into()),
-        }
-    }
-    assert_eq!(rt; inflow_of(nodes), 471);
-    assert!(rt; links[0].name.bytes() == "r0".as_bytes());
-    assert_eq!(rt; (links[0].from, links[0].to), (0, 1));
-    assert_eq!(rt;
-        (
-            basin.reservoirs.len(),
-            basin.rights.len(),
-            basin.returns.len()
-        ),
-        (0, 0, 0)
-    );
-    assert_eq!(rt; (inflows.gauged.len(), inflows.amount.len()), (0, 0));
-    Ok(())
+/// How many nodes, links, reservoirs, rights and return rows there are.
+fn counts_of(basin: &Basin) -> [usize; 5] {
+    [
+        basin.nodes.len(),
+        basin.links.len(),
+        basin.reservoirs.len(),
+        basin.rights.len(),
+        basin.returns.len(),
+    ]
 }
 
-/// Links of 85 nodes by their places: name, ends, and what a canal carries in a day.
-const LINKS: [(usize, &[u8], u32, u32, Option<u64>); 4] = [
-    (0, b"r0", 0, 2, None),
-    (1, b"r1", 1, 4, None),
-    (102, b"c73", 73, 76, Some(14)),
-    (104, b"c81", 81, 82, Some(8)),
+/// All sums: of inflows, of heads and canals, of openings and evaporation, of wants and years, of parts and lags.
+fn sums_of(basin: &Basin) -> [u64; 9] {
+    let links = basin.links.as_slice();
+    let (opening, rate) = storage_of(basin.reservoirs.as_slice());
+    let (want, year) = wants_of(basin.rights.as_slice());
+    let (part, lag) = parts_of(basin.returns.as_slice());
+    [
+        inflow_of(basin.nodes.as_slice()),
+        heads_of(links),
+        carry_of(links),
+        opening,
+        rate,
+        want,
+        year,
+        part,
+        lag,
+    ]
+}
+
+/// The nodes of the basin of two: name, whether it is an outlet, and inflow.
+static NODES: [(&[u8], bool, [u64; 12]); 2] = [
+    (
+        b"n0",
+        false,
+        [44, 12, 12, 7, 54, 23, 10, 91, 15, 93, 15, 95],
+    ),
+    (b"n1", true, [0; 12]),
+];
+
+/// Links: the size of the basin, a place, and the name, the ends and what a canal carries in a day.
+static LINKS: [(usize, usize, &[u8], u32, u32, Option<u64>); 5] = [
+    (2, 0, b"r0", 0, 1, None),
+    (85, 0, b"r0", 0, 2, None),
+    (85, 1, b"r1", 1, 4, None),
+    (85, 102, b"c73", 73, 76, Some(14)),
+    (85, 104, b"c81", 81, 82, Some(8)),
 ];
 
 /// All rights of 85 nodes: name, kind, year, order and want.
-const RIGHTS: [(&[u8], RightKind, u16, u32, u64); 8] = [
+static RIGHTS: [(&[u8], RightKind, u16, u32, u64); 8] = [
     (b"d0", RightKind::Diversion { node: 0 }, 1881, 0, 230),
     (b"d1", RightKind::Diversion { node: 40 }, 1882, 1, 98),
     (b"d2", RightKind::Diversion { node: 31 }, 1929, 2, 297),
@@ -167,83 +181,147 @@ fn per_day(carry: &Carry) -> Option<u64> {
     }
 }
 
-#[test]
-fn makes_links(rt: HostRuntime) -> Result<(), Fail> {
-    let (basin, _) = make(rt.alloc(), 7, 85)?;
-    let links = basin.links.as_slice();
-    assert!(rt; links.len() == 105);
-    for (place, name, from, to, carry) in LINKS {
-        let link = &links[place];
-        assert!(rt; link.name.bytes() == name, "link {place}");
-        assert_eq!(rt;
-            (link.from, link.to, per_day(&link.carry)),
-            (from, to, carry)
-        );
-    }
-    assert_eq!(rt; (heads_of(links), carry_of(links)), (295_499, 196));
-    assert_eq!(rt; inflow_of(basin.nodes.as_slice()), 26_233);
-    Ok(())
+/// Whether a node is that of a row.
+fn is_node(node: &Node, row: &(&[u8], bool, [u64; 12])) -> bool {
+    let (name, outlet, wanted) = row;
+    node.name.bytes() == *name
+        && node.outlet == *outlet
+        && match &node.inflow {
+            Inflow::Monthly(amounts) => amounts == wanted,
+            Inflow::Gauged => false,
+        }
 }
 
-#[test]
-fn makes_rights(rt: HostRuntime) -> Result<(), Fail> {
-    let (basin, _) = make(rt.alloc(), 7, 85)?;
-    let rights = basin.rights.as_slice();
-    assert!(rt; rights.len() == RIGHTS.len());
-    for (place, (name, kind, year, order, want)) in RIGHTS.iter().enumerate() {
-        let right = &rights[place];
-        assert!(rt; right.name.bytes() == *name, "right {place}");
-        assert_eq!(rt; right.kind, *kind);
-        assert_eq!(rt;
-            (right.date.year, right.order, right.want),
-            (*year, *order, [*want; 12])
-        );
+/// Whether a link has this name, these ends, and carries this in a day.
+fn is_link(link: &Link, name: &[u8], from: u32, to: u32, carry: Option<u64>) -> bool {
+    link.name.bytes() == name && link.from == from && link.to == to && per_day(&link.carry) == carry
+}
+
+/// Whether a right is that of a row.
+fn is_right(right: &Right, row: &(&[u8], RightKind, u16, u32, u64)) -> bool {
+    let (name, kind, year, order, want) = row;
+    right.name.bytes() == *name
+        && right.kind == *kind
+        && right.date.year == *year
+        && right.order == *order
+        && right.want == [*want; 12]
+}
+
+/// Compares the nodes of the basin of two.
+fn compare_nodes(rt: &impl Abort, nodes: &[Node]) {
+    assert!(rt; nodes.len() == NODES.len());
+    for (place, row) in NODES.iter().enumerate() {
+        assert!(rt; is_node(&nodes[place], row), "node {place}");
     }
+}
+
+/// Compares some links of the basin of a size.
+fn compare_links(rt: &impl Abort, size: usize, links: &[Link]) {
+    for (among, place, name, from, to, carry) in &LINKS {
+        if *among == size {
+            assert!(rt; *place < links.len());
+            assert!(rt;
+                is_link(&links[*place], name, *from, *to, *carry),
+                "link {place}"
+            );
+        }
+    }
+}
+
+/// Compares the rights of 85 nodes.
+fn compare_rights(rt: &impl Abort, rights: &[Right]) {
+    assert!(rt; rights.len() == RIGHTS.len());
+    for (place, row) in RIGHTS.iter().enumerate() {
+        assert!(rt; is_right(&rights[place], row), "right {place}");
+    }
+}
+
+/// Compares the return row of 85 nodes.
+fn compare_returns(rt: &impl Abort, returns: &[ReturnRow]) {
     let row = ReturnRow {
         right: 0,
         node: 18,
         part: 4937,
         lag: 9,
     };
-    let returns = basin.returns.as_slice();
     assert!(rt; returns.len() == 1);
     assert_eq!(rt; returns[0], row);
-    Ok(())
 }
 
-#[test]
-fn makes_reservoirs(rt: HostRuntime) -> Result<(), Fail> {
-    let (basin, _) = make(rt.alloc(), 7, 85)?;
-    let reservoirs = basin.reservoirs.as_slice();
+/// Whether a reservoir has this node and opening, this rate in every month, and an area at two storages.
+fn is_reservoir(reservoir: &Reservoir, node: u32, opening: u64, rate: u64) -> bool {
+    reservoir.node == node
+        && reservoir.opening == opening
+        && reservoir.rate == [rate; 12]
+        && reservoir.area.len() == 2
+}
+
+/// Compares the reservoirs of 85 nodes.
+fn compare_reservoirs(rt: &impl Abort, reservoirs: &[Reservoir]) {
     assert!(rt; reservoirs.len() == 2);
-    for (place, node, opening, rate) in [(0, 20, 68, 2), (1, 60, 486, 173)] {
-        let reservoir = &reservoirs[place];
-        assert_eq!(rt;
-            (reservoir.node, reservoir.opening, reservoir.rate),
-            (node, opening, [rate; 12])
-        );
-        assert_eq!(rt; reservoir.area.len(), 2);
+    assert!(rt; is_reservoir(&reservoirs[0], 20, 68, 2));
+    assert!(rt; is_reservoir(&reservoirs[1], 60, 486, 173));
+}
+
+/// Basins by their sizes: all counts and all sums.
+static BASINS: [(u32, [usize; 5], [u64; 9]); 3] = [
+    (2, [2, 1, 0, 0, 0], [471, 1, 0, 0, 0, 0, 0, 0, 0]),
+    (
+        85,
+        [85, 105, 2, 8, 1],
+        [26_233, 295_499, 196, 554, 175, 6807, 68_852, 4937, 9],
+    ),
+    (
+        2000,
+        [2000, 1999 + 500, 50, 100 + 100, 25],
+        [
+            599_168,
+            3_835_197_832,
+            4915,
+            12_035,
+            5248,
+            3_677_973,
+            38_318_941,
+            121_369,
+            161,
+        ],
+    ),
+];
+
+/// Compares the series, which are empty.
+fn compare_series(rt: &impl Abort, inflows: &Inflows) {
+    assert_eq!(rt; (inflows.gauged.len(), inflows.amount.len()), (0, 0));
+}
+
+/// Compares the nodes of two, and what 85 have.
+fn compare_parts(rt: &impl Abort, basin: &Basin) {
+    match basin.nodes.len() {
+        2 => compare_nodes(rt, basin.nodes.as_slice()),
+        85 => {
+            compare_rights(rt, basin.rights.as_slice());
+            compare_returns(rt, basin.returns.as_slice());
+            compare_reservoirs(rt, basin.reservoirs.as_slice());
+        }
+        _ => {}
     }
-    Ok(())
+}
+
+/// Compares a basin's counts, sums and parts.
+fn compare_basin(rt: &impl Abort, basin: &Basin, counts: &[usize; 5], sums: &[u64; 9]) {
+    let size = basin.nodes.len();
+    assert!(rt; counts_of(basin) == *counts, "counts of {size}");
+    assert!(rt; sums_of(basin) == *sums, "sums of {size}");
+    compare_links(rt, size, basin.links.as_slice());
+    compare_parts(rt, basin);
 }
 
 #[test]
-fn makes_2000_nodes(rt: HostRuntime) -> Result<(), Fail> {
-    let (basin, _) = make(rt.alloc(), 7, 2000)?;
-    let links = basin.links.as_slice();
-    assert_eq!(rt; (basin.nodes.len(), links.len()), (2000, 1999 + 500));
-    assert_eq!(rt;
-        (
-            basin.reservoirs.len(),
-            basin.rights.len(),
-            basin.returns.len()
-        ),
-        (50, 100 + 100, 25)
-    );
-    assert_eq!(rt; inflow_of(basin.nodes.as_slice()), 599_168);
-    assert_eq!(rt; (heads_of(links), carry_of(links)), (3_835_197_832, 4915));
-    assert_eq!(rt; storage_of(basin.reservoirs.as_slice()), (12_035, 5248));
-    assert_eq!(rt; wants_of(basin.rights.as_slice()), (3_677_973, 38_318_941));
-    assert_eq!(rt; parts_of(basin.returns.as_slice()), (121_369, 161));
+fn makes_basins(rt: HostRuntime) -> Result<(), AllocError> {
+    for (size, counts, sums) in &BASINS {
+        assert!(rt; 2 <= *size && *size <= 2000);
+        let (basin, inflows) = make(rt.alloc(), 7, *size)?;
+        compare_basin(&rt, &basin, counts, sums);
+        compare_series(&rt, &inflows);
+    }
     Ok(())
 }
