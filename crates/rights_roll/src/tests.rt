@@ -1,9 +1,9 @@
-ghost use Rattle.std.specs.Prelude.{◌<◌, All, IsTrue};
+ghost use Rattle.std.specs.Prelude.{◌≡◌, ◌<◌, length, All, IsTrue};
 
 use crate::RollRefused;
 use crate::roll::Roll;
 use std::alloc::{AllocError, Global};
-use std::test::Fail;
+use std::process::Abort;
 use water_model::types::{ReturnRow, Right, RightKind};
 use water_text::day::Day;
 use water_text::name::Name;
@@ -24,34 +24,30 @@ const ON_LINK_3: RightKind = RightKind::Instream { link: 3 };
 
 const ON_LINK_1: RightKind = RightKind::Instream { link: 1 };
 
-// Rights of the second month: the year, the day, the order and the kind of each. Each wants its day in March.
-fn rights_of(alloc: Global, rows: &[(u16, u8, u32, RightKind)]) -> Result<Vec<Right>, AllocError> {
-    let mut rights = Vec::new(alloc);
-    for (year, day, order, kind) in rows {
-        rights.push(Right {
-            name: Name::dash(),
-            date: Day {
-                year: *year,
-                month: 2,
-                day: *day,
-            },
-            order: *order,
-            kind: *kind,
-            want: [0, 0, u64::from(*day), 0, 0, 0, 0, 0, 0, 0, 0, 0],
-            volume: None,
-            series: false,
-        })?;
+// A right of the second month: its year, its day, its order and its kind. It wants its day in March.
+fn right_of(row: &(u16, u8, u32, RightKind)) -> Right {
+    let (year, day, order, kind) = row;
+    Right {
+        name: Name::dash(),
+        date: Day {
+            year: *year,
+            month: 2,
+            day: *day,
+        },
+        order: *order,
+        kind: *kind,
+        want: [0, 0, u64::from(*day), 0, 0, 0, 0, 0, 0, 0, 0, 0],
+        volume: None,
+        series: false,
     }
-    Ok(rights)
 }
 
-fn row(right: u32, part: u32) -> ReturnRow {
-    ReturnRow {
-        right,
-        node: 0,
-        part,
-        lag: 1,
+fn rights_of(alloc: Global, rows: &[(u16, u8, u32, RightKind)]) -> Result<Vec<Right>, AllocError> {
+    let mut rights = Vec::new(alloc);
+    for row in rows {
+        rights.push(right_of(row))?;
     }
+    Ok(rights)
 }
 
 fn are_in_range(returns: &[ReturnRow], rights: usize) -> bool
@@ -60,100 +56,168 @@ fn are_in_range(returns: &[ReturnRow], rights: usize) -> bool
     returns.iter().all(|row| (row.right as usize) < rights)
 }
 
+const RETURNS: [ReturnRow; 3] = [
+    ReturnRow {
+        right: 0,
+        node: 0,
+        part: 6_000,
+        lag: 1,
+    },
+    ReturnRow {
+        right: 1,
+        node: 0,
+        part: 9_000,
+        lag: 1,
+    },
+    ReturnRow {
+        right: 0,
+        node: 0,
+        part: 4_001,
+        lag: 1,
+    },
+];
+
+const WHOLE: [ReturnRow; 3] = [
+    ReturnRow {
+        right: 0,
+        node: 0,
+        part: 6_000,
+        lag: 1,
+    },
+    ReturnRow {
+        right: 1,
+        node: 0,
+        part: 10_000,
+        lag: 1,
+    },
+    ReturnRow {
+        right: 0,
+        node: 0,
+        part: 4_000,
+        lag: 1,
+    },
+];
+
+// Rights, return rows, and the first fault.
+static FAULTS: [(
+    &[(u16, u8, u32, RightKind)],
+    &[ReturnRow],
+    Option<RollRefused>,
+); 6] = [
+    (
+        &[
+            (1900, 28, 0, DIVERSION),
+            (1900, 29, 0, DIVERSION),
+            (1900, 28, 0, DIVERSION),
+        ],
+        &RETURNS,
+        Some(RollRefused::BadDate(1)),
+    ),
+    (
+        &[
+            (1900, 28, 0, DIVERSION),
+            (1900, 27, 0, LEVEL_2),
+            (1900, 28, 0, DIVERSION),
+        ],
+        &RETURNS,
+        Some(RollRefused::SameSeniority(0, 2)),
+    ),
+    (
+        &[
+            (1900, 1, 0, DIVERSION),
+            (1900, 2, 0, LEVEL_2),
+            (1900, 3, 0, LEVEL_1),
+        ],
+        &RETURNS,
+        Some(RollRefused::ZoneOrder(1)),
+    ),
+    (
+        &[
+            (1900, 1, 0, LEVEL_1),
+            (1900, 2, 0, LEVEL_2),
+            (1900, 3, 0, LEVEL_1),
+        ],
+        &RETURNS,
+        Some(RollRefused::ZoneOrder(2)),
+    ),
+    (
+        &[
+            (1900, 1, 0, DIVERSION),
+            (1900, 3, 0, LEVEL_2),
+            (1900, 2, 9, LEVEL_1),
+        ],
+        &RETURNS,
+        Some(RollRefused::ReturnParts(0)),
+    ),
+    (
+        &[
+            (1900, 1, 0, DIVERSION),
+            (1900, 3, 0, LEVEL_2),
+            (1900, 2, 9, LEVEL_1),
+        ],
+        &WHOLE,
+        None,
+    ),
+];
+
+// What a roll of these rights and return rows is refused for.
+fn refusal(
+    rt: &impl Abort,
+    alloc: Global,
+    rights: &[Right],
+    returns: &[ReturnRow],
+) -> Option<RollRefused> {
+    assert!(rt; rights.len() <= 2000);
+    assert!(rt; are_in_range(returns, rights.len()));
+    Roll::build(alloc, rights, returns).err()
+}
+
 #[test]
-fn refuses_the_first_fault(rt: HostRuntime) -> Result<(), Fail> {
-    let returns = [row(0, 6_000), row(1, 9_000), row(0, 4_001)];
-    let whole = [row(0, 6_000), row(1, 10_000), row(0, 4_000)];
-    for (rights, returns, refused) in [
-        (
-            &[
-                (1900, 28, 0, DIVERSION),
-                (1900, 29, 0, DIVERSION),
-                (1900, 28, 0, DIVERSION),
-            ],
-            &returns,
-            Some(RollRefused::BadDate(1)),
-        ),
-        (
-            &[
-                (1900, 28, 0, DIVERSION),
-                (1900, 27, 0, LEVEL_2),
-                (1900, 28, 0, DIVERSION),
-            ],
-            &returns,
-            Some(RollRefused::SameSeniority(0, 2)),
-        ),
-        (
-            &[
-                (1900, 1, 0, DIVERSION),
-                (1900, 2, 0, LEVEL_2),
-                (1900, 3, 0, LEVEL_1),
-            ],
-            &returns,
-            Some(RollRefused::ZoneOrder(1)),
-        ),
-        (
-            &[
-                (1900, 1, 0, LEVEL_1),
-                (1900, 2, 0, LEVEL_2),
-                (1900, 3, 0, LEVEL_1),
-            ],
-            &returns,
-            Some(RollRefused::ZoneOrder(2)),
-        ),
-        (
-            &[
-                (1900, 1, 0, DIVERSION),
-                (1900, 3, 0, LEVEL_2),
-                (1900, 2, 9, LEVEL_1),
-            ],
-            &returns,
-            Some(RollRefused::ReturnParts(0)),
-        ),
-        (
-            &[
-                (1900, 1, 0, DIVERSION),
-                (1900, 3, 0, LEVEL_2),
-                (1900, 2, 9, LEVEL_1),
-            ],
-            &whole,
-            None,
-        ),
-    ] {
-        let rights = rights_of(rt.alloc(), rights)?;
-        assert!(rt; rights.len() <= 2000);
-        assert!(rt; are_in_range(returns, rights.len()));
-        let roll = Roll::build(rt.alloc(), rights.as_slice(), returns);
-        assert_eq!(rt; roll.err(), refused);
+fn refuses_the_first_fault(rt: HostRuntime) -> Result<(), AllocError> {
+    for (rows, returns, refused) in &FAULTS {
+        let rights = rights_of(rt.alloc(), rows)?;
+        assert_eq!(rt;
+            refusal(&rt, rt.alloc(), rights.as_slice(), returns),
+            *refused
+        );
     }
     Ok(())
 }
 
+// Whether the instream rights on links 3 and 1 are those of the four rows below, and other links have none.
+fn are_on_links(roll: &Roll) -> bool
+    requires { length roll.now.wants ≡ 4 }
+{
+    roll.first_on(3) == Some(1)
+        && roll.first_on(1) == Some(2)
+        && roll.first_on(0).is_none()
+        && roll.first_on(4).is_none()
+        && roll.next_on(1) == Some(3)
+        && roll.next_on(3).is_none()
+        && roll.next_on(2).is_none()
+}
+
+// Compares a roll of the four rows below.
+fn compare(rt: &impl Abort, roll: &Roll)
+    requires { length roll.now.wants ≡ 4 }
+{
+    assert!(rt; roll.by_seniority() == [3, 1, 2, 0].as_slice());
+    assert!(rt; are_on_links(roll));
+    assert!(rt; roll.want(1, 3) == 4 && roll.want(1, 2) == 0);
+}
+
+static ROWS: [(u16, u8, u32, RightKind); 4] = [
+    (1900, 3, 5, DIVERSION),
+    (1890, 4, 1, ON_LINK_3),
+    (1900, 3, 4, ON_LINK_1),
+    (1890, 2, 9, ON_LINK_3),
+];
+
 #[test]
-fn seniors_come_first(rt: HostRuntime) -> Result<(), Fail> {
-    let rows = [
-        (1900, 3, 5, DIVERSION),
-        (1890, 4, 1, ON_LINK_3),
-        (1900, 3, 4, ON_LINK_1),
-        (1890, 2, 9, ON_LINK_3),
-    ];
-    let rights = rights_of(rt.alloc(), &rows)?;
-    assert_eq!(rt; rights.len(), 4);
+fn seniors_come_first(rt: HostRuntime) -> Result<(), RollRefused> {
+    let rights = rights_of(rt.alloc(), &ROWS)?;
+    assert!(rt; rights.len() == 4);
     let roll = Roll::build(rt.alloc(), rights.as_slice(), &[])?;
-    assert_eq!(rt; roll.by_seniority(), [3, 1, 2, 0].as_slice());
-    assert_eq!(rt;
-        (
-            roll.first_on(3),
-            roll.first_on(1),
-            roll.first_on(0),
-            roll.first_on(4)
-        ),
-        (Some(1), Some(2), None, None)
-    );
-    assert_eq!(rt;
-        (roll.next_on(1), roll.next_on(3), roll.next_on(2)),
-        (Some(3), None, None)
-    );
-    assert_eq!(rt; (roll.want(1, 3), roll.want(1, 2)), (4, 0));
+    compare(&rt, &roll);
     Ok(())
 }
