@@ -221,25 +221,57 @@ fn leads_outside(circ: &Circulation, arc: u32) -> bool
     circ.ends(arc).to == circ.nodes()
 }
 
-/// The circulation of a case at its start.
-fn begin<R: Abort>(rt: &R, alloc: Global, case: &Case) -> Result<Circulation, AllocError> {
-    let ends: Vec<Ends> = case
-        .arcs
-        .iter()
-        .map(|arc| Ends {
+/// The ends of arcs.
+fn ends_of(alloc: Global, arcs: &[Arc]) -> Result<Vec<Ends>, AllocError> {
+    let mut ends = Vec::new(alloc);
+    for arc in arcs {
+        ends.push(Ends {
             from: arc.0,
             to: arc.1,
-        })
-        .collect(alloc)?;
-    let upper: Vec<u64> = case.arcs.iter().map(|arc| arc.2).collect(alloc)?;
-    let start: Vec<u64> = case.arcs.iter().map(|arc| arc.3).collect(alloc)?;
+        })?;
+    }
+    Ok(ends)
+}
+
+/// The upper bounds of arcs.
+fn uppers_of(alloc: Global, arcs: &[Arc]) -> Result<Vec<u64>, AllocError> {
+    let mut upper = Vec::new(alloc);
+    for arc in arcs {
+        upper.push(arc.2)?;
+    }
+    Ok(upper)
+}
+
+/// The first flows of arcs.
+fn starts_of(alloc: Global, arcs: &[Arc]) -> Result<Vec<u64>, AllocError> {
+    let mut start = Vec::new(alloc);
+    for arc in arcs {
+        start.push(arc.3)?;
+    }
+    Ok(start)
+}
+
+/// A circulation of a case.
+fn open<R: Abort>(rt: &R, alloc: Global, case: &Case) -> Result<Circulation, AllocError> {
+    let ends = ends_of(alloc, case.arcs)?;
     assert!(rt; case.supply.len() < 10 && ends.len() < 10);
     let nodes = case.supply.len() as u32;
     assert!(rt; are_ends(nodes, &ends));
-    let mut circ = Circulation::open(alloc, nodes, &ends)?;
+    Circulation::open(alloc, nodes, &ends)
+}
+
+/// Brings the circulation of a case to its start.
+fn begin<R: Abort>(
+    rt: &R,
+    alloc: Global,
+    circ: &mut Circulation,
+    case: &Case,
+) -> Result<(), AllocError> {
+    let upper = uppers_of(alloc, case.arcs)?;
+    let start = starts_of(alloc, case.arcs)?;
     assert!(rt; circ.is_start(case.supply, &upper, &start), "{}", case.name);
     circ.begin_month(case.supply, &upper, &start);
-    Ok(circ)
+    Ok(())
 }
 
 /// Holds an amount on an arc.
@@ -261,9 +293,48 @@ fn play<L: Ledger, R: Abort>(
     assert!(rt; *arc < circ.arcs());
     assert!(rt; leads_outside(circ, *arc));
     assert!(rt; *want <= circ.flow(*arc) + circ.room(*arc, true));
-    assert_eq!(rt; raise(circ, *arc, *want, searches), *raised, "{name}");
-    assert_eq!(rt; circ.flow(*arc), *flow, "{name}");
+    assert!(rt; raise(circ, *arc, *want, searches) == *raised, "{name}");
+    assert!(rt; circ.flow(*arc) == *flow, "the flow of {name}");
     hold(rt, circ, *arc, *flow);
+}
+
+/// Plays a case from its start.
+fn play_all<L: Ledger, R: Abort>(
+    rt: &R,
+    circ: &mut Circulation,
+    case: &Case,
+    searches: &mut Steps<L>,
+) {
+    for (arc, amount) in case.held {
+        hold(rt, circ, *arc, *amount);
+    }
+    for turn in case.turns {
+        play(rt, circ, turn, case.name, searches);
+    }
+}
+
+/// Compares where the last search came.
+fn compare_reached<R: Abort>(rt: &R, circ: &Circulation, case: &Case) {
+    for (node, came) in case.reached.iter().enumerate() {
+        assert!(rt; node < circ.nodes() as usize);
+        assert!(rt;
+            reached(circ, node as u32) == *came,
+            "{} at node {node}",
+            case.name
+        );
+    }
+}
+
+/// Compares the flows that are left.
+fn compare_flows<R: Abort>(rt: &R, circ: &Circulation, case: &Case) {
+    for (arc, flow) in case.flows.iter().enumerate() {
+        assert!(rt; arc < circ.arcs() as usize);
+        assert!(rt;
+            circ.flow(arc as u32) == *flow,
+            "{} on arc {arc}",
+            case.name
+        );
+    }
 }
 
 /// Plays a case and compares what it leaves.
@@ -277,27 +348,12 @@ fn run<L: Ledger, R: Abort>(
     requires parts { blank.parts ≡ L.parts }
     requires some { 0 < blank.parts }
 {
-    let mut circ = begin(rt, alloc, case)?;
+    let mut circ = open(rt, alloc, case)?;
+    begin(rt, alloc, &mut circ, case)?;
     let mut searches: Steps<L> = Steps::new(blank);
-    for (arc, amount) in case.held {
-        hold(rt, &mut circ, *arc, *amount);
-    }
-    for turn in case.turns {
-        play(rt, &mut circ, turn, case.name, &mut searches);
-    }
-    for (node, came) in case.reached.iter().enumerate() {
-        assert!(rt; node < circ.nodes() as usize);
-        assert_eq!(rt;
-            reached(&circ, node as u32),
-            *came,
-            "{} at node {node}",
-            case.name
-        );
-    }
-    for (arc, flow) in case.flows.iter().enumerate() {
-        assert!(rt; arc < circ.arcs() as usize);
-        assert_eq!(rt; circ.flow(arc as u32), *flow, "{} on arc {arc}", case.name);
-    }
+    play_all(rt, &mut circ, case, &mut searches);
+    compare_reached(rt, &circ, case);
+    compare_flows(rt, &circ, case);
     Ok(())
 }
 
