@@ -1,14 +1,14 @@
-ghost use Rattle.std.specs.Prelude.{◌≡◌, ◌<◌, ◌≤◌, ◌^◌, length, All, IsTrue};
+ghost use Rattle.std.specs.Prelude.{◌≡◌, ◌<◌, ◌≤◌, ◌^◌, length, All, IsTrue, IfOk};
 ghost use Rattle.lag_returns.specs.Lags.{IsLagged, return_rows};
 
 use crate::Lags;
 use std::alloc::{AllocError, Global};
-use std::test::Fail;
+use std::process::Abort;
 use water_model::types::ReturnRow;
 
 // Rows of two rights and two nodes, by right, node, part and lag. Then, month by month, what the rights are delivered
 // and what arrives at the nodes.
-const RUNS: [(&[(u32, u32, u32, u32)], &[[u64; 2]], &[[u64; 2]]); 11] = [
+static RUNS: [(&[(u32, u32, u32, u32)], &[[u64; 2]], &[[u64; 2]]); 11] = [
     (
         &[(0, 1, 3_333, 1)],
         &[[10, 0]; 5],
@@ -117,38 +117,65 @@ fn month(lags: &mut Lags, delivered: [u64; 2]) -> [u64; 2]
     arrived
 }
 
+// Compares a month.
+fn compare_month<R: Abort>(rt: &R, lags: &mut Lags, delivered: [u64; 2], arrived: [u64; 2])
+    requires few { length (return_rows lags.old) ≤ 8 }
+    requires rights { All (λ row. row.right < 2) (return_rows lags.old) }
+    requires nodes { All (λ row. row.node < 2) (return_rows lags.old) }
+    ensures { return_rows lags.new ≡ return_rows lags.old }
+{
+    assert!(rt; are_amounts(&delivered));
+    assert_eq!(rt; month(lags, delivered), arrived);
+}
+
+// Compares month by month.
+fn compare_months<R: Abort>(rt: &R, lags: &mut Lags, deliveries: &[[u64; 2]], arrivals: &[[u64; 2]])
+    requires few { length (return_rows lags.old) ≤ 8 }
+    requires rights { All (λ row. row.right < 2) (return_rows lags.old) }
+    requires nodes { All (λ row. row.node < 2) (return_rows lags.old) }
+{
+    assert!(rt; deliveries.len() == arrivals.len());
+    for (delivered, arrived) in deliveries.iter().zip(arrivals) {
+        compare_month(rt, lags, *delivered, *arrived);
+    }
+}
+
+// The returns of rows of two rights and two nodes.
+fn open<R: Abort>(rt: &R, alloc: Global, list: &[(u32, u32, u32, u32)]) -> Result<Lags, AllocError>
+    ensures few { IfOk result (λ lags. length (return_rows lags) ≤ 8) }
+    ensures rights { IfOk result (λ lags. All (λ row. row.right < 2) (return_rows lags)) }
+    ensures nodes { IfOk result (λ lags. All (λ row. row.node < 2) (return_rows lags)) }
+{
+    let rows = rows(alloc, list)?;
+    assert!(rt; rows.len() <= 8);
+    assert!(rt; are_lagged(&rows));
+    assert!(rt; have_places(&rows));
+    Lags::open(alloc, &rows)
+}
+
 #[test]
-fn returns_arrive(rt: HostRuntime) -> Result<(), Fail> {
-    for (row_list, deliveries, arrivals) in RUNS {
-        let rows = rows(rt.alloc(), row_list)?;
-        assert!(rt; rows.len() <= 8);
-        assert!(rt; are_lagged(&rows));
-        assert!(rt; have_places(&rows));
-        assert_eq!(rt; deliveries.len(), arrivals.len());
-        let mut lags = Lags::open(rt.alloc(), &rows)?;
-        for (delivered, arrived) in deliveries.iter().zip(arrivals) {
-            assert!(rt; are_amounts(delivered));
-            assert_eq!(rt; month(&mut lags, *delivered), *arrived);
-        }
+fn returns_arrive(rt: HostRuntime) -> Result<(), AllocError> {
+    for (list, deliveries, arrivals) in &RUNS {
+        let mut lags = open(&rt, rt.alloc(), list)?;
+        compare_months(&rt, &mut lags, deliveries, arrivals);
     }
     Ok(())
 }
 
-#[test]
-fn the_longest_lag(rt: HostRuntime) -> Result<(), Fail> {
-    let rows = rows(rt.alloc(), &[(0, 1, 10_000, 120)])?;
-    assert!(rt; rows.len() <= 8);
-    assert!(rt; are_lagged(&rows));
-    assert!(rt; have_places(&rows));
-    let mut lags = Lags::open(rt.alloc(), &rows)?;
+// Compares 123 months of growing deliveries.
+fn compare_growing<R: Abort>(rt: &R, lags: &mut Lags)
+    requires few { length (return_rows lags.old) ≤ 8 }
+    requires rights { All (λ row. row.right < 2) (return_rows lags.old) }
+    requires nodes { All (λ row. row.node < 2) (return_rows lags.old) }
+{
     for i in 0..123u64 {
-        let delivered = [i + 1, 0];
-        assert!(rt; are_amounts(&delivered));
-        assert_eq!(rt;
-            month(&mut lags, delivered),
-            [0, i.saturating_sub(119)],
-            "in month {i}"
-        );
+        compare_month(rt, lags, [i + 1, 0], [0, i.saturating_sub(119)]);
     }
+}
+
+#[test]
+fn the_longest_lag(rt: HostRuntime) -> Result<(), AllocError> {
+    let mut lags = open(&rt, rt.alloc(), &[(0, 1, 10_000, 120)])?;
+    compare_growing(&rt, &mut lags);
     Ok(())
 }
