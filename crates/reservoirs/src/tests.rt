@@ -2,6 +2,7 @@ ghost use Rattle.std.specs.Prelude.{◌≤◌, ◌^◌, All, IsTrue};
 
 use crate::{AreaTable, close};
 use std::alloc::{AllocError, Global};
+use std::process::Abort;
 use std::test::Fail;
 use water_model::types::AreaPoint;
 
@@ -28,7 +29,7 @@ const BENT: [(u64, u64); 3] = [(0, 5), (10, 5), (13, 11)];
 const GREATEST: [(u64, u64); 2] = [(0, 0), (16_000_000_000, 1_000_000_000)];
 
 // A table, a storage, the area there, a rate, and what evaporates.
-const ROWS: [(&[(u64, u64)], u64, u64, u64, u64); 25] = [
+static ROWS: [(&[(u64, u64)], u64, u64, u64, u64); 25] = [
     (&LEVEL, 0, 7, 100, 0),
     (&LEVEL, 1_000, 7, 100, 7),
     (&SLOPE, 0, 0, 120, 0),
@@ -62,18 +63,27 @@ const ROWS: [(&[(u64, u64)], u64, u64, u64, u64); 25] = [
     (&GREATEST, u64::MAX, 1_000_000_000, u64::MAX, u64::MAX),
 ];
 
+// The table of these points.
+fn table_of(rt: &impl Abort, alloc: Global, rows: &[(u64, u64)]) -> Result<AreaTable, Fail> {
+    let points = points_of(alloc, rows)?;
+    assert!(rt; points.len() <= 64);
+    Ok(AreaTable::build(alloc, &points)?)
+}
+
+// Compares an area, and what evaporates.
+fn compare(rt: &impl Abort, table: &AreaTable, storage: u64, area: u64, rate: u64, lost: u64) {
+    assert!(rt; table.area(storage) == area, "the area at {storage}");
+    assert!(rt;
+        table.evaporation(storage, rate) == lost,
+        "at {storage} by {rate}"
+    );
+}
+
 #[test]
 fn areas_and_evaporation(rt: HostRuntime) -> Result<(), Fail> {
-    for (rows, storage, area, rate, lost) in ROWS {
-        let points = points_of(rt.alloc(), rows)?;
-        assert!(rt; points.len() <= 64);
-        let table = AreaTable::build(rt.alloc(), &points)?;
-        assert_eq!(rt; table.area(storage), area, "the area at {storage}");
-        assert_eq!(rt;
-            table.evaporation(storage, rate),
-            lost,
-            "at {storage} by {rate}"
-        );
+    for (rows, storage, area, rate, lost) in &ROWS {
+        let table = table_of(&rt, rt.alloc(), rows)?;
+        compare(&rt, &table, *storage, *area, *rate, *lost);
     }
     Ok(())
 }
@@ -84,17 +94,19 @@ fn are_amounts(fills: &[u64]) -> bool
     fills.iter().all(|fill| *fill <= 1_000_000_000)
 }
 
+// What the zones took, and the closing.
+static CLOSINGS: [(&[u64], u64); 4] = [
+    (&[], 0),
+    (&[5], 5),
+    (&[3, 0, 4], 7),
+    (&[1_000_000_000; 16], 16_000_000_000),
+];
+
 #[test]
 fn closes_with_what_the_zones_took(rt: HostRuntime) {
-    let table: [(&[u64], u64); 4] = [
-        (&[], 0),
-        (&[5], 5),
-        (&[3, 0, 4], 7),
-        (&[1_000_000_000; 16], 16_000_000_000),
-    ];
-    for (fills, closing) in table {
+    for (fills, closing) in &CLOSINGS {
         assert!(rt; fills.len() <= 16);
         assert!(rt; are_amounts(fills));
-        assert_eq!(rt; close(fills), closing);
+        assert_eq!(rt; close(fills), *closing);
     }
 }
