@@ -5,9 +5,8 @@ use crate::read::{HEADER, read_series};
 use crate::refused::{SeriesFault, SeriesRefused};
 use std::alloc::{AllocError, Global};
 use std::process::Abort;
-use std::test::Fail;
 use water_model::rows::Rows;
-use water_model::types::{Basin, Inflow, Node};
+use water_model::types::{Basin, Inflow, Inflows, Node};
 use water_text::month::Month;
 use water_text::name::Name;
 
@@ -60,7 +59,7 @@ const FEBRUARY: Month = Month {
 };
 
 /// A table, and the number of the first record at fault with the fault.
-const FAULTS: [(&[u8], SeriesFault, u64); 27] = [
+static FAULTS: [(&[u8], SeriesFault, u64); 27] = [
     (b"", SeriesFault::Header, 1),
     (b"\xef\xbb\xbf", SeriesFault::Header, 1),
     (b"\n\n", SeriesFault::Header, 1),
@@ -155,7 +154,7 @@ const FAULTS: [(&[u8], SeriesFault, u64); 27] = [
 ];
 
 /// A table, and the first month with the first node for which it gives no amount.
-const GAPS: [(&[u8], Month, u32); 5] = [
+static GAPS: [(&[u8], Month, u32); 5] = [
     (HEADER, JANUARY, 0),
     (b"month,node,amount", JANUARY, 0),
     (
@@ -176,7 +175,7 @@ const GAPS: [(&[u8], Month, u32); 5] = [
 ];
 
 /// A table, and the amounts of `top` and `hill` in the first month, and in the second.
-const SPELLED: [(&[u8], [u64; 4]); 5] = [
+static SPELLED: [(&[u8], [u64; 4]); 5] = [
     (
         b"month,node,amount\n1900-01,top,1\n1900-01,hill,2\n1900-02,top,3\n1900-02,hill,4\n",
         [1, 2, 3, 4],
@@ -199,21 +198,25 @@ const SPELLED: [(&[u8], [u64; 4]); 5] = [
     ),
 ];
 
+/// What a table is refused for.
+fn refusal(alloc: Global, basin: &Basin, text: &[u8]) -> Option<SeriesRefused>
+    requires { IsReadable basin.now }
+{
+    read_series(alloc, basin, text).err()
+}
+
 fn expect_refused<R: Abort + AllocGlobal>(
     rt: &R,
     text: &[u8],
     want: SeriesRefused,
-) -> Result<(), Fail> {
+) -> Result<(), AllocError> {
     let basin = basin(rt.alloc())?;
-    match read_series(rt.alloc(), &basin, text) {
-        Ok(_) => assert!(rt; false, "a table with a fault is a series"),
-        Err(e) => assert_eq!(rt; e, want),
-    }
+    assert_eq!(rt; refusal(rt.alloc(), &basin, text), Some(want));
     Ok(())
 }
 
 #[test]
-fn names_the_first_fault(rt: HostRuntime) -> Result<(), Fail> {
+fn names_the_first_fault(rt: HostRuntime) -> Result<(), AllocError> {
     for (text, fault, number) in &FAULTS {
         expect_refused(
             &rt,
@@ -228,7 +231,7 @@ fn names_the_first_fault(rt: HostRuntime) -> Result<(), Fail> {
 }
 
 #[test]
-fn names_the_first_gap(rt: HostRuntime) -> Result<(), Fail> {
+fn names_the_first_gap(rt: HostRuntime) -> Result<(), AllocError> {
     for (text, month, node) in &GAPS {
         expect_refused(
             &rt,
@@ -242,30 +245,44 @@ fn names_the_first_gap(rt: HostRuntime) -> Result<(), Fail> {
     Ok(())
 }
 
+/// Whether a series is of the gauges `top` and `hill` and has these amounts.
+fn has_amounts(series: &Inflows, want: &[u64; 4]) -> bool {
+    series.gauged.as_slice() == [0, 2].as_slice() && series.amount.as_slice() == want.as_slice()
+}
+
+/// Reads a table and compares its amounts.
+fn expect_amounts<R: Abort>(rt: &R, alloc: Global, basin: &Basin, text: &[u8], want: &[u64; 4])
+    requires { IsReadable basin.now }
+{
+    match read_series(alloc, basin, text) {
+        Ok(series) => assert!(rt; has_amounts(&series, want), "other amounts than {want:?}"),
+        Err(e) => panic!(rt; "a series is refused: {e:?}"),
+    }
+}
+
 #[test]
-fn reads_the_amounts(rt: HostRuntime) -> Result<(), Fail> {
+fn reads_the_amounts(rt: HostRuntime) -> Result<(), AllocError> {
     let basin = basin(rt.alloc())?;
     for (text, want) in &SPELLED {
-        match read_series(rt.alloc(), &basin, text) {
-            Ok(series) => {
-                assert_eq!(rt; series.gauged.as_slice(), [0, 2].as_slice());
-                assert_eq!(rt; series.amount.as_slice(), want.as_slice());
-            }
-            Err(e) => assert!(rt; false, "a series is refused: {e:?}"),
-        }
+        expect_amounts(&rt, rt.alloc(), &basin, text, want);
     }
     Ok(())
 }
 
 /// A record, many records for months outside the run, and the first record again.
-#[test]
-fn finds_a_record_far_apart(rt: HostRuntime) -> Result<(), Fail> {
-    let mut text = Vec::new(rt.alloc());
+fn far_apart(alloc: Global) -> Result<Vec<u8>, AllocError> {
+    let mut text = Vec::new(alloc);
     text.extend_from_slice(b"month,node,amount\n1900-02,hill,1\n")?;
     for _ in 0..3000 {
         text.extend_from_slice(b"1900-03,hill,1\n")?;
     }
     text.extend_from_slice(b"1900-02,hill,1\n1900-02,hill,1\n")?;
+    Ok(text)
+}
+
+#[test]
+fn finds_a_record_far_apart(rt: HostRuntime) -> Result<(), AllocError> {
+    let text = far_apart(rt.alloc())?;
     expect_refused(
         &rt,
         text.as_slice(),
