@@ -456,6 +456,3 @@ pub fn raise<L: Ledger>(
         Raised::Met
     }
 }
-
-#[cfg(test)]
-mod tests;

@@ -7,8 +7,6 @@ mod names;
 mod network;
 mod reservoirs;
 mod rights;
-#[cfg(test)]
-mod tests;
 mod turns;
 mod whole;
 

@@ -7,8 +7,6 @@ mod gauges;
 mod read;
 mod records;
 mod refused;
-#[cfg(test)]
-mod tests;
 
 pub use read::{HEADER, read_inflows};
 pub use refused::{SeriesFault, SeriesRefused};

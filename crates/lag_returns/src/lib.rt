@@ -12,8 +12,6 @@ use std::marker::Model;
 use water_model::types::ReturnRow;
 
 pub mod laws;
-#[cfg(test)]
-mod tests;
 
 /// A return row, the deliveries of its diversion that are on their way, and the remainder, in parts of 10,000, of those
 /// that came back.

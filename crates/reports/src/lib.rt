@@ -13,8 +13,6 @@ mod period;
 mod rows;
 mod stop;
 mod tally;
-#[cfg(test)]
-mod tests;
 mod texts;
 mod totals;
 mod trial;

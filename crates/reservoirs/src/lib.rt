@@ -11,9 +11,6 @@ use std::marker::Model;
 use thiserror::Error;
 use water_model::types::AreaPoint;
 
-#[cfg(test)]
-mod tests;
-
 /// Why a list of points is no area table. Points are numbered from 0.
 #[derive(Clone, Copy, Debug, PartialEq, Eq, Error)]
 pub enum TableRefused {

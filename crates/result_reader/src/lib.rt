@@ -16,8 +16,6 @@ mod progress;
 mod reader;
 mod reading;
 mod shape;
-#[cfg(test)]
-mod tests;
 mod words;
 
 pub use bad_line::BadLine;

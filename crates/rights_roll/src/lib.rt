@@ -12,8 +12,6 @@ mod links;
 mod order;
 pub mod priority;
 pub mod roll;
-#[cfg(test)]
-mod tests;
 mod zones;
 
 /// Why rights and return rows are no roll. Rights are numbered from 0.

@@ -12,6 +12,3 @@ mod sorting;
 
 pub use net::Net;
 pub use refused::NetRefused;
-
-#[cfg(test)]
-mod tests;

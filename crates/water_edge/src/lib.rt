@@ -8,8 +8,6 @@ mod file;
 mod memory;
 mod shelf;
 mod sink;
-#[cfg(test)]
-mod tests;
 
 pub use file::{FileShelf, StdSink};
 pub use memory::{MemoryShelf, MemorySink};

@@ -8,5 +8,3 @@ pub mod line;
 pub mod month;
 pub mod name;
 mod shape;
-#[cfg(test)]
-mod tests;

@@ -1,6 +1,6 @@
 use Rattle.std.proofs.Common.{◌≡◌}
 use Rattle.lag_returns.specs.Lags.{return_rows}
-use Rattle.lag_returns.proofs.tests.compare_months.Given as goal
+use Rattle.layers.proofs.lags.compare_months.Given as goal
 
 abbrev pub invariant-loop-delivered : goal.invariant-loop-delivered
 invariant-loop-delivered g l =

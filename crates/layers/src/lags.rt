@@ -1,7 +1,7 @@
 ghost use Rattle.std.specs.Prelude.{◌≡◌, ◌<◌, ◌≤◌, ◌^◌, length, All, IsTrue, IfOk};
 ghost use Rattle.lag_returns.specs.Lags.{IsLagged, return_rows};
 
-use crate::Lags;
+use lag_returns::Lags;
 use std::alloc::{AllocError, Global};
 use std::process::Abort;
 use water_model::types::ReturnRow;

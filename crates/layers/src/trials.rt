@@ -1,5 +1,5 @@
 //! Basins against a program of its own that follows the description of the generator.
-use crate::make;
+use basin_gen::make;
 use std::alloc::AllocError;
 use std::process::Abort;
 use water_model::types::{

@@ -1,6 +1,6 @@
 ghost use Rattle.std.specs.Prelude.{◌≤◌, ◌^◌, All, IsTrue};
 
-use crate::{AreaTable, close};
+use reservoirs::{AreaTable, close};
 use std::alloc::{AllocError, Global};
 use std::process::Abort;
 use std::test::Fail;

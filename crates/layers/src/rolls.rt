@@ -1,7 +1,7 @@
 ghost use Rattle.std.specs.Prelude.{◌≡◌, ◌<◌, length, All, IsTrue};
 
-use crate::RollRefused;
-use crate::roll::Roll;
+use rights_roll::RollRefused;
+use rights_roll::roll::Roll;
 use std::alloc::{AllocError, Global};
 use std::process::Abort;
 use water_model::types::{ReturnRow, Right, RightKind};

@@ -1,4 +1,4 @@
-use Rattle.augment.proofs.tests.run_alone.Given as goal
+use Rattle.layers.proofs.raises.run_alone.Given as goal
 
 abbrev pub ghosts-run : goal.ghosts-run
 ghosts-run g a = record { name = a.blank.name; parts = a.blank.parts }

@@ -1,70 +1,23 @@
 //! The lines of a text of a small basin, accepted and refused.
-ghost use Rattle.std.specs.Prelude.{◌≡◌, [], IsTrue, IfOk};
 ghost use Rattle.rights_roll.specs.Rolls.{IsRollOf};
-ghost use Rattle.water_text.specs.Names.{is_name};
 ghost use Rattle.water_model.specs.Valid.{IsValidBasin};
 
-use crate::{BadLine, Item, ResultReader};
+use crate::basins::basin_of;
+use result_reader::{BadLine, Item, ResultReader};
 use rights_roll::roll::Roll;
 use std::alloc::{AllocError, Global};
 use std::process::Abort;
-use std::test::Fail;
-use water_model::rows::Rows;
-use water_model::types::{Basin, Carry, Inflow, Link, Node};
+use water_model::types::Basin;
 use water_text::month::Month;
-use water_text::name::Name;
 
 const JANUARY: Month = Month {
     year: 1900,
     month: 1,
 };
 
-fn name(text: &[u8]) -> Name
-    requires { IsTrue (is_name text.now) }
-    ensures { result ≡ text.now }
-{
-    match Name::read(text) {
-        Some(name) => name,
-        None => Name::dash(),
-    }
-}
-
 /// A spring above an outlet, and a river between them.
-fn basin(alloc: Global) -> Result<Basin, AllocError>
-    ensures valid { IfOk result IsValidBasin }
-    ensures rights { IfOk result (λ b. b.rights ≡ []) }
-    ensures returns { IfOk result (λ b. b.returns ≡ []) }
-{
-    let top = Node {
-        name: name(b"top"),
-        outlet: false,
-        inflow: Inflow::Monthly([60; 12]),
-    };
-    let sea = Node {
-        name: name(b"sea"),
-        outlet: true,
-        inflow: Inflow::Monthly([0; 12]),
-    };
-    let river = Link {
-        name: name(b"a"),
-        from: 0,
-        to: 1,
-        carry: Carry::River,
-    };
-    let nodes = vec![in alloc; top, sea]?;
-    let links = vec![in alloc; river]?;
-    Ok(Basin {
-        format: 1,
-        first: JANUARY,
-        months: 1,
-        year_start: 10,
-        nodes: Rows::from_vec(nodes),
-        links: Rows::from_vec(links),
-        reservoirs: Rows::new(alloc),
-        rights: Rows::new(alloc),
-        returns: Rows::new(alloc),
-    })
-}
+const BASIN: &str =
+    "format = 1\nfirst_month = \"1900-01\"\nmonths = 1\n[[node]]\nname = \"top\"\ninflow = 60\n[[node]]\nname = \"sea\"\noutlet = true\n[[link]]\nname = \"a\"\nfrom = \"top\"\nto = \"sea\"\n";
 
 /// The lines that a reader of the basin's text is given one after the other, with the answer to each.
 const LINES: &[(&str, Result<Item, BadLine>)] = &[
@@ -150,18 +103,9 @@ fn read_with<R: Abort>(rt: &R, alloc: Global, basin: &Basin, roll: &Roll) -> Res
     Ok(())
 }
 
-/// Reads the lines for a basin without rights.
-fn read_for<R: Abort>(rt: &R, alloc: Global, basin: &Basin) -> Result<(), Fail>
-    requires valid { IsValidBasin basin.now }
-    requires rights { basin.now.rights ≡ [] }
-    requires returns { basin.now.returns ≡ [] }
-{
-    let roll = Roll::build(alloc, basin.rights.as_slice(), basin.returns.as_slice())?;
-    Ok(read_with(rt, alloc, basin, &roll)?)
-}
-
 #[test]
-fn accepts_what_may_come(rt: HostRuntime) -> Result<(), Fail> {
-    let basin = basin(rt.alloc())?;
-    read_for(&rt, rt.alloc(), &basin)
+fn accepts_what_may_come(rt: HostRuntime) -> Result<(), AllocError> {
+    let basin = basin_of(rt.alloc(), BASIN)?;
+    let roll = Roll::of_basin(rt.alloc(), &basin)?;
+    read_with(&rt, rt.alloc(), &basin, &roll)
 }

@@ -1,6 +1,6 @@
 use Rattle.std.proofs.Common.{lit<}
 use Rattle.place_sums.specs.Sums.{total}
-use Rattle.river_net.proofs.tests.compare.Goals as goal
+use Rattle.layers.proofs.nets.compare.Goals as goal
 
 pub natural-requires-clause-small : goal.natural-requires-clause-small
 unfolding total

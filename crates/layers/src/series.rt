@@ -1,52 +1,16 @@
-ghost use Rattle.std.specs.Prelude.{◌≡◌, ◌+◌, length, IfOk, OnOk};
-ghost use Rattle.inflow_file.specs.Readable.{IsReadable};
+//! Series of a small basin: faults, gaps and spellings.
+ghost use Rattle.water_model.specs.Valid.{IsValidBasin};
 
-use crate::read::{HEADER, read_series};
-use crate::refused::{SeriesFault, SeriesRefused};
+use crate::basins::basin_of;
+use inflow_file::{HEADER, SeriesFault, SeriesRefused, read_inflows};
 use std::alloc::{AllocError, Global};
 use std::process::Abort;
-use water_model::rows::Rows;
-use water_model::types::{Basin, Inflow, Inflows, Node};
+use water_model::types::{Basin, Inflows};
 use water_text::month::Month;
-use water_text::name::Name;
 
-fn named(text: &[u8]) -> Name {
-    match Name::read(text) {
-        Some(name) => name,
-        None => Name::dash(),
-    }
-}
-
-fn push_node(nodes: &mut Rows<Node>, name: &[u8], inflow: Inflow) -> Result<(), AllocError>
-    ensures { OnOk result (length nodes.new ≡ length nodes.old + 1) }
-{
-    nodes.push(Node {
-        name: named(name),
-        outlet: false,
-        inflow,
-    })
-}
-
-/// Two months from 1900-01. The nodes `top` and `hill` are gauged, and `mouth` isn't.
-fn basin(alloc: Global) -> Result<Basin, AllocError>
-    ensures { IfOk result IsReadable }
-{
-    let mut nodes = Rows::new(alloc);
-    push_node(&mut nodes, b"top", Inflow::Gauged)?;
-    push_node(&mut nodes, b"mouth", Inflow::Monthly([0; 12]))?;
-    push_node(&mut nodes, b"hill", Inflow::Gauged)?;
-    Ok(Basin {
-        format: 1,
-        first: JANUARY,
-        months: 2,
-        year_start: 10,
-        nodes,
-        links: Rows::new(alloc),
-        reservoirs: Rows::new(alloc),
-        rights: Rows::new(alloc),
-        returns: Rows::new(alloc),
-    })
-}
+/// Two months. The nodes `top` and `hill` are gauged, and `mouth` isn't.
+const BASIN: &str =
+    "format = 1\nfirst_month = \"1900-01\"\nmonths = 2\n[[node]]\nname = \"top\"\ninflow = \"gauged\"\n[[node]]\nname = \"mouth\"\noutlet = true\n[[node]]\nname = \"hill\"\ninflow = \"gauged\"\n[[link]]\nname = \"a\"\nfrom = \"top\"\nto = \"mouth\"\n[[link]]\nname = \"b\"\nfrom = \"hill\"\nto = \"mouth\"\n";
 
 const JANUARY: Month = Month {
     year: 1900,
@@ -200,9 +164,9 @@ static SPELLED: [(&[u8], [u64; 4]); 5] = [
 
 /// What a table is refused for.
 fn refusal(alloc: Global, basin: &Basin, text: &[u8]) -> Option<SeriesRefused>
-    requires { IsReadable basin.now }
+    requires { IsValidBasin basin.now }
 {
-    read_series(alloc, basin, text).err()
+    read_inflows(alloc, basin, text).err()
 }
 
 fn expect_refused<R: Abort + AllocGlobal>(
@@ -210,7 +174,7 @@ fn expect_refused<R: Abort + AllocGlobal>(
     text: &[u8],
     want: SeriesRefused,
 ) -> Result<(), AllocError> {
-    let basin = basin(rt.alloc())?;
+    let basin = basin_of(rt.alloc(), BASIN)?;
     assert_eq!(rt; refusal(rt.alloc(), &basin, text), Some(want));
     Ok(())
 }
@@ -252,9 +216,9 @@ fn has_amounts(series: &Inflows, want: &[u64; 4]) -> bool {
 
 /// Reads a table and compares its amounts.
 fn expect_amounts<R: Abort>(rt: &R, alloc: Global, basin: &Basin, text: &[u8], want: &[u64; 4])
-    requires { IsReadable basin.now }
+    requires { IsValidBasin basin.now }
 {
-    match read_series(alloc, basin, text) {
+    match read_inflows(alloc, basin, text) {
         Ok(series) => assert!(rt; has_amounts(&series, want), "other amounts than {want:?}"),
         Err(e) => panic!(rt; "a series is refused: {e:?}"),
     }
@@ -262,7 +226,7 @@ fn expect_amounts<R: Abort>(rt: &R, alloc: Global, basin: &Basin, text: &[u8], w
 
 #[test]
 fn reads_the_amounts(rt: HostRuntime) -> Result<(), AllocError> {
-    let basin = basin(rt.alloc())?;
+    let basin = basin_of(rt.alloc(), BASIN)?;
     for (text, want) in &SPELLED {
         expect_amounts(&rt, rt.alloc(), &basin, text, want);
     }

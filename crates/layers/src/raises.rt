@@ -5,12 +5,13 @@ ghost use Rattle.std.specs.Prelude.{◌≡◌, ◌≢◌, ◌<◌, ◌≤◌, �
 ghost use Rattle.circulation.specs.Contents.{arcs, network};
 ghost use Rattle.augment.specs.Raised.{HasWayOut};
 
-use super::*;
-use circulation::Ends;
+use augment::{Raised, raise, reached};
+use circulation::{Circulation, Ends};
 use std::alloc::{AllocError, Global};
 use std::marker::Brand;
 use std::process::Abort;
-use std::sync::ledger::Blank;
+use std::sync::ledger::{Blank, Ledger};
+use steps::Steps;
 
 /// The upper bound of a river or an outlet.
 const OPEN: u64 = 1_000_000_000_000_000;

@@ -1,11 +1,11 @@
 //! What the readers answer and what a line holds, at the ends of their ranges.
-use crate::amount::{read_amount, read_plain};
-use crate::day::Day;
-use crate::line::Line;
-use crate::month::Month;
-use crate::name::Name;
+use water_text::amount::{read_amount, read_plain};
+use water_text::day::Day;
+use water_text::line::Line;
+use water_text::month::Month;
+use water_text::name::Name;
 
-#[tactic(auto, using(crate::proofs::AmountLaws::decimal_short))]
+#[tactic(auto, using(water_text::proofs::AmountLaws::decimal_short))]
 fn flow_line(value: u64) -> Line {
     let mut line = Line::new();
     line.word(b"flow ");

@@ -1,8 +1,8 @@
 //! Reports of generated basins against a program of its own, which tries flows right by right.
 ghost use Rattle.std.specs.Prelude.{◌≡◌, ◌<◌, ◌≤◌};
 
-use crate::{period_report, trial_report};
 use basin_gen::make;
+use reports::{period_report, trial_report};
 use std::alloc::Global;
 use std::marker::Brand;
 use std::sync::ledger::{Blank, Ledger};

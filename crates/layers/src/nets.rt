@@ -2,7 +2,7 @@ ghost use Rattle.std.specs.Prelude.{◌≡◌, ◌↔◌, length, All, IsTrue};
 ghost use Rattle.water_model.specs.Network.{HasNodes};
 ghost use Rattle.river_net.specs.Net.{IsNetOfSome};
 
-use crate::{Net, NetRefused};
+use river_net::{Net, NetRefused};
 use std::alloc::{AllocError, Global};
 use std::process::Abort;
 use water_model::types::{Carry, Inflow, Link, Node};

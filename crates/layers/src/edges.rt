@@ -1,9 +1,11 @@
 //! What no clause says: that real files and streams are met, and that a shelf and a sink in memory can be had.
-use crate::{FileShelf, MemoryShelf, MemorySink, Shelf, ShelfRefused, Sink, SinkFailed, StdSink};
 use std::alloc::{AllocError, Global};
 use std::fs::File;
 use std::io::{BufWriter, Write};
 use std::{fs, io};
+use water_edge::{
+    FileShelf, MemoryShelf, MemorySink, Shelf, ShelfRefused, Sink, SinkFailed, StdSink,
+};
 
 /// Whether a shelf answered with these bytes, or refused so.
 fn is_answer(answer: Result<Vec<u8>, ShelfRefused>, want: Result<&[u8], ShelfRefused>) -> bool {

@@ -1,0 +1,27 @@
+//! The tests of the layers below the program, a file for each. They stand in one crate, since a crate with tests is proved once more.
+#![tactic(auto)]
+
+#[cfg(test)]
+mod areas;
+#[cfg(test)]
+mod basins;
+#[cfg(test)]
+mod edges;
+#[cfg(test)]
+mod lags;
+#[cfg(test)]
+mod nets;
+#[cfg(test)]
+mod raises;
+#[cfg(test)]
+mod reported;
+#[cfg(test)]
+mod results;
+#[cfg(test)]
+mod rolls;
+#[cfg(test)]
+mod series;
+#[cfg(test)]
+mod texts;
+#[cfg(test)]
+mod trials;
