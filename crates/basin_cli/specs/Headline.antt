@@ -67,7 +67,7 @@ pub record KeepsPriority (b : Basin) (series : Inflows) (records : List MonthRec
 
 -- the most pushes in a month, and in all months of a run
 abbrev pub most_pushes : Basin → ℕ
-most_pushes b = length b.rights * (30 * (2 * arc_count b + 2))
+most_pushes b = length b.rights * (60 * (2 * arc_count b + 2))
 
 abbrev pub run_pushes : Basin → ℕ
 run_pushes b = b.months * most_pushes b

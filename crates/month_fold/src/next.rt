@@ -74,7 +74,7 @@ pub fn next_month<L: Ledger>(
     ensures next { OnOk result ((records : List MonthRecord) →
         StandsFor (record { basin = basin.now; series = series.now; done = index; last = month.old; lags = lags.now }) records →
         IsNext basin.now series.now records month.new) }
-    ensures pushes { searches.new ≤ searches.old + length basin.now.rights * (30 * (2 * arc_count basin.now + 2)) }
+    ensures pushes { searches.new ≤ searches.old + length basin.now.rights * (60 * (2 * arc_count basin.now + 2)) }
 {
     bring_back(basin, lags, month);
     settle(basin, series, tables, index, month);

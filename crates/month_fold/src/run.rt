@@ -104,7 +104,7 @@ impl<'b> Run<'b> {
         ensures month { OnOk result ((records : List MonthRecord) → StandsFor self.old records → StandsFor self.new (records ++ self.new.last ∷ [])) }
         ensures stays { OnErr result ((records : List MonthRecord) → StandsFor self.old records → StandsFor self.new records) }
         ensures room { OnErr result (LacksRoom self.old.basin self.old.last.cuts) }
-        ensures pushes { searches.new ≤ searches.old + length self.old.basin.rights * (30 * (2 * arc_count self.old.basin + 2)) }
+        ensures pushes { searches.new ≤ searches.old + length self.old.basin.rights * (60 * (2 * arc_count self.old.basin + 2)) }
     {
         next_month(
             self.basin,

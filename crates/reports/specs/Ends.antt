@@ -28,7 +28,7 @@ Reports text b series (Err stop.OutOfMemory) old new = ⊤
 
 -- the most pushes of the searches of a month, and of a whole run
 abbrev pub month_pushes : Basin → ℕ
-month_pushes b = length b.rights * (30 * (2 * arc_count b + 2))
+month_pushes b = length b.rights * (60 * (2 * arc_count b + 2))
 
 abbrev pub most_pushes : Basin → ℕ
 most_pushes b = b.months * month_pushes b

@@ -12,6 +12,7 @@ ghost use Rattle.senior_hold.specs.Layouts.{IsLayout, FitsRoom, IsBegun};
 use crate::amounts::{lay, read_plan, write_bounds};
 use crate::arcs::{Arcs, arcs_of, ends_of_arcs};
 use crate::serving::serve;
+use crate::tree_solver::{Sweep, TreeSolver};
 use circulation::Circulation;
 use rights_roll::roll::Roll;
 use river_net::Net;
@@ -26,18 +27,18 @@ use water_text::month::Month;
 
 /// What stays from month to month.
 #[derive(Drop)]
-struct Layout {
-    net: Net,
-    roll: Roll,
-    arcs: Arcs,
+pub struct Layout {
+    pub net: Net,
+    pub roll: Roll,
+    pub arcs: Arcs,
 }
 
 /// Room for a month's bounds, and for the flow that it starts from.
 #[derive(Drop)]
-struct Room {
-    most: Plan,
-    upper: Vec<u64>,
-    start: Vec<u64>,
+pub struct Room {
+    pub most: Plan,
+    pub upper: Vec<u64>,
+    pub start: Vec<u64>,
 }
 
 /// Writes the run of the river, which is a plan for any wants.
@@ -142,6 +143,7 @@ pub struct Solver<'b> {
     layout: Layout,
     room: Room,
     circ: Circulation,
+    tree: TreeSolver<'b>,
 }
 
 impl<'b> Model for Solver<'b> {
@@ -157,7 +159,7 @@ impl<'b> Model for Solver<'b> {
 }
 
 /// What stays from month to month in a basin.
-fn layout_of(alloc: Global, basin: &Basin) -> Result<Layout, AllocError>
+pub fn layout_of(alloc: Global, basin: &Basin) -> Result<Layout, AllocError>
     requires { IsValidBasin basin.now }
     ensures { IfOk result (λ layout. IsLayout basin.now layout) }
 {
@@ -201,11 +203,13 @@ impl<'b> Solver<'b> {
         let ends = ends_of_arcs(alloc, basin)?;
         let circ = Circulation::open(alloc, basin.nodes.len() as u32, &ends)?;
         let room = room_of(alloc, basin, ends.len())?;
+        let tree = TreeSolver::open(alloc, basin)?;
         Ok(Solver {
             basin,
             layout,
             room,
             circ,
+            tree,
         })
     }
 
@@ -231,8 +235,15 @@ impl<'b> Solver<'b> {
         ensures cuts { FitsCuts self.old cuts.new }
         ensures solved { OnOk result (IsSolved self.old month supply.now want.now plan.new cuts.new) }
         ensures room { OnErr result (LacksRoom self.old cuts.old) }
-        ensures pushes { searches.new ≤ searches.old + length self.old.rights * (30 * (2 * arc_count self.old + 2)) }
+        ensures pushes { searches.new ≤ searches.old + length self.old.rights * (60 * (2 * arc_count self.old + 2)) }
     {
+        let sweep = self
+            .tree
+            .solve_month(month, supply, want, plan, cuts, searches)?;
+        if sweep == Sweep::Solved {
+            return Ok(());
+        }
+        cuts.clear();
         solve(
             self.basin,
             &self.layout,
