@@ -7,14 +7,14 @@ use Rattle.water_model.specs.Valid.{IsValidBasin}
 use Rattle.water_model.specs.declared.types.Basin.{Basin}
 use Rattle.water_model.specs.declared.types.Inflows.{Inflows}
 use Rattle.water_model.specs.declared.types.MonthRecord.{MonthRecord}
-use Rattle.month_fold.specs.Runs.{RunSeen, StandsFor}
+use Rattle.month_fold.specs.Runs.{RunSeen, StandsFor, run_pushes}
 use Rattle.injury.specs.Common.{common_rights}
 use Rattle.injury.specs.Injuries.{injuries, injuries_of, injured_row, compared_row, comparison_text}
 use Rattle.injury.proofs.Growing.{common_few, injuries_more, injuries_few}
 use Rattle.injury.proofs.Put.{injuries-count}
 use Rattle.basin_cli.specs.Compared.{AreCompared, IsTextOfComparison}
-use Rattle.basin_cli.specs.Headline.{most_pushes, run_pushes}
 use Rattle.basin_cli.proofs.Drafting.{whole_run}
+use Rattle.senior_hold.specs.MonthNetwork.{month_pushes}
 
 -- one month more of both runs
 pub compared_more : (b c : Basin) (first second first' second' : RunSeen) (m n : MonthRecord) (before after : List ℕ) (injured count : ℕ)
@@ -102,20 +102,20 @@ whole_comparison b c series other first second before after injured valid valid'
 }
 
 -- the pushes of some months and of one more are within those of both runs
-pub within_runs : (b c : Basin) (old before after i : ℕ) → c.months ≡ b.months → before ≤ old + i * (most_pushes b + most_pushes c) →
-    after ≤ before + (most_pushes b + most_pushes c) → i < b.months → after ≤ old + (run_pushes b + run_pushes c)
+pub within_runs : (b c : Basin) (old before after i : ℕ) → c.months ≡ b.months → before ≤ old + i * (month_pushes b + month_pushes c) →
+    after ≤ before + (month_pushes b + month_pushes c) → i < b.months → after ≤ old + (run_pushes b + run_pushes c)
 within_runs b c old before after i same so_far more l =
-    omega (arith, so_far, more, both (most_pushes b) (most_pushes c) b.months c.months i same l)
+    omega (arith, so_far, more, both (month_pushes b) (month_pushes c) b.months c.months i same l)
   where
     both : (x y k n i : ℕ) → n ≡ k → i < k → i * (x + y) + (x + y) ≤ k * x + n * y
     both x y k n i same l =
         let all : (i + 1) * (x + y) ≤ k * (x + y) = mul-le-mul_right (x + y) (omega arith) in
         rw same (omega (arith, all))
 
-pub all_within_runs : (b c : Basin) (old now i : ℕ) → c.months ≡ b.months → now ≤ old + i * (most_pushes b + most_pushes c) →
+pub all_within_runs : (b c : Basin) (old now i : ℕ) → c.months ≡ b.months → now ≤ old + i * (month_pushes b + month_pushes c) →
     i ≤ b.months → now ≤ old + (run_pushes b + run_pushes c)
 all_within_runs b c old now i same so_far l =
-    omega (arith, so_far, both (most_pushes b) (most_pushes c) b.months c.months i same l)
+    omega (arith, so_far, both (month_pushes b) (month_pushes c) b.months c.months i same l)
   where
     both : (x y k n i : ℕ) → n ≡ k → i ≤ k → i * (x + y) ≤ k * x + n * y
     both x y k n i same l =

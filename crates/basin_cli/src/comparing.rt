@@ -2,7 +2,7 @@
 ghost use Rattle.std.specs.Prelude.{ℕ, List, [], ◌≡◌, ◌+◌, ◌-◌, ◌*◌, ◌<◌, ◌≤◌, ◌++◌, length, flat_map, IfOk, OnOk};
 ghost use Rattle.water_model.specs.Valid.{IsValidBasin, IsSeriesOf};
 ghost use Rattle.water_text.specs.Months.{IsMonth};
-ghost use Rattle.month_fold.specs.Runs.{StandsFor};
+ghost use Rattle.month_fold.specs.Runs.{StandsFor, run_pushes};
 ghost use Rattle.injury.specs.Common.{common_rights, HaveDeliveries};
 ghost use Rattle.injury.specs.Injuries.{injuries_of, injured_row, compared_row};
 ghost use Rattle.water_edge.specs.Edge.{Rose};
@@ -10,7 +10,7 @@ ghost use Rattle.basin_cli.specs.Compared.{AreCompared, IsTextOfComparison, Comp
 ghost use Rattle.basin_cli.specs.Ending.{status_of};
 ghost use Rattle.basin_cli.specs.Outcome.{MayWrite};
 ghost use Rattle.basin_cli.specs.declared.ending.Ending.TheVariants.{OutOfMemory};
-ghost use Rattle.basin_cli.specs.Headline.{most_pushes, run_pushes};
+ghost use Rattle.senior_hold.specs.MonthNetwork.{month_pushes};
 
 use crate::draft::Draft;
 use crate::ending::Ending;
@@ -67,7 +67,7 @@ fn compare_month<L: Ledger>(
     ensures done { OnOk result (first.new.done ≡ first.old.done + 1) }
     ensures abreast { OnOk result (second.new.done ≡ first.new.done) }
     ensures compared { IfOk result (AreCompared basin.now other.now first.new second.new draft.new.bytes) }
-    ensures pushes { searches.new ≤ searches.old + (most_pushes basin.now + most_pushes other.now) }
+    ensures pushes { searches.new ≤ searches.old + (month_pushes basin.now + month_pushes other.now) }
 {
     first.step(searches)?;
     second.step(searches)?;

@@ -1,7 +1,6 @@
 -- Sessions, and the months that they keep.
-use Rattle.std.specs.Prelude.{ℕ, ◌+◌, ◌*◌, List, length, map, Box}
+use Rattle.std.specs.Prelude.{ℕ, List, map, Box}
 use Rattle.std.specs.Global.{Global}
-use Rattle.senior_hold.specs.MonthNetwork.{arc_count}
 use Rattle.water_model.specs.History.{IsPartialHistory}
 use Rattle.month_fold.specs.Reaches.{HaveReaches}
 use Rattle.water_model.specs.declared.types.Basin.{Basin}
@@ -23,7 +22,3 @@ pub record SessionSeen : Type 0 where
 pub record IsKept (s : SessionSeen) : Type 0 where
   pub partial : IsPartialHistory s.basin s.series s.kept
   pub reaches : HaveReaches s.basin s.kept
-
--- how often the searches of one month push at most
-abbrev pub pushes_in_month : Basin → ℕ
-pushes_in_month b = length b.rights * (30 * (2 * arc_count b + 2))

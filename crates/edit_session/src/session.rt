@@ -2,7 +2,8 @@
 ghost use Rattle.std.specs.Prelude.{ℕ, ◌≡◌, ◌+◌, ◌-◌, ◌*◌, ◌^◌, ◌<◌, ◌≤◌, [], max, length, take, slice_get, Some, IfOk, OnOk};
 ghost use Rattle.water_model.specs.Valid.{IsValidBasin, IsSeriesOf};
 ghost use Rattle.edit_script.specs.Edits.{with_inflow, with_want};
-ghost use Rattle.edit_session.specs.Sessions.{IsKept, pushes_in_month};
+ghost use Rattle.edit_session.specs.Sessions.{IsKept};
+ghost use Rattle.senior_hold.specs.MonthNetwork.{month_pushes};
 
 use crate::solving::solve_months;
 use std::alloc::{AllocError, Global};
@@ -119,7 +120,7 @@ impl<'b> Session<'b> {
         ensures stay { take (length self.old.kept) self.new.kept ≡ self.old.kept }
         ensures solved { OnOk result (length self.new.kept ≡ max (length self.old.kept) (index + 1)) }
         ensures history { IsKept self.new }
-        ensures pushes { searches.new ≤ searches.old + (index + 1 - length self.old.kept) * pushes_in_month self.old.basin }
+        ensures pushes { searches.new ≤ searches.old + (index + 1 - length self.old.kept) * month_pushes self.old.basin }
     {
         if index < self.solved() {
             return Ok(());

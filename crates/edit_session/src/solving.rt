@@ -3,7 +3,8 @@ ghost use Rattle.std.specs.Prelude.{ℕ, ◌≡◌, ◌+◌, ◌-◌, ◌*◌, �
 ghost use Rattle.water_model.specs.Valid.{IsValidBasin, IsSeriesOf};
 ghost use Rattle.water_model.specs.declared.types.MonthRecord.{MonthRecord};
 ghost use Rattle.month_fold.specs.Runs.{StandsFor};
-ghost use Rattle.edit_session.specs.Sessions.{IsKept, pushes_in_month, records_of};
+ghost use Rattle.edit_session.specs.Sessions.{IsKept, records_of};
+ghost use Rattle.senior_hold.specs.MonthNetwork.{month_pushes};
 
 use month_fold::run::Run;
 use std::alloc::{AllocError, Global};
@@ -26,7 +27,7 @@ fn add_month<L: Ledger>(
     ensures stay { take (vec_len kept.old) kept.new.items ≡ kept.old.items }
     ensures count { OnOk result (vec_len kept.new ≡ vec_len kept.old + 1) }
     ensures same { OnErr result (kept.new.items ≡ kept.old.items) }
-    ensures pushes { searches.new ≤ searches.old + pushes_in_month run.old.basin }
+    ensures pushes { searches.new ≤ searches.old + month_pushes run.old.basin }
 {
     run.step(searches)?;
     kept.push(run.month().copy(alloc)?)?;
@@ -50,7 +51,7 @@ pub fn solve_months<L: Ledger>(
     ensures kept { IsKept (record { basin = basin.now; series = series.now; kept = records_of kept.new.items }) }
     ensures stay { take (vec_len kept.old) kept.new.items ≡ kept.old.items }
     ensures solved { OnOk result (vec_len kept.new ≡ count) }
-    ensures pushes { searches.new ≤ searches.old + (count - vec_len kept.old) * pushes_in_month basin.now }
+    ensures pushes { searches.new ≤ searches.old + (count - vec_len kept.old) * month_pushes basin.now }
 {
     let mut run = Run::resume(alloc, basin, series, kept.as_slice())?;
     for _month in kept.len()..count as usize {

@@ -5,9 +5,9 @@ ghost use Rattle.water_edge.specs.Edge.{HasCause};
 ghost use Rattle.water_model.specs.Valid.{IsValidBasin};
 ghost use Rattle.edit_script.specs.Edits.{IsPlaced, edited_by, kept_by, solved_by};
 ghost use Rattle.edit_script.specs.declared.edit.Edit.TheVariants as edit;
-ghost use Rattle.edit_session.specs.Sessions.{pushes_in_month};
 ghost use Rattle.edit_shows.specs.Shown.{Answers};
 ghost use Rattle.edit_shows.specs.declared.stop.EditStop.TheVariants.{SinkFailed};
+ghost use Rattle.senior_hold.specs.MonthNetwork.{month_pushes};
 
 use crate::stop::EditStop;
 use edit_script::edit::Edit;
@@ -39,7 +39,7 @@ fn show<K: Sink, L: Ledger>(
     ensures kept { OnOk result (length session.new.kept ≡ max (length session.old.kept) (index + 1)) }
     ensures answers { Answers basin.now session.old.series (edit.Show index ∷ []) result (K.taken out.old) (K.taken out.new) }
     ensures cause { HasCause (K.faults out.old) (K.faults out.new) (result ≡ Err SinkFailed) }
-    ensures pushes { searches.new ≤ searches.old + solved_by (length session.old.kept) (edit.Show index) * pushes_in_month basin.now }
+    ensures pushes { searches.new ≤ searches.old + solved_by (length session.old.kept) (edit.Show index) * month_pushes basin.now }
 {
     session.solve(alloc, index, searches)?;
     match put_month(out, basin, roll, session.month(index)) {
@@ -67,7 +67,7 @@ pub fn answer<K: Sink, L: Ledger>(
     ensures kept { OnOk result (length session.new.kept ≡ kept_by (length session.old.kept) edit + solved_by (length session.old.kept) edit) }
     ensures answers { Answers basin.now session.old.series (edit ∷ []) result (K.taken out.old) (K.taken out.new) }
     ensures cause { HasCause (K.faults out.old) (K.faults out.new) (result ≡ Err SinkFailed) }
-    ensures pushes { searches.new ≤ searches.old + solved_by (length session.old.kept) edit * pushes_in_month basin.now }
+    ensures pushes { searches.new ≤ searches.old + solved_by (length session.old.kept) edit * month_pushes basin.now }
 {
     match edit {
         Edit::Inflow {

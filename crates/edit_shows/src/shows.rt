@@ -5,9 +5,9 @@ ghost use Rattle.rights_roll.specs.Rolls.{IsRollOf};
 ghost use Rattle.water_edge.specs.Edge.{HasCause, Puts};
 ghost use Rattle.water_model.specs.Valid.{IsValidBasin, IsSeriesOf};
 ghost use Rattle.edit_script.specs.Edits.{IsPlaced, cost, cost_from, edited};
-ghost use Rattle.edit_session.specs.Sessions.{pushes_in_month};
 ghost use Rattle.edit_shows.specs.Shown.{Answers, AnswersWhole, done_bytes, is_show, shows_in};
 ghost use Rattle.edit_shows.specs.declared.stop.EditStop.TheVariants as stop;
+ghost use Rattle.senior_hold.specs.MonthNetwork.{month_pushes};
 
 use crate::answer::answer;
 use crate::stop::EditStop;
@@ -37,7 +37,7 @@ fn answer_each<K: Sink, L: Ledger>(
     requires placed { All (IsPlaced basin.now session.old.series) edits.now }
     ensures answers { Answers basin.now session.old.series edits.now result (K.taken out.old) (K.taken out.new) }
     ensures cause { HasCause (K.faults out.old) (K.faults out.new) (result ≡ Err stop.SinkFailed) }
-    ensures pushes { searches.new ≤ searches.old + cost_from (length session.old.kept) edits.now * pushes_in_month basin.now }
+    ensures pushes { searches.new ≤ searches.old + cost_from (length session.old.kept) edits.now * month_pushes basin.now }
 {
     for edit in edits {
         answer(alloc, basin, roll, session, *edit, out, searches)?;
@@ -97,7 +97,7 @@ fn put_answers<K: Sink, L: Ledger>(
     requires placed { All (IsPlaced basin.now session.old.series) edits.now }
     ensures answers { AnswersWhole basin.now session.old.series edits.now result (K.taken out.old) (K.taken out.new) }
     ensures cause { HasCause (K.faults out.old) (K.faults out.new) (result ≡ Err stop.SinkFailed) }
-    ensures pushes { searches.new ≤ searches.old + cost_from (length session.old.kept) edits.now * pushes_in_month basin.now }
+    ensures pushes { searches.new ≤ searches.old + cost_from (length session.old.kept) edits.now * month_pushes basin.now }
 {
     answer_each(alloc, basin, roll, session, edits, out, searches)?;
     match put_done(out, count_shows(edits)) {
@@ -122,7 +122,7 @@ pub fn put_shows<K: Sink, L: Ledger>(
     requires placed { All (IsPlaced basin.now series.now) edits.now }
     ensures answers { AnswersWhole basin.now series.now edits.now result (K.taken out.old) (K.taken out.new) }
     ensures cause { HasCause (K.faults out.old) (K.faults out.new) (result ≡ Err stop.SinkFailed) }
-    ensures pushes { searches.new ≤ searches.old + cost edits.now * pushes_in_month basin.now }
+    ensures pushes { searches.new ≤ searches.old + cost edits.now * month_pushes basin.now }
 {
     let roll = Roll::of_basin(alloc, basin)?;
     let mut session = Session::open(alloc, basin, series)?;

@@ -3,11 +3,10 @@ use Rattle.std.proofs.Common.{◌≡◌, ℕ, zero, suc, ◌+◌, ◌*◌, ◌/�
 use Rattle.std.specs.Prelude.{slice_index, slice_index_or, slice_get, sum_by, Some, ◌⊎◌}
 use Rattle.std.specs.List.{flat_map}
 use Rattle.std.proofs.Math.Nat.{mul-le-mul_right, add-mul, mul_assoc}
-use Rattle.reports.specs.Ends.{month_pushes, most_pushes}
 use Rattle.std.proofs.lemmas.Grind.{flat_map-append}
 use Rattle.std.proofs.lemmas.List.{drop-append-le, take-append-le, length-drop, drop_all}
 use Rattle.std.proofs.lemmas.List.Sums.{sum_by-take-drop, sum_by_push}
-use Rattle.month_fold.specs.Runs.{RunSeen, StandsFor}
+use Rattle.month_fold.specs.Runs.{RunSeen, StandsFor, run_pushes}
 use Rattle.reports.proofs.Room.{delivered_small}
 use Rattle.water_model.specs.History.{IsPartialHistory, IsHistory}
 use Rattle.water_model.specs.Places.{numbers_from}
@@ -17,6 +16,7 @@ use Rattle.water_model.specs.declared.types.Inflows.{Inflows}
 use Rattle.water_model.specs.declared.types.MonthRecord.{MonthRecord}
 use Rattle.index_seq.specs.Sums.{AreSums, IsYear, IsUnderWay, HaveSums, AreFirst}
 use Rattle.index_seq.specs.Traces.{begun_after, delivered_in_year, yearly_deliveries, years_of, HasWholeYears, AreTraces}
+use Rattle.senior_hold.specs.MonthNetwork.{month_pushes}
 
 -- what a right was delivered in a year that is over does not change
 year_stays : (right year : ℕ) (records : List MonthRecord) (m : MonthRecord) → 12 * year + 12 ≤ length records →
@@ -220,8 +220,8 @@ pub one_step : (most first before after i : ℕ) → before ≤ first + i * most
 one_step most first before after i sofar more = omega (arith, add-mul i 1 most)
 
 -- the months of all years are those of the run
-pub year_pushes : (b : Basin) → HasWholeYears b → years_of b * (12 * month_pushes b) ≡ most_pushes b
+pub year_pushes : (b : Basin) → HasWholeYears b → years_of b * (12 * month_pushes b) ≡ run_pushes b
 year_pushes b whole = sym (mul_assoc (years_of b) 12 (month_pushes b)) ∙ ap (λ m. m * month_pushes b) (let is : years_of b * 12 ≡ b.months = omega arith in is)
 
-pub pushes_of_run : (b : Basin) (first after : ℕ) → HasWholeYears b → after ≤ first + years_of b * (12 * month_pushes b) → after ≤ first + most_pushes b
+pub pushes_of_run : (b : Basin) (first after : ℕ) → HasWholeYears b → after ≤ first + years_of b * (12 * month_pushes b) → after ≤ first + run_pushes b
 pushes_of_run b first after whole h = subst (λ (n : ℕ). after ≤ first + n) (year_pushes b whole) h

@@ -1,12 +1,12 @@
 //! All traces of a record, and their text.
 ghost use Rattle.std.specs.Prelude.{◌≡◌, ◌+◌, ◌*◌, ◌≤◌, Err, IfOk, OnOk};
-ghost use Rattle.reports.specs.Ends.{most_pushes};
 ghost use Rattle.water_edge.specs.Edge.{HasCause};
 ghost use Rattle.water_model.specs.Valid.{IsValidBasin, IsSeriesOf};
 ghost use Rattle.index_seq.specs.Ends.{HaveLines, Tells};
 ghost use Rattle.index_seq.specs.Sums.{HaveSums};
 ghost use Rattle.index_seq.specs.Traces.{HasWholeYears, years_of};
 ghost use Rattle.index_seq.specs.declared.stop.EnsembleStop.TheVariants.{SinkFailed, OutOfMemory};
+ghost use Rattle.month_fold.specs.Runs.{run_pushes};
 
 use crate::months::run_traces;
 use crate::stop::EnsembleStop;
@@ -45,7 +45,7 @@ fn sorted_amounts<L: Ledger>(
     requires whole { HasWholeYears basin.now }
     requires series { IsSeriesOf basin.now series.now }
     ensures lines { IfOk result (HaveLines basin.now series.now) }
-    ensures pushes { searches.new ≤ searches.old + years_of basin.now * most_pushes basin.now }
+    ensures pushes { searches.new ≤ searches.old + years_of basin.now * run_pushes basin.now }
 {
     let mut amounts = run_traces(alloc, basin, series, searches)?;
     put_in_order(alloc, basin, series, amounts.as_mut_slice())?;
@@ -67,7 +67,7 @@ pub fn ensemble_report<K: Sink, L: Ledger>(
     ensures text { Tells basin.now series.now result (K.taken sink.old) (K.taken sink.new) }
     ensures cause { HasCause (K.faults sink.old) (K.faults sink.new) (result ≡ Err SinkFailed) }
     ensures stays { result ≡ Err OutOfMemory → sink.new ≡ sink.old }
-    ensures pushes { searches.new ≤ searches.old + years_of basin.now * most_pushes basin.now }
+    ensures pushes { searches.new ≤ searches.old + years_of basin.now * run_pushes basin.now }
 {
     let roll = match Roll::of_basin(alloc, basin) {
         Ok(roll) => roll,

@@ -1,9 +1,10 @@
 //! A trace, month by month and year by year.
 ghost use Rattle.std.specs.Prelude.{ℕ, List, ◌≡◌, ◌+◌, ◌*◌, ◌<◌, ◌≤◌, length, slice_index, IfOk, OnOk};
-ghost use Rattle.reports.specs.Ends.{month_pushes, most_pushes};
 ghost use Rattle.water_model.specs.Valid.{IsValidBasin, IsSeriesOf};
 ghost use Rattle.index_seq.specs.Sums.{IsUnderWay, HaveSums};
 ghost use Rattle.index_seq.specs.Traces.{HasWholeYears, years_of};
+ghost use Rattle.senior_hold.specs.MonthNetwork.{month_pushes};
+ghost use Rattle.month_fold.specs.Runs.{run_pushes};
 
 use crate::begun::rotate;
 use crate::sums::{add_month, empty_sums, empty_year, end_year};
@@ -112,7 +113,7 @@ fn run_years<L: Ledger>(
     requires first { run.old.done ≡ 0 }
     requires under_way { IsUnderWay basin.now series.now trace 0 0 run.old sums.old year.old }
     ensures under_way { OnOk result (IsUnderWay basin.now series.now trace (years_of basin.now) 0 run.new sums.new year.new) }
-    ensures pushes { searches.new ≤ searches.old + most_pushes basin.now }
+    ensures pushes { searches.new ≤ searches.old + run_pushes basin.now }
 {
     let count = basin.months / 12;
     for years in 0..count {
@@ -137,7 +138,7 @@ fn run_trace<L: Ledger>(
     requires trace { trace < years_of basin.now }
     requires sums { HaveSums basin.now series.now trace sums.old }
     ensures sums { OnOk result (HaveSums basin.now series.now (trace + 1) sums.new) }
-    ensures pushes { searches.new ≤ searches.old + most_pushes basin.now }
+    ensures pushes { searches.new ≤ searches.old + run_pushes basin.now }
 {
     let begun = rotate(alloc, basin, series, trace)?;
     let mut year = empty_year(alloc, basin.rights.len())?;
@@ -165,7 +166,7 @@ pub fn run_traces<L: Ledger>(
     requires whole { HasWholeYears basin.now }
     requires series { IsSeriesOf basin.now series.now }
     ensures sums { IfOk result (HaveSums basin.now series.now (years_of basin.now)) }
-    ensures pushes { searches.new ≤ searches.old + years_of basin.now * most_pushes basin.now }
+    ensures pushes { searches.new ≤ searches.old + years_of basin.now * run_pushes basin.now }
 {
     let mut sums = empty_sums(alloc, basin.rights.len())?;
     let count = basin.months / 12;

@@ -1,6 +1,6 @@
 //! A run of a basin, month by month.
 ghost use Rattle.std.specs.Prelude.{ℕ, List, ◌≡◌, ◌+◌, ◌-◌, ◌*◌, ◌<◌, ◌≤◌, ◌++◌, ◌∷◌, [], length, map, IfOk, OnOk, OnErr};
-ghost use Rattle.senior_hold.specs.MonthNetwork.{arc_count};
+ghost use Rattle.senior_hold.specs.MonthNetwork.{month_pushes};
 ghost use Rattle.senior_hold.specs.Solved.{LacksRoom};
 ghost use Rattle.water_model.specs.Valid.{IsValidBasin, IsSeriesOf};
 ghost use Rattle.water_model.specs.declared.types.MonthRecord.{MonthRecord};
@@ -127,7 +127,7 @@ impl<'b> Run<'b> {
         ensures month { OnOk result ((records : List MonthRecord) → StandsFor self.old records → StandsFor self.new (records ++ self.new.last ∷ [])) }
         ensures stays { OnErr result ((records : List MonthRecord) → StandsFor self.old records → StandsFor self.new records) }
         ensures room { OnErr result (LacksRoom self.old.basin self.old.last.cuts) }
-        ensures pushes { searches.new ≤ searches.old + length self.old.basin.rights * (60 * (2 * arc_count self.old.basin + 2)) }
+        ensures pushes { searches.new ≤ searches.old + month_pushes self.old.basin }
     {
         next_month(
             self.basin,

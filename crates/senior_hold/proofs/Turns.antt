@@ -70,11 +70,11 @@ pub turn_free : (b : Basin) (month : Month) (supply want order : List ℕ) (o : 
 turn_free b month supply want order o k r arc c cuts t now = (now.swept o).others r t.in_range (let p = ap o.place t.is ∙ o.placed k t.below in omega arith)
 
 -- the cost of one turn more
-pub one_more : (a arcs k before now after : ℕ) → arcs ≡ a → now ≤ before + k * (30 * (2 * a + 2)) → after ≤ now + 30 * (2 * arcs + 2) →
-    after ≤ before + (k + 1) * (30 * (2 * a + 2))
+pub one_more : (a arcs k before now after : ℕ) → arcs ≡ a → now ≤ before + k * (30 * (2 * a + 1)) → after ≤ now + 30 * (2 * arcs + 1) →
+    after ≤ before + (k + 1) * (30 * (2 * a + 1))
 one_more a arcs k before now after same so_far turn =
-    let t : after ≤ now + 30 * (2 * a + 2) = subst (λ n. after ≤ now + 30 * (2 * n + 2)) same turn in
-    sum before k (30 * (2 * a + 2)) now after so_far t
+    let t : after ≤ now + 30 * (2 * a + 1) = subst (λ n. after ≤ now + 30 * (2 * n + 1)) same turn in
+    sum before k (30 * (2 * a + 1)) now after so_far t
   where
     sum : (before k c now after : ℕ) → now ≤ before + k * c → after ≤ now + c → after ≤ before + (k + 1) * c
     sum before k c now after h i = grind arith

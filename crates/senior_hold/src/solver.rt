@@ -5,7 +5,7 @@ ghost use Rattle.water_model.specs.Valid.{IsValidBasin};
 ghost use Rattle.water_model.specs.RunOfRiver.{IsRunOfRiver};
 ghost use Rattle.circulation.specs.Contents.{network};
 ghost use Rattle.river_net.specs.Net.{IsNet};
-ghost use Rattle.senior_hold.specs.MonthNetwork.{arc_count, HasBasinEnds};
+ghost use Rattle.senior_hold.specs.MonthNetwork.{arc_count, HasBasinEnds, month_pushes};
 ghost use Rattle.senior_hold.specs.Solved.{FitsPlan, FitsCuts, AreSupplies, AreWants, IsGiven, IsSolved, LacksRoom};
 ghost use Rattle.senior_hold.specs.Layouts.{IsLayout, FitsRoom, IsBegun};
 
@@ -116,7 +116,7 @@ fn solve<L: Ledger>(
     ensures cuts { FitsCuts basin.now cuts.new }
     ensures solved { OnOk result (IsSolved basin.now month supply.now want.now plan.new cuts.new) }
     ensures room { OnErr result (LacksRoom basin.now cuts.old) }
-    ensures pushes { searches.new ≤ searches.old + length basin.now.rights * (30 * (2 * arc_count basin.now + 2)) }
+    ensures pushes { searches.new ≤ searches.old + length basin.now.rights * (30 * (2 * arc_count basin.now + 1)) }
 {
     begin(basin, layout, room, circ, month, supply, want, plan);
     let order = layout.roll.by_seniority();
@@ -235,7 +235,7 @@ impl<'b> Solver<'b> {
         ensures cuts { FitsCuts self.old cuts.new }
         ensures solved { OnOk result (IsSolved self.old month supply.now want.now plan.new cuts.new) }
         ensures room { OnErr result (LacksRoom self.old cuts.old) }
-        ensures pushes { searches.new ≤ searches.old + length self.old.rights * (60 * (2 * arc_count self.old + 2)) }
+        ensures pushes { searches.new ≤ searches.old + month_pushes self.old }
     {
         let sweep = self
             .tree

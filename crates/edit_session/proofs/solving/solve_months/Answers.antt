@@ -4,9 +4,10 @@ use Rattle.water_model.specs.declared.types.Basin.{Basin}
 use Rattle.water_model.specs.declared.types.Inflows.{Inflows}
 use Rattle.water_model.specs.declared.types.MonthRecord.{MonthRecord}
 use Rattle.month_fold.specs.Runs.{RunSeen, StandsFor}
-use Rattle.edit_session.specs.Sessions.{IsKept, pushes_in_month}
+use Rattle.edit_session.specs.Sessions.{IsKept}
 use Rattle.edit_session.proofs.Fronts.{take_front}
 use Rattle.edit_session.proofs.solving.solve_months.Goals as goal
+use Rattle.senior_hold.specs.MonthNetwork.{month_pushes}
 
 -- one month more pushes so often at most
 pushes_more : (start before after i kept p : ℕ) → kept ≤ i → before ≤ start + (i - kept) * p → after ≤ before + p →
@@ -29,8 +30,8 @@ kept_of_run run b series records e f stands = record {
 
 pub returns-in_err-add_month-clause-pushes : goal.returns-in_err-add_month-clause-pushes
 returns-in_err-add_month-clause-pushes g c =
-    pushes_within c.args.searches.now c.add_month.new.searches (c.loop-month._month + 1) c.args.kept.now.len c.args.count (pushes_in_month c.args.basin.now) (omega arith)
-    (pushes_more c.args.searches.now c.loop-month.searches c.add_month.new.searches c.loop-month._month c.args.kept.now.len (pushes_in_month c.args.basin.now)
+    pushes_within c.args.searches.now c.add_month.new.searches (c.loop-month._month + 1) c.args.kept.now.len c.args.count (month_pushes c.args.basin.now) (omega arith)
+    (pushes_more c.args.searches.now c.loop-month.searches c.add_month.new.searches c.loop-month._month c.args.kept.now.len (month_pushes c.args.basin.now)
     (omega arith) c.loop-month.invariant.pushes (rw (← c.loop-month.invariant.basin) c.add_month.ensures.pushes))
 
 pub loop-month-preserved : goal.loop-month-preserved
@@ -43,7 +44,7 @@ loop-month-preserved g c = record {
       sym (take_front c.add_month.new.kept.items c.loop-month.kept.len c.args.kept.now.len (omega arith))
       ∙ ap (take c.args.kept.now.len) c.in_ok-add_month.ensures.stay ∙ c.loop-month.invariant.stay;
   pushes =
-      pushes_more c.args.searches.now c.loop-month.searches c.add_month.new.searches c.loop-month._month c.args.kept.now.len (pushes_in_month c.args.basin.now)
+      pushes_more c.args.searches.now c.loop-month.searches c.add_month.new.searches c.loop-month._month c.args.kept.now.len (month_pushes c.args.basin.now)
       (omega arith) c.loop-month.invariant.pushes (rw (← c.loop-month.invariant.basin) c.in_ok-add_month.ensures.pushes);
 }
 

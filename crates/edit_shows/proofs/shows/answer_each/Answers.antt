@@ -3,9 +3,9 @@ use Rattle.std.proofs.lemmas.Result.{err_from_is_err_and}
 use Rattle.edit_script.specs.Edits.{cost_from}
 use Rattle.edit_script.specs.declared.edit.Edit.{Edit}
 use Rattle.edit_script.specs.declared.edit.Edit.TheVariants.{Inflow}
-use Rattle.edit_session.specs.Sessions.{pushes_in_month}
 use Rattle.edit_shows.proofs.Playing.{costs_more, costs_stop, next_placed, played_more, played_none, played_stops}
 use Rattle.edit_shows.proofs.shows.answer_each.Goals as goal
+use Rattle.senior_hold.specs.MonthNetwork.{month_pushes}
 
 from_start : (es : List Edit) → drop 0 es ≡ es
 from_start [] = refl
@@ -16,7 +16,7 @@ loop-edit-init g c = record {
   basin = c.requires.same;
   played = played_none c.args.basin.now c.args.session.now.series c.args.edits.now _;
   later = omega arith;
-  cost = omega (arith, ap (λ es. cost_from (length c.args.session.now.kept) es * pushes_in_month c.args.basin.now) (from_start c.args.edits.now));
+  cost = omega (arith, ap (λ es. cost_from (length c.args.session.now.kept) es * month_pushes c.args.basin.now) (from_start c.args.edits.now));
 }
 
 -- the line at a place
@@ -44,7 +44,7 @@ loop-edit-preserved g c =
           c.in_ok-answer.ensures.answers c.in_ok-answer.ensures.series;
       later = omega (arith, c.loop-edit.invariant.later, c.in_ok-answer.ensures.cause.later);
       cost = costs_more c.args.edits.now c.loop-edit.edit-index (line_at c.args.edits.now c.loop-edit.edit-index) (length c.loop-edit.session.kept) (length c.answer.new.session.kept)
-          (pushes_in_month c.args.basin.now) c.args.searches.now c.loop-edit.searches c.answer.new.searches (cost_from (length c.args.session.now.kept) c.args.edits.now) l
+          (month_pushes c.args.basin.now) c.args.searches.now c.loop-edit.searches c.answer.new.searches (cost_from (length c.args.session.now.kept) c.args.edits.now) l
           (read_again c.args.edits.now c.loop-edit.edit-index _ _ l) c.loop-edit.invariant.cost c.in_ok-answer.ensures.pushes c.in_ok-answer.ensures.kept;
     }
 
@@ -59,6 +59,6 @@ returns-in_err-answer-clause-answers g c =
 pub returns-in_err-answer-clause-pushes : goal.returns-in_err-answer-clause-pushes
 returns-in_err-answer-clause-pushes g c =
     let l : c.loop-edit.edit-index < length c.args.edits.now = omega arith in
-    costs_stop c.args.edits.now c.loop-edit.edit-index (line_at c.args.edits.now c.loop-edit.edit-index) (length c.loop-edit.session.kept) (pushes_in_month c.args.basin.now)
+    costs_stop c.args.edits.now c.loop-edit.edit-index (line_at c.args.edits.now c.loop-edit.edit-index) (length c.loop-edit.session.kept) (month_pushes c.args.basin.now)
     c.args.searches.now c.loop-edit.searches c.answer.new.searches (cost_from (length c.args.session.now.kept) c.args.edits.now) l
     (read_again c.args.edits.now c.loop-edit.edit-index _ _ l) c.loop-edit.invariant.cost c.in_err-answer.ensures.pushes

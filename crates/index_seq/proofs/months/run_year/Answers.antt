@@ -1,8 +1,8 @@
 use Rattle.std.proofs.Common.{◌≡◌, ℕ, arith, subst}
-use Rattle.reports.specs.Ends.{month_pushes}
 use Rattle.index_seq.specs.Sums.{IsUnderWay}
 use Rattle.index_seq.proofs.Running.{within_steps}
 use Rattle.index_seq.proofs.months.run_year.Goals as goal
+use Rattle.senior_hold.specs.MonthNetwork.{month_pushes}
 
 pub returns-in_err-run_month-clause-pushes : goal.returns-in_err-run_month-clause-pushes
 returns-in_err-run_month-clause-pushes g c =

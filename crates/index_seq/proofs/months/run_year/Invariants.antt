@@ -1,7 +1,7 @@
 use Rattle.std.proofs.Common.{◌≡◌, ◌+◌, ◌*◌, ◌≤◌}
-use Rattle.reports.specs.Ends.{month_pushes}
 use Rattle.index_seq.specs.Sums.{IsUnderWay}
 use Rattle.index_seq.proofs.months.run_year.Given as goal
+use Rattle.senior_hold.specs.MonthNetwork.{month_pushes}
 
 abbrev pub invariant-loop-months : goal.invariant-loop-months
 invariant-loop-months g l = record {

@@ -1,9 +1,9 @@
 use Rattle.std.proofs.Common.{◌≡◌, ◌+◌, ◌*◌, ◌<◌, ◌≤◌, ℕ, arith, subst}
-use Rattle.reports.specs.Ends.{month_pushes}
 use Rattle.index_seq.specs.Sums.{IsUnderWay}
 use Rattle.index_seq.specs.Traces.{years_of}
 use Rattle.index_seq.proofs.Running.{within_steps, pushes_of_run}
 use Rattle.index_seq.proofs.months.run_years.Goals as goal
+use Rattle.senior_hold.specs.MonthNetwork.{month_pushes}
 
 pub returns-in_err-next_year-clause-pushes : goal.returns-in_err-next_year-clause-pushes
 returns-in_err-next_year-clause-pushes g c =

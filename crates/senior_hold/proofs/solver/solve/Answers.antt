@@ -89,7 +89,7 @@ pub returns-in_err-serve-clause-pushes : goal.returns-in_err-serve-clause-pushes
 returns-in_err-serve-clause-pushes g c =
     let o = order_of_roll c.args.basin.now c.args.layout.now.roll c.requires.valid c.requires.layout.is_roll in
     let below : c.loop-turn.turn + 1 ≤ length c.args.basin.now.rights = omega (arith, c.loop-turn-test.true, ap length c.by_seniority-order.ensures, o.count) in
-    within_all (c.loop-turn.turn + 1) (length c.args.basin.now.rights) (30 * (2 * arc_count c.args.basin.now + 2)) c.args.searches.now c.serve.new.searches below
+    within_all (c.loop-turn.turn + 1) (length c.args.basin.now.rights) (30 * (2 * arc_count c.args.basin.now + 1)) c.args.searches.now c.serve.new.searches below
     (one_more (arc_count c.args.basin.now) (length c.loop-turn.circ.from) c.loop-turn.turn c.args.searches.now c.loop-turn.searches c.serve.new.searches
     c.loop-turn.invariant.standing.net.ends.arcs c.loop-turn.invariant.cost c.serve.ensures.cost)
 
@@ -97,4 +97,4 @@ pub returns-clause-pushes : goal.returns-clause-pushes
 returns-clause-pushes g c =
     let o = order_of_roll c.args.basin.now c.args.layout.now.roll c.requires.valid c.requires.layout.is_roll in
     let all : c.loop-turn.turn ≤ length c.args.basin.now.rights = omega (arith, c.loop-turn.auto.turn-end, ap length c.by_seniority-order.ensures, o.count) in
-    within_all c.loop-turn.turn (length c.args.basin.now.rights) (30 * (2 * arc_count c.args.basin.now + 2)) c.args.searches.now c.loop-turn.searches all c.loop-turn.invariant.cost
+    within_all c.loop-turn.turn (length c.args.basin.now.rights) (30 * (2 * arc_count c.args.basin.now + 1)) c.args.searches.now c.loop-turn.searches all c.loop-turn.invariant.cost
