@@ -9,3 +9,4 @@ pub mod Series
 pub mod Actions
 pub mod Answer
 pub mod Compared
+pub mod Explained

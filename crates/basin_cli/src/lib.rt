@@ -7,6 +7,7 @@ mod command;
 mod comparing;
 mod draft;
 mod ending;
+mod explaining;
 mod files;
 mod status;
 mod top;
