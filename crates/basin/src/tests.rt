@@ -3,6 +3,7 @@ ghost use Rattle.std.specs.Prelude.{◌≡◌, ◌<◌};
 mod canals;
 mod checks;
 mod explaining;
+mod gathering;
 mod lakes;
 mod ordinary;
 mod reporting;

@@ -54,6 +54,7 @@ asked_ends b series month name index right ending.WriteFault write old new at na
 asked_ends b series month name index right ending.OutOfMemory write old new at named answers memory = tt
 asked_ends b series month name index right (ending.Refuted refuted) write old new at named answers memory = absurd ((answers tt).ends)
 asked_ends b series month name index right ending.Injured write old new at named answers memory = absurd ((answers tt).ends)
+asked_ends b series month name index right ending.PartYear write old new at named answers memory = let clash = memory (λ h. h) in cc
 asked_ends b series month name index right ending.Usage write old new at named answers memory = let clash = memory (λ h. h) in cc
 asked_ends b series month name index right (ending.BasinRefused finding) write old new at named answers memory = let clash = memory (λ h. h) in cc
 asked_ends b series month name index right (ending.SeriesRefused finding) write old new at named answers memory = let clash = memory (λ h. h) in cc
@@ -149,6 +150,7 @@ asking_cause told files month name b series (ending.ScriptRefused script.NoSuchN
 asking_cause told files month name b series ending.OutOfMemory read write valid fits loaded ends = tt
 asking_cause told files month name b series (ending.Refuted refuted) read write valid fits loaded ends = absurd ends
 asking_cause told files month name b series ending.Injured read write valid fits loaded ends = absurd ends
+asking_cause told files month name b series ending.PartYear read write valid fits loaded ends = absurd ends
 asking_cause told files month name b series ending.Usage read write valid fits loaded ends = absurd ends
 asking_cause told files month name b series (ending.BasinRefused finding) read write valid fits loaded ends = absurd ends
 asking_cause told files month name b series (ending.SeriesRefused finding) read write valid fits loaded ends = absurd ends
@@ -158,22 +160,6 @@ asking_cause told files month name b series (ending.ScriptRefused script.AfterEn
 asking_cause told files month name b series (ending.ScriptRefused script.BadLine line) read write valid fits loaded ends = absurd ends
 asking_cause told files month name b series (ending.ScriptRefused script.NotSeries line) read write valid fits loaded ends = absurd ends
 asking_cause told files month name b series (ending.ScriptRefused script.EarlyEnd line) read write valid fits loaded ends = absurd ends
-
--- the reading of the files stopped
-pub stopped_asking : (files : Files) (month : Month) (name : List ℕ) (how : Ending) (told : Told) (read write : Type 0) → StopsReading files how told read →
-    HasExplainingCause files month name how told read write
-stopped_asking files month name ending.Done told read write h = absurd h
-stopped_asking files month name ending.Met told read write h = absurd h
-stopped_asking files month name ending.WriteFault told read write h = absurd h
-stopped_asking files month name (ending.ScriptRefused fault line) told read write h = absurd h
-stopped_asking files month name ending.OutOfMemory told read write h = h
-stopped_asking files month name (ending.Refuted refuted) told read write h = h
-stopped_asking files month name ending.Injured told read write h = h
-stopped_asking files month name ending.Usage told read write h = h
-stopped_asking files month name (ending.BasinRefused finding) told read write h = h
-stopped_asking files month name (ending.SeriesRefused finding) told read write h = h
-stopped_asking files month name (ending.ReadFault file) told read write h = h
-stopped_asking files month name (ending.InputTooLong file) told read write h = h
 
 -- what is left on out
 pub asking_writes : (told : Told) (files : Files) (month : Month) (name : List ℕ) (b : Basin) (series : Inflows) (how : Ending) (old new : Option (List ℕ)) →

@@ -73,7 +73,7 @@ behind (Some bytes) (Some s) None b series text P fits from_basin from_series is
 behind (Some bytes) (Some s) (Some told) b series text P fits from_basin from_series is holds =
     (from_basin.good, (good_series bytes s b series from_basin from_series, subst (P bytes s) is (holds bytes s (spelled_by bytes s b series fits from_basin from_series))))
 
-accepted : (t o : Option (List ℕ)) (b : Basin) (series : Inflows) → IfSome t (IsBasinText b) → IfSome o (IsSeriesText b series) →
+pub accepted : (t o : Option (List ℕ)) (b : Basin) (series : Inflows) → IfSome t (IsBasinText b) → IfSome o (IsSeriesText b series) →
     IfSome t (λ bytes. IsGoodBasin bytes × IfSome o (IsGoodSeries bytes))
 accepted None o b series from_basin from_series = tt
 accepted (Some bytes) None b series from_basin from_series = (from_basin.good, tt)
@@ -98,6 +98,7 @@ checking_cause told files result text b series (ending.Refuted refuted) read wri
     })
 checking_cause told files result text b series ending.Met read write valid fits loaded within is ends = absurd ends
 checking_cause told files result text b series (ending.ScriptRefused fault line) read write valid fits loaded within is ends = absurd ends
+checking_cause told files result text b series ending.PartYear read write valid fits loaded within is ends = absurd ends
 checking_cause told files result text b series ending.Injured read write valid fits loaded within is ends = absurd ends
 checking_cause told files result text b series ending.Usage read write valid fits loaded within is ends = absurd ends
 checking_cause told files result text b series (ending.BasinRefused finding) read write valid fits loaded within is ends = absurd ends

@@ -10,3 +10,4 @@ pub mod Compared
 pub mod Asked
 pub mod Explained
 pub mod Accounts
+pub mod Gathering

@@ -4,6 +4,7 @@ use Rattle.std.specs.Prelude.{IfSome, IsTrue, Bool, true, false}
 use Rattle.std.specs.Option.{option_and_then}
 use Rattle.std.specs.Io.KnownBytes.{Appends}
 use Rattle.edit_script.specs.declared.refused.ScriptFault.TheVariants as script
+use Rattle.index_seq.specs.Traces.{HasWholeYears}
 use Rattle.inflow_file.specs.SeriesFaults.{series_fault}
 use Rattle.water_text.specs.declared.month.Month.{Month}
 use Rattle.basin_tree.specs.declared.walk.Finding.{Finding}
@@ -13,10 +14,10 @@ use Rattle.basin_cli.specs.declared.ending.Ending.{Ending}
 use Rattle.basin_cli.specs.declared.ending.Ending.TheVariants as ending
 use Rattle.basin_cli.specs.declared.ending.File.TheVariants as file
 use Rattle.basin_cli.specs.declared.ending.SeriesFinding.{SeriesFinding}
-use Rattle.basin_cli.specs.Command.{Command, Files, run, check, report, trial, why}
+use Rattle.basin_cli.specs.Command.{Command, Files, run, check, report, trial, why, ensemble}
 use Rattle.basin_cli.specs.Ending.{line_of, status_of, finding_of}
 use Rattle.basin_cli.specs.Explained.{HasMonth, HasRight}
-use Rattle.basin_cli.specs.Outcome.{IsGoodBasin, IsGoodSeries, IsHistoryText, IsAccepted, IsRefuted, IsRefusedFor, IsSeriesRefusedFor, IsTooLong, IsDone, IsJudged, Told, StopsReading, HasSolvingCause, HasCheckingCause, HasTrialCause, HasExplainingCause, IsAsked, IsOutsideRun, IsUnknownRight, IsShortIn, EndingHasCause, Completes, CompletesBehind, IsQuiet, Tells, file_limit, series_told}
+use Rattle.basin_cli.specs.Outcome.{IsGoodBasin, IsGoodSeries, IsHistoryText, IsAccepted, IsRefuted, IsRefusedFor, IsSeriesRefusedFor, IsTooLong, IsDone, IsJudged, Told, StopsReading, HasSolvingCause, HasCheckingCause, HasTrialCause, HasEnsembleCause, HasExplainingCause, IsOfYears, IsPartYear, IsAsked, IsOutsideRun, IsUnknownRight, IsShortIn, EndingHasCause, Completes, CompletesBehind, IsQuiet, Tells, file_limit, series_told}
 use Rattle.basin_cli.proofs.OneSeries.{one_basin}
 
 -- what is to be shown of what is told of two files
@@ -87,6 +88,7 @@ stopped files ending.OutOfMemory told read P by_read by_memory h = always (told 
 stopped files ending.Done told read P by_read by_memory h = absurd h
 stopped files (ending.Refuted refuted) told read P by_read by_memory h = absurd h
 stopped files ending.Injured told read P by_read by_memory h = absurd h
+stopped files ending.PartYear told read P by_read by_memory h = absurd h
 stopped files ending.Met told read P by_read by_memory h = absurd h
 stopped files (ending.ScriptRefused fault line) told read P by_read by_memory h = absurd h
 stopped files ending.Usage told read P by_read by_memory h = absurd h
@@ -114,6 +116,7 @@ solving files (ending.InputTooLong file) told read write h =
 solving files ending.OutOfMemory told read write h = always (told files.basin) _ (Solved its.OutOfMemory read write) (λ _ _ _ _. inr refl)
 solving files (ending.Refuted refuted) told read write h = absurd h
 solving files ending.Injured told read write h = absurd h
+solving files ending.PartYear told read write h = absurd h
 solving files ending.Met told read write h = absurd h
 solving files (ending.ScriptRefused fault line) told read write h = absurd h
 solving files ending.Usage told read write h = absurd h
@@ -181,6 +184,7 @@ checking files result ending.OutOfMemory told read write h =
     (λ bytes s. of_result (told result) its.OutOfMemory read write bytes s (λ _ _ _. inl refl))
 checking files result ending.Usage told read write h = absurd h
 checking files result ending.Injured told read write h = absurd h
+checking files result ending.PartYear told read write h = absurd h
 checking files result ending.Met told read write h = absurd h
 checking files result (ending.ScriptRefused fault line) told read write h = absurd h
 
@@ -238,7 +242,49 @@ explaining files month name (ending.InputTooLong file) told read write h = expla
 explaining files month name ending.OutOfMemory told read write h = explained_by_stop files month name ending.OutOfMemory told read write h
 explaining files month name ending.Usage told read write h = absurd h
 explaining files month name ending.Injured told read write h = absurd h
+explaining files month name ending.PartYear told read write h = absurd h
 explaining files month name (ending.Refuted refuted) told read write h = absurd h
+
+-- an ensemble
+abbrev Gathered : Status → Type 0 → Type 0 → List ℕ → List ℕ → Type 0
+Gathered status read write bytes s = IsOfYears bytes → (read → ⊥) → (write → ⊥) → IsDone status
+
+-- what holds of the basin shows it
+behind_years : (told series : Option (List ℕ)) (P : List ℕ → Type 0) (Q : List ℕ → List ℕ → Type 0) → ((bytes s : List ℕ) → P bytes → Q bytes s) →
+    IfSome told P → Shown told series Q
+behind_years None series P Q shows h = tt
+behind_years (Some bytes) None P Q shows h = λ _. tt
+behind_years (Some bytes) (Some s) P Q shows h = λ _ _. shows bytes s h
+
+part : (bytes : List ℕ) → IsPartYear bytes → IsOfYears bytes → ⊥
+part bytes is years = is.part (subst HasWholeYears (one_basin bytes years.basin is.basin years.spelled is.spelled) years.whole)
+
+gathered_by_stop : (files : Files) (how : Ending) (told : Told) (read write : Type 0) → StopsReading files how told read →
+    CompletesBehind told files (Gathered (status_of how) read write)
+gathered_by_stop files how told read write h =
+    stopped files how told read (Gathered (status_of how) read write) (λ is bytes s _ no_read _. absurd (no_read is)) (λ e bytes s _ _ _. inr (ap status_of e)) h
+
+gathering : (files : Files) (how : Ending) (told : Told) (read write : Type 0) → HasEnsembleCause files how told read write →
+    CompletesBehind told files (Gathered (status_of how) read write)
+gathering files ending.Done told read write h = always (told files.basin) _ (Gathered its.Done read write) (λ _ _ _ _ _. inl refl)
+gathering files ending.WriteFault told read write h =
+    always (told files.basin) _ (Gathered its.WriteFault read write) (λ _ _ _ _ no_write. absurd (no_write h.0))
+gathering files ending.PartYear told read write h =
+    behind_years (told files.basin) _ IsPartYear (Gathered its.BasinRefused read write) (λ bytes _ is years _ _. absurd (part bytes is years)) h
+gathering files (ending.SeriesRefused finding) told read write h = gathered_by_stop files (ending.SeriesRefused finding) told read write h.1
+gathering files (ending.ReadFault file.Series) told read write h = gathered_by_stop files (ending.ReadFault file.Series) told read write (h.1, h.2)
+gathering files (ending.InputTooLong file.Series) told read write h = gathered_by_stop files (ending.InputTooLong file.Series) told read write h.1
+gathering files (ending.BasinRefused finding) told read write h = gathered_by_stop files (ending.BasinRefused finding) told read write h
+gathering files (ending.ReadFault file.Basin) told read write h = gathered_by_stop files (ending.ReadFault file.Basin) told read write h
+gathering files (ending.InputTooLong file.Basin) told read write h = gathered_by_stop files (ending.InputTooLong file.Basin) told read write h
+gathering files ending.OutOfMemory told read write h = gathered_by_stop files ending.OutOfMemory told read write h
+gathering files (ending.ReadFault file.Result) told read write h = absurd h
+gathering files (ending.InputTooLong file.Result) told read write h = absurd h
+gathering files (ending.Refuted refuted) told read write h = absurd h
+gathering files ending.Injured told read write h = absurd h
+gathering files ending.Met told read write h = absurd h
+gathering files ending.Usage told read write h = absurd h
+gathering files (ending.ScriptRefused fault line) told read write h = absurd h
 
 trying : (how : Ending) (write : Type 0) → HasTrialCause how write → (write → ⊥) → IsDone (status_of how)
 trying ending.Done write h no_write = inl refl
@@ -247,6 +293,7 @@ trying ending.OutOfMemory write h no_write = inr refl
 trying ending.Usage write h no_write = absurd h
 trying (ending.Refuted refuted) write h no_write = absurd h
 trying ending.Injured write h no_write = absurd h
+trying ending.PartYear write h no_write = absurd h
 trying ending.Met write h no_write = absurd h
 trying (ending.ScriptRefused fault line) write h no_write = absurd h
 trying (ending.BasinRefused finding) write h no_write = absurd h
@@ -262,6 +309,7 @@ completes (Some (check files result)) how told read write h = checking files res
 completes (Some (report files)) how told read write h = solving files how told read write h
 completes (Some (trial number size)) how told read write h = trying how write h
 completes (Some (why files month name)) how told read write h = explaining files month name how told read write h
+completes (Some (ensemble files)) how told read write h = gathering files how told read write h
 
 -- nothing was told
 pub tells_nothing : (old : Option (List ℕ)) (before : ℕ) → Tells old old before before []
@@ -280,6 +328,7 @@ quiet ending.Injured old before h = tells_nothing old before
 quiet ending.Met old before h = tells_nothing old before
 quiet ending.Usage old before h = absurd (h (λ q. q))
 quiet (ending.BasinRefused finding) old before h = absurd (h (λ q. q))
+quiet ending.PartYear old before h = absurd (h (λ q. q))
 quiet (ending.SeriesRefused finding) old before h = absurd (h (λ q. q))
 quiet (ending.ReadFault file) old before h = absurd (h (λ q. q))
 quiet ending.WriteFault old before h = absurd (h (λ q. q))

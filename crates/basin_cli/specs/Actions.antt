@@ -2,6 +2,8 @@
 use Rattle.std.specs.Prelude.{◌≡◌, ℕ, ◌≤◌, List, ⊤, IsOk, Err, Option, slice_index}
 use Rattle.cert_check.specs.Whole.{text_verdict}
 use Rattle.edit_script.specs.declared.refused.ScriptFault.TheVariants as script
+use Rattle.index_seq.specs.Text.{ensemble_text}
+use Rattle.index_seq.specs.Traces.{AreTraces}
 use Rattle.water_model.specs.History.{IsShort}
 use Rattle.water_model.specs.Hydrology.{run_month}
 use Rattle.water_model.specs.declared.types.Basin.{Basin}
@@ -18,6 +20,11 @@ use Rattle.basin_cli.specs.Outcome.{Leaves, MayWrite}
 abbrev pub LeavesRecords : (List MonthRecord → Type 0) → (List MonthRecord → List ℕ) → Ending → Option (List ℕ) → Option (List ℕ) → Type 0
 LeavesRecords P text how old new =
     MayWrite (status_of how) → (records : List MonthRecord) × P records × Leaves (status_of how) (text records) old new
+
+-- out was left with how often each yearly delivery came in some traces, or with a front of it
+abbrev pub LeavesTraces : Basin → Inflows → Ending → Option (List ℕ) → Option (List ℕ) → Type 0
+LeavesTraces b series how old new =
+    MayWrite (status_of how) → (traces : List (List MonthRecord)) × AreTraces b series traces × Leaves (status_of how) (ensemble_text b traces) old new
 
 -- how the checking of a text may end, by the verdict on it
 abbrev pub EndsChecking : Basin → Inflows → List ℕ → Ending → Type 0 → Type 0

@@ -15,14 +15,15 @@ pub record Files : Type 0 where
   pub series : Option (List ℕ)
 
 -- a command with the names of its files, or with its numbers: `run` and `report` have the files of a basin and its series,
--- `check` the file of a result besides, `trial` the number and the size of a generated basin, and `why` a month and the name
--- of a right beside the files
+-- `check` the file of a result besides, `trial` the number and the size of a generated basin, `why` a month and the name of a
+-- right beside the files, and `ensemble` the files
 pub data Command : Type 0 where
   run : Files → Command
   check : Files → List ℕ → Command
   report : Files → Command
   trial : ℕ → ℕ → Command
   why : Files → Month → List ℕ → Command
+  ensemble : Files → Command
 
 -- the word `-` names no file
 abbrev pub series_named : List ℕ → Option (List ℕ)
@@ -47,7 +48,8 @@ command_of (word ∷ basin ∷ []) = if bytes_eq word (codes "run") then Some (r
 command_of (word ∷ one ∷ other ∷ []) =
     if bytes_eq word (codes "run") then Some (run (record { basin = one; series = series_named other }))
     else (if bytes_eq word (codes "report") then Some (report (record { basin = one; series = series_named other }))
-    else (if bytes_eq word (codes "trial") then trial_of (read_amount one 4294967295) (read_amount other 2000) else None))
+    else (if bytes_eq word (codes "ensemble") then Some (ensemble (record { basin = one; series = series_named other }))
+    else (if bytes_eq word (codes "trial") then trial_of (read_amount one 4294967295) (read_amount other 2000) else None)))
 command_of (word ∷ basin ∷ series ∷ result ∷ []) =
     if bytes_eq word (codes "check") then Some (check (record { basin = basin; series = series_named series }) result) else None
 command_of (word ∷ basin ∷ series ∷ month ∷ right ∷ []) =
@@ -64,6 +66,7 @@ command_named (words.Check inputs result) = check (named inputs) result.now
 command_named (words.Report inputs) = report (named inputs)
 command_named (words.Trial number size) = trial number size
 command_named (words.Why inputs month right) = why (named inputs) month right.now
+command_named (words.Ensemble inputs) = ensemble (named inputs)
 
 -- the size of a trial is from 2 to 2,000, and the month of a `why` is one of the calendar
 abbrev pub IsInForm : Words → Type 0
@@ -83,3 +86,4 @@ ServesFiles serves (Some (check files result)) = serves files.basin × ServesSer
 ServesFiles serves (Some (report files)) = serves files.basin × ServesSeries serves files.series
 ServesFiles serves (Some (trial number size)) = ⊤
 ServesFiles serves (Some (why files month right)) = serves files.basin × ServesSeries serves files.series
+ServesFiles serves (Some (ensemble files)) = serves files.basin × ServesSeries serves files.series

@@ -1,5 +1,5 @@
 -- What each status of a call means: its cause, and what it leaves on out and err.
-use Rattle.std.specs.Prelude.{◌≡◌, ℕ, ◌+◌, ◌<◌, ◌≤◌, ◌++◌, List, length, take, codes, Option, Some, None, Result, Ok, Err, ⊤, IfSome, ◌⊎◌}
+use Rattle.std.specs.Prelude.{◌≡◌, ℕ, ◌+◌, ◌*◌, ◌<◌, ◌≤◌, ◌++◌, List, length, take, codes, Option, Some, None, Result, Ok, Err, ⊤, IfSome, ◌⊎◌}
 use Rattle.std.specs.Fmt.{decimal}
 use Rattle.std.specs.Io.KnownBytes.{Appends}
 use Rattle.std.specs.Option.{option_and_then}
@@ -11,6 +11,8 @@ use Rattle.cert_check.specs.KindNames.{kind_name}
 use Rattle.cert_check.specs.Whole.{text_verdict}
 use Rattle.cert_check.specs.declared.refuted.Refuted.{Refuted}
 use Rattle.edit_script.specs.declared.refused.ScriptFault.TheVariants as script
+use Rattle.index_seq.specs.Text.{ensemble_text}
+use Rattle.index_seq.specs.Traces.{AreTraces, HasWholeYears, years_of}
 use Rattle.inflow_file.specs.SeriesFaults.{series_fault, SpellsSeries}
 use Rattle.reports.specs.Ends.{IsRun}
 use Rattle.reports.specs.Reports.{report_text, trial_text}
@@ -28,7 +30,7 @@ use Rattle.basin_cli.specs.declared.ending.Ending.{Ending}
 use Rattle.basin_cli.specs.declared.ending.Ending.TheVariants as ending
 use Rattle.basin_cli.specs.declared.ending.File.TheVariants as file
 use Rattle.basin_cli.specs.declared.ending.SeriesFinding.{SeriesFinding}
-use Rattle.basin_cli.specs.Command.{Command, Files, run, check, report, trial, why}
+use Rattle.basin_cli.specs.Command.{Command, Files, run, check, report, trial, why, ensemble}
 use Rattle.basin_cli.specs.Ending.{status_of, line_of, finding_of}
 use Rattle.basin_cli.specs.Explained.{Explains, HasMonth, HasRight, IsAbout, PushesUpTo}
 use Rattle.basin_cli.specs.Headline.{KeepsPriority, HasGreatestPlans}
@@ -128,6 +130,19 @@ pub record IsShortIn (month : Month) (name bytes series_bytes : List ℕ) : Type
   pub about : IsAbout basin series month name right last
   pub short : IsShort last right
 
+-- the run of the basin that bytes spell is one of whole years
+pub record IsOfYears (bytes : List ℕ) : Type 0 where
+  pub basin : Basin
+  pub spelled : Spells bytes basin
+  pub whole : HasWholeYears basin
+
+-- the bytes are a good basin file, and the run of the basin that they spell isn't one of whole years
+pub record IsPartYear (bytes : List ℕ) : Type 0 where
+  pub good : IsGoodBasin bytes
+  pub basin : Basin
+  pub spelled : Spells bytes basin
+  pub part : HasWholeYears basin → ⊥
+
 -- what a shelf tells under a name
 abbrev pub Told : Type 0
 Told = List ℕ → Option (List ℕ)
@@ -186,6 +201,22 @@ HasTrialCause ending.WriteFault write = write
 HasTrialCause ending.OutOfMemory write = ⊤
 HasTrialCause other write = ⊥
 
+-- the cause of an ending at which the files of an ensemble are not read or refused: the years are counted behind the basin and
+-- before the series
+abbrev pub StopsReadingYears : Files → Ending → Told → Type 0 → Type 0
+StopsReadingYears files ending.PartYear told read = IfSome (told files.basin) IsPartYear
+StopsReadingYears files (ending.SeriesRefused finding) told read = IfSome (told files.basin) IsOfYears × BehindBasin told files (IsSeriesRefusedFor finding)
+StopsReadingYears files (ending.ReadFault file.Series) told read = IfSome (told files.basin) IsOfYears × read × IfSome (told files.basin) IsGoodBasin
+StopsReadingYears files (ending.InputTooLong file.Series) told read =
+    IfSome (told files.basin) IsOfYears × BehindBasin told files (λ _ bytes. IsTooLong bytes)
+StopsReadingYears files other told read = StopsReading files other told read
+
+-- the cause of an ending of `ensemble`
+abbrev pub HasEnsembleCause : Files → Ending → Told → Type 0 → Type 0 → Type 0
+HasEnsembleCause files ending.Done told read write = IfSome (told files.basin) IsOfYears × AreAccepted told files
+HasEnsembleCause files ending.WriteFault told read write = write × IfSome (told files.basin) IsOfYears × AreAccepted told files
+HasEnsembleCause files other told read write = StopsReadingYears files other told read
+
 -- the cause of an ending of `why`
 abbrev pub HasExplainingCause : Files → Month → List ℕ → Ending → Told → Type 0 → Type 0 → Type 0
 HasExplainingCause files month name ending.Done told read write = BehindBoth told files (IsShortIn month name)
@@ -204,6 +235,7 @@ HasCauseFor (check files result) e told read write = HasCheckingCause files resu
 HasCauseFor (report files) e told read write = HasSolvingCause files e told read write
 HasCauseFor (trial number size) e told read write = HasTrialCause e write
 HasCauseFor (why files month name) e told read write = HasExplainingCause files month name e told read write
+HasCauseFor (ensemble files) e told read write = HasEnsembleCause files e told read write
 
 abbrev pub EndingHasCause : Option Command → Ending → Told → Type 0 → Type 0 → Type 0
 EndingHasCause None e told read write = e ≡ ending.Usage
@@ -248,6 +280,8 @@ Completes (Some (check files result)) status told read write =
 Completes (Some (why files month name)) status told read write =
     CompletesBehind told files (λ bytes series. IsAsked month name bytes →
     (read → ⊥) → (write → ⊥) → IsJudged status (IsShortIn month name bytes series))
+Completes (Some (ensemble files)) status told read write =
+    CompletesBehind told files (λ bytes _. IsOfYears bytes → (read → ⊥) → (write → ⊥) → IsDone status)
 
 -- only these statuses may leave bytes on out
 abbrev pub MayWrite : Status → Type 0
@@ -316,6 +350,16 @@ pub record WritesAccount (status : Status) (month : Month) (name bytes series_by
   pub explains : Explains basin last right text
   pub written : Leaves status text old new
 
+-- what `ensemble` leaves on out: how often each yearly delivery came in traces of what the bytes spell, which are a history of
+-- the record begun in each of its years
+pub record WritesEnsemble (status : Status) (bytes series_bytes : List ℕ) (old new : Option (List ℕ)) : Type 0 where
+  pub basin : Basin
+  pub series : Inflows
+  pub spelled : AreSpelled bytes series_bytes basin series
+  pub traces : List (List MonthRecord)
+  pub are_traces : AreTraces basin series traces
+  pub written : Leaves status (ensemble_text basin traces) old new
+
 -- this holds of what is told of both files
 abbrev pub OfBoth : Told → Files → (List ℕ → List ℕ → Type 0) → Type 0
 OfBoth told files P = IfSome (told files.basin) (λ bytes. IfSome (series_told told files.series) (λ series. P bytes series))
@@ -329,6 +373,7 @@ WritesFor (Some (report files)) status told old new = OfBoth told files (λ byte
 WritesFor (Some (trial number size)) status told old new = MayWrite status → WritesTrial status number size old new
 WritesFor (Some (why files month name)) status told old new =
     OfBoth told files (λ bytes series. MayWrite status → WritesAccount status month name bytes series old new)
+WritesFor (Some (ensemble files)) status told old new = OfBoth told files (λ bytes series. MayWrite status → WritesEnsemble status bytes series old new)
 
 -- searches push at most so often as the bound of a month allows, for each month of the basin that the bytes spell
 abbrev pub PushesOf : Told → Files → ℕ → ℕ → Type 0
@@ -343,6 +388,8 @@ PushesFor (Some (report files)) told before now = PushesOf told files before now
 PushesFor (Some (trial number size)) told before now = now ≤ before + run_pushes (generated number size)
 PushesFor (Some (why files month name)) told before now =
     IfSome (told files.basin) (λ bytes. (basin : Basin) → Spells bytes basin → PushesUpTo basin month before now)
+PushesFor (Some (ensemble files)) told before now =
+    IfSome (told files.basin) (λ bytes. (basin : Basin) → Spells bytes basin → now ≤ before + years_of basin * run_pushes basin)
 
 -- the statuses that leave err alone
 abbrev pub IsQuiet : Status → Type 0

@@ -11,7 +11,7 @@ use Rattle.basin_cli.specs.declared.ending.File.{File}
 use Rattle.basin_cli.specs.declared.ending.File.TheVariants as file
 use Rattle.basin_cli.specs.Command.{Files}
 use Rattle.basin_cli.specs.Ending.{finding_of}
-use Rattle.basin_cli.specs.Outcome.{IsTooLong, IsGoodBasin, IsRefusedFor, Told, file_limit, series_told}
+use Rattle.basin_cli.specs.Outcome.{IsTooLong, IsGoodBasin, IsPartYear, IsRefusedFor, Told, file_limit, series_told}
 
 -- how the reading of a file may end without its bytes
 abbrev pub FileEnds : File → Option (List ℕ) → Type 0 → Ending → Type 0
@@ -33,6 +33,11 @@ BasinReadEnds told read (ending.ReadFault file.Basin) = read
 BasinReadEnds told read (ending.InputTooLong file.Basin) = IfSome told IsTooLong
 BasinReadEnds told read ending.OutOfMemory = ⊤
 BasinReadEnds told read other = ⊥
+
+-- how the reading of a basin whose run is to be one of whole years may end
+abbrev pub YearsReadEnds : Option (List ℕ) → Type 0 → Ending → Type 0
+YearsReadEnds told read ending.PartYear = IfSome told IsPartYear
+YearsReadEnds told read other = BasinReadEnds told read other
 
 -- how the bytes of a basin's series may be refused
 abbrev pub SeriesEnds : Basin → List ℕ → Ending → Type 0

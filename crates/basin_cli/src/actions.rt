@@ -1,16 +1,17 @@
 //! What commands do behind their files: they solve the months of a basin and write what was found, or check a result.
-ghost use Rattle.std.specs.Prelude.{◌≡◌, ◌+◌, ◌≤◌, ◌++◌, [], codes, IfOk};
+ghost use Rattle.std.specs.Prelude.{◌≡◌, ◌+◌, ◌*◌, ◌≤◌, ◌++◌, [], codes, IfOk};
 ghost use Rattle.std.specs.Fmt.{decimal};
 ghost use Rattle.basin_gen.specs.Generator.{generated};
 ghost use Rattle.cert_check.specs.KindNames.{kind_name};
 ghost use Rattle.cert_check.specs.Standing.{IsAnswer};
 ghost use Rattle.cert_check.specs.Whole.{text_verdict};
+ghost use Rattle.index_seq.specs.Traces.{HasWholeYears, years_of};
 ghost use Rattle.reports.specs.Ends.{IsRun};
 ghost use Rattle.reports.specs.Reports.{report_text, trial_text};
 ghost use Rattle.water_edge.specs.Edge.{Rose};
 ghost use Rattle.water_model.specs.Text.{text_bytes};
 ghost use Rattle.water_model.specs.Valid.{IsValidBasin, IsSeriesOf};
-ghost use Rattle.basin_cli.specs.Actions.{EndsChecking, LeavesRecords};
+ghost use Rattle.basin_cli.specs.Actions.{EndsChecking, LeavesRecords, LeavesTraces};
 ghost use Rattle.basin_cli.specs.Answer.{answered, ending_of, EndsAnswer};
 ghost use Rattle.basin_cli.specs.Ending.{status_of};
 ghost use Rattle.basin_cli.specs.Headline.{KeepsPriority};
@@ -21,6 +22,7 @@ use crate::ending::Ending;
 use crate::writing::text_of_run;
 use basin_gen::make;
 use cert_check::{Checker, Refuted, check_text};
+use index_seq::{EnsembleStop, ensemble_report};
 use reports::{ReportStop, period_report, trial_report};
 use std::alloc::{AllocError, Global};
 use std::sync::ledger::Ledger;
@@ -73,6 +75,29 @@ pub fn report_basin<K: Sink, L: Ledger>(
         Ok(()) => Ending::Done,
         Err(ReportStop::SinkFailed) => Ending::WriteFault,
         Err(ReportStop::OutOfMemory) => Ending::OutOfMemory,
+    }
+}
+
+/// Solves the record of a basin's gauges once from each of its years, and puts how often each yearly delivery came.
+pub fn gather_basin<K: Sink, L: Ledger>(
+    alloc: Global,
+    basin: &Basin,
+    series: &Inflows,
+    out: &mut K,
+    searches: &mut Steps<L>,
+) -> Ending
+    requires basin { IsValidBasin basin.now }
+    requires whole { HasWholeYears basin.now }
+    requires series { IsSeriesOf basin.now series.now }
+    ensures ends { HasTrialCause result (Rose (K.faults out.old) (K.faults out.new)) }
+    ensures leaves { LeavesTraces basin.now series.now result (K.taken out.old) (K.taken out.new) }
+    ensures out_stays { (MayWrite (status_of result) → ⊥) → out.new ≡ out.old }
+    ensures pushes { searches.new ≤ searches.old + years_of basin.now * run_pushes basin.now }
+{
+    match ensemble_report(alloc, basin, series, out, searches) {
+        Ok(()) => Ending::Done,
+        Err(EnsembleStop::SinkFailed) => Ending::WriteFault,
+        Err(EnsembleStop::OutOfMemory) => Ending::OutOfMemory,
     }
 }
 

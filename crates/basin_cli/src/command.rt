@@ -27,6 +27,8 @@ pub enum Words<'a> {
     },
     /// Solve the months and report on them.
     Report(Inputs<'a>),
+    /// Solve the record begun in each of its years, and sum the years up.
+    Ensemble(Inputs<'a>),
     /// Make a basin from a number and a size, solve its months and sum them up.
     Trial {
         number: u32,
@@ -113,6 +115,8 @@ pub fn command(words: &[String]) -> Option<Words<'_>>
                 Some(Words::Run(files_named(one.as_str(), other.as_str())))
             } else if word.as_str() == "report" {
                 Some(Words::Report(files_named(one.as_str(), other.as_str())))
+            } else if word.as_str() == "ensemble" {
+                Some(Words::Ensemble(files_named(one.as_str(), other.as_str())))
             } else if word.as_str() == "trial" {
                 trial_words(one.as_str(), other.as_str())
             } else {

@@ -57,6 +57,8 @@ pub enum Ending {
     Met,
     Usage,
     BasinRefused(Finding),
+    /// An ensemble is asked for, and the run isn't one of whole years.
+    PartYear,
     SeriesRefused(SeriesFinding),
     ReadFault(File),
     WriteFault,
@@ -85,7 +87,7 @@ impl Ending {
             Ending::Done => Status::Done,
             Ending::Refuted(_) | Ending::Injured | Ending::Met => Status::No,
             Ending::Usage => Status::Usage,
-            Ending::BasinRefused(_) => Status::BasinRefused,
+            Ending::BasinRefused(_) | Ending::PartYear => Status::BasinRefused,
             Ending::SeriesRefused(_) => Status::SeriesRefused,
             Ending::ReadFault(_) => Status::ReadFault,
             Ending::WriteFault => Status::WriteFault,
@@ -200,6 +202,7 @@ fn put_line(line: &mut Line, ending: &Ending)
         Ending::Done | Ending::Refuted(_) | Ending::Injured | Ending::Met => {}
         Ending::Usage => line.word(b"usage: basin_cli COMMAND WORDS\n"),
         Ending::BasinRefused(finding) => put_refusal(line, finding),
+        Ending::PartYear => line.word(b"basin: PartYear top 0\n"),
         Ending::SeriesRefused(finding) => put_series_refusal(line, finding),
         Ending::ReadFault(file) => put_file(line, b"read: ", *file),
         Ending::WriteFault => line.word(b"write: failed\n"),

@@ -2,13 +2,14 @@
 ghost use Rattle.std.specs.Prelude.{◌≡◌, ◌≤◌, None, IfOk, OnOk, IfErr, IfSome, length, option_map};
 ghost use Rattle.water_edge.specs.Edge.{Rose, SameShelf, HasCause};
 ghost use Rattle.basin_file.specs.BasinFaults.{Spells, file_fault};
+ghost use Rattle.index_seq.specs.Traces.{HasWholeYears};
 ghost use Rattle.inflow_file.specs.SeriesFaults.{series_fault, SpellsSeries};
 ghost use Rattle.water_model.specs.Valid.{IsValidBasin, IsSeriesOf};
 ghost use Rattle.basin_cli.specs.Command.{ServesSeries, named};
 ghost use Rattle.basin_cli.specs.Ending.{CanBeTold};
 ghost use Rattle.basin_cli.specs.Header.{header};
-ghost use Rattle.basin_cli.specs.Outcome.{StopsReading, file_limit, series_told};
-ghost use Rattle.basin_cli.specs.Series.{AreLoaded, FileEnds, BasinEnds, BasinReadEnds, SeriesEnds, SeriesReadEnds, IsBasinText, IsSeriesText};
+ghost use Rattle.basin_cli.specs.Outcome.{StopsReading, StopsReadingYears, file_limit, series_told};
+ghost use Rattle.basin_cli.specs.Series.{AreLoaded, FileEnds, BasinEnds, BasinReadEnds, SeriesEnds, SeriesReadEnds, YearsReadEnds, IsBasinText, IsSeriesText};
 
 use crate::command::Inputs;
 use crate::ending::{Ending, File, SeriesFinding};
@@ -163,6 +164,42 @@ pub fn read_inputs<S: Shelf>(alloc: Global, shelf: &mut S, inputs: Inputs) -> Re
     ensures told { IfErr result CanBeTold }
 {
     let basin = read_basin_file(alloc, shelf, inputs.basin)?;
+    let series = read_series(alloc, shelf, inputs.series, &basin)?;
+    Ok(Loaded { basin, series })
+}
+
+/// The basin of the file with this name, whose run is one of whole years, or how the call ends.
+fn read_years<S: Shelf>(alloc: Global, shelf: &mut S, name: &str) -> Result<Basin, Ending>
+    requires { S.serves shelf.old name.now }
+    ensures same { SameShelf (S.told shelf.old) (S.told shelf.new) (S.serves shelf.old) (S.serves shelf.new) }
+    ensures later { S.faults shelf.old ≤ S.faults shelf.new }
+    ensures valid { IfOk result IsValidBasin }
+    ensures whole { IfOk result HasWholeYears }
+    ensures text { IfOk result (λ basin. IfSome (S.told shelf.old name.now) (IsBasinText basin)) }
+    ensures ends { IfErr result (λ e. YearsReadEnds (S.told shelf.old name.now) (Rose (S.faults shelf.old) (S.faults shelf.new)) e) }
+{
+    let basin = read_basin_file(alloc, shelf, name)?;
+    if basin.months % 12 == 0 {
+        Ok(basin)
+    } else {
+        Err(Ending::PartYear)
+    }
+}
+
+/// The basin, whose run is one of whole years, and the series of two files, or how the call ends.
+pub fn read_record<S: Shelf>(alloc: Global, shelf: &mut S, inputs: Inputs) -> Result<Loaded, Ending>
+    requires basin { S.serves shelf.old inputs.basin.now }
+    requires series { ServesSeries (S.serves shelf.old) (option_map (λ n. n.now) inputs.series) }
+    ensures same { SameShelf (S.told shelf.old) (S.told shelf.new) (S.serves shelf.old) (S.serves shelf.new) }
+    ensures later { S.faults shelf.old ≤ S.faults shelf.new }
+    ensures valid { IfOk result (λ files. IsValidBasin files.basin) }
+    ensures whole { IfOk result (λ files. HasWholeYears files.basin) }
+    ensures fits { IfOk result (λ files. IsSeriesOf files.basin files.series) }
+    ensures loaded { IfOk result (λ files. AreLoaded (S.told shelf.old) (named inputs.entry) files.basin files.series) }
+    ensures stops { IfErr result (λ e. StopsReadingYears (named inputs.entry) e (S.told shelf.old) (Rose (S.faults shelf.old) (S.faults shelf.new))) }
+    ensures told { IfErr result CanBeTold }
+{
+    let basin = read_years(alloc, shelf, inputs.basin)?;
     let series = read_series(alloc, shelf, inputs.series, &basin)?;
     Ok(Loaded { basin, series })
 }

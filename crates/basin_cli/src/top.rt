@@ -2,15 +2,15 @@
 ghost use Rattle.std.specs.Prelude.{◌≡◌, ◌+◌, ◌*◌, ◌≤◌, Some, map, option_map, string_bytes};
 ghost use Rattle.water_edge.specs.Edge.{Rose};
 ghost use Rattle.water_text.specs.Months.{IsMonth};
-ghost use Rattle.basin_cli.specs.Command.{IsInForm, ServesFiles, ServesSeries, check, command_named, command_of, named, report, run, why};
+ghost use Rattle.basin_cli.specs.Command.{IsInForm, ServesFiles, ServesSeries, check, command_named, command_of, named, ensemble, report, run, why};
 ghost use Rattle.basin_cli.specs.Ending.{status_of, CanBeTold};
 ghost use Rattle.basin_cli.specs.Outcome.{EndingHasCause, Ends, Completes, WritesFor, PushesFor, MayWrite, IsQuiet};
 
-use crate::actions::{check_bytes, report_basin, run_basin, try_basin};
+use crate::actions::{check_bytes, gather_basin, report_basin, run_basin, try_basin};
 use crate::command::{Inputs, Words, command};
 use crate::ending::{Ending, File, tell};
 use crate::explaining::explain_right;
-use crate::files::{read_file, read_inputs};
+use crate::files::{read_file, read_inputs, read_record};
 use crate::status::Status;
 use std::alloc::Global;
 use std::sync::ledger::Ledger;
@@ -124,6 +124,29 @@ fn do_why<S: Shelf, K: Sink, L: Ledger>(
     )
 }
 
+/// `ensemble`: solves the record of a basin's gauges once from each of its years, and puts how often each yearly delivery came.
+fn do_ensemble<S: Shelf, K: Sink, L: Ledger>(
+    alloc: Global,
+    inputs: Inputs,
+    shelf: &mut S,
+    out: &mut K,
+    searches: &mut Steps<L>,
+) -> Ending
+    requires { ServesFiles (S.serves shelf.old) (Some (ensemble (named inputs))) }
+    ensures cause { EndingHasCause (Some (ensemble (named inputs.entry))) result (S.told shelf.old)
+        (Rose (S.faults shelf.old) (S.faults shelf.new)) (Rose (K.faults out.old) (K.faults out.new)) }
+    ensures writes { WritesFor (Some (ensemble (named inputs.entry))) (status_of result) (S.told shelf.old) (K.taken out.old) (K.taken out.new) }
+    ensures out_stays { (MayWrite (status_of result) → ⊥) → out.new ≡ out.old }
+    ensures pushes { PushesFor (Some (ensemble (named inputs.entry))) (S.told shelf.old) searches.old searches.new }
+    ensures told { CanBeTold result }
+{
+    let files = match read_record(alloc, shelf, inputs) {
+        Ok(files) => files,
+        Err(ending) => return ending,
+    };
+    gather_basin(alloc, &files.basin, &files.series, out, searches)
+}
+
 /// Does what the words say, and leaves err alone.
 fn decide<S: Shelf, K: Sink, L: Ledger>(
     alloc: Global,
@@ -144,6 +167,7 @@ fn decide<S: Shelf, K: Sink, L: Ledger>(
         None => Ending::Usage,
         Some(Words::Run(inputs)) => do_run(alloc, inputs, shelf, out, searches),
         Some(Words::Report(inputs)) => do_report(alloc, inputs, shelf, out, searches),
+        Some(Words::Ensemble(inputs)) => do_ensemble(alloc, inputs, shelf, out, searches),
         Some(Words::Check { inputs, result }) => do_check(alloc, inputs, result, shelf, out),
         Some(Words::Trial { number, size }) => try_basin(alloc, number, size, out, searches),
         Some(

@@ -168,8 +168,8 @@ pub fn run_traces<L: Ledger>(
     ensures sums { IfOk result (HaveSums basin.now series.now (years_of basin.now)) }
     ensures pushes { searches.new ≤ searches.old + years_of basin.now * run_pushes basin.now }
 {
-    let mut sums = empty_sums(alloc, basin.rights.len())?;
     let count = basin.months / 12;
+    let mut sums = empty_sums(alloc, basin.rights.len(), (count * count) as usize)?;
     for trace in 0..count {
         run_trace(alloc, basin, series, trace, sums.as_mut_slice(), searches)?;
     }

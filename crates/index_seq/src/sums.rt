@@ -6,7 +6,7 @@ use std::alloc::{AllocError, Global};
 use water_model::rows::Rows;
 use water_model::types::MonthRecord;
 
-/// A year in which no right was delivered anything yet.
+/// A year in which no right was delivered anything yet. AllocError comes where memory is lacking.
 pub fn empty_year(alloc: Global, count: usize) -> Result<Rows<u64>, AllocError>
     ensures count { IfOk result (λ year. length year ≡ count) }
     ensures zeros { IfOk result (λ year. (r : ℕ) → r < count → slice_index year r ≡ 0) }
@@ -18,14 +18,21 @@ pub fn empty_year(alloc: Global, count: usize) -> Result<Rows<u64>, AllocError>
     Ok(Rows::from_vec(year))
 }
 
-/// No amounts for each of so many rights.
-pub fn empty_sums(alloc: Global, count: usize) -> Result<Rows<Rows<u64>>, AllocError>
+/// No amounts yet, with room for so many.
+fn empty_amounts(alloc: Global, room: usize) -> Result<Rows<u64>, AllocError>
+    ensures { IfOk result (λ amounts. amounts ≡ []) }
+{
+    Ok(Rows::from_vec(Vec::with_capacity(alloc, room)?))
+}
+
+/// No amounts yet for each of so many rights, with room for so many. AllocError comes where memory is lacking.
+pub fn empty_sums(alloc: Global, count: usize, room: usize) -> Result<Rows<Rows<u64>>, AllocError>
     ensures count { IfOk result (λ sums. length sums ≡ count) }
     ensures empty { IfOk result (λ sums. (r : ℕ) → slice_index_or sums r [] ≡ []) }
 {
     let mut sums = Vec::with_capacity(alloc, count)?;
     for _right in 0..count {
-        sums.push(Rows::new(alloc))?;
+        sums.push(empty_amounts(alloc, room)?)?;
     }
     Ok(Rows::from_vec(sums))
 }

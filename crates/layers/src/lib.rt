@@ -27,3 +27,5 @@ mod series;
 mod texts;
 #[cfg(test)]
 mod trials;
+#[cfg(test)]
+mod turned;

@@ -1,0 +1,77 @@
+-- Behind the files of an ensemble.
+use Rattle.std.proofs.Common.{◌≡◌, ℕ, ◌+◌, ◌*◌, ◌≤◌, subst, List, Option, Some, None}
+use Rattle.std.specs.Prelude.{IfErr, IfSome, Err, Ok, Result}
+use Rattle.basin_file.specs.BasinFaults.{Spells}
+use Rattle.index_seq.specs.Traces.{HasWholeYears, years_of}
+use Rattle.month_fold.specs.Runs.{run_pushes}
+use Rattle.water_model.specs.Valid.{IsSeriesOf}
+use Rattle.water_model.specs.declared.types.Basin.{Basin}
+use Rattle.water_model.specs.declared.types.Inflows.{Inflows}
+use Rattle.basin_cli.specs.declared.ending.Ending.{Ending}
+use Rattle.basin_cli.specs.declared.ending.Ending.TheVariants as ending
+use Rattle.basin_cli.specs.declared.ending.File.TheVariants as file
+use Rattle.basin_cli.specs.Actions.{LeavesTraces}
+use Rattle.basin_cli.specs.Command.{Files}
+use Rattle.basin_cli.specs.Ending.{status_of}
+use Rattle.basin_cli.specs.Outcome.{AreAccepted, HasEnsembleCause, HasTrialCause, IsGoodBasin, IsOfYears, IsPartYear, IsSeriesRefusedFor, MayWrite, OfBoth, StopsReading, StopsReadingYears, Told, WritesEnsemble, series_told}
+use Rattle.basin_cli.specs.Series.{AreLoaded, BasinReadEnds, IsBasinText, IsSeriesText, SeriesReadEnds, YearsReadEnds}
+use Rattle.basin_cli.proofs.Judged.{accepted, spelled_by}
+use Rattle.basin_cli.proofs.OneSeries.{one_basin}
+
+-- bytes whose basin has whole years
+pub of_years : (t : Option (List ℕ)) (b : Basin) → HasWholeYears b → IfSome t (IsBasinText b) → IfSome t IsOfYears
+of_years None b whole text = tt
+of_years (Some bytes) b whole text = record { basin = b; spelled = text.spelled; whole = whole }
+
+-- and whose basin hasn't
+pub part_year : (t : Option (List ℕ)) (b : Basin) → (HasWholeYears b → ⊥) → IfSome t (IsBasinText b) → IfSome t IsPartYear
+part_year None b part text = tt
+part_year (Some bytes) b part text = record { good = text.good; basin = b; spelled = text.spelled; part = part }
+
+-- the cause of how an ensemble ends
+pub gathering_cause : (told : Told) (files : Files) (b : Basin) (series : Inflows) (how : Ending) (read write : Type 0) → HasWholeYears b →
+    AreLoaded told files b series → HasTrialCause how write → HasEnsembleCause files how told read write
+gathering_cause told files b series ending.Done read write whole loaded ends =
+    (of_years (told files.basin) b whole loaded.from_basin, accepted (told files.basin) (series_told told files.series) b series loaded.from_basin loaded.from_series)
+gathering_cause told files b series ending.WriteFault read write whole loaded ends =
+    (ends, of_years (told files.basin) b whole loaded.from_basin, accepted (told files.basin) (series_told told files.series) b series loaded.from_basin loaded.from_series)
+gathering_cause told files b series ending.OutOfMemory read write whole loaded ends = tt
+gathering_cause told files b series ending.PartYear read write whole loaded ends = absurd ends
+gathering_cause told files b series (ending.Refuted refuted) read write whole loaded ends = absurd ends
+gathering_cause told files b series ending.Injured read write whole loaded ends = absurd ends
+gathering_cause told files b series ending.Met read write whole loaded ends = absurd ends
+gathering_cause told files b series ending.Usage read write whole loaded ends = absurd ends
+gathering_cause told files b series (ending.BasinRefused finding) read write whole loaded ends = absurd ends
+gathering_cause told files b series (ending.SeriesRefused finding) read write whole loaded ends = absurd ends
+gathering_cause told files b series (ending.ReadFault file) read write whole loaded ends = absurd ends
+gathering_cause told files b series (ending.InputTooLong file) read write whole loaded ends = absurd ends
+gathering_cause told files b series (ending.ScriptRefused fault line) read write whole loaded ends = absurd ends
+
+-- what is left on out
+pub gathering_writes : (told : Told) (files : Files) (b : Basin) (series : Inflows) (how : Ending) (old new : Option (List ℕ)) →
+    IsSeriesOf b series → AreLoaded told files b series → LeavesTraces b series how old new →
+    OfBoth told files (λ bytes s. MayWrite (status_of how) → WritesEnsemble (status_of how) bytes s old new)
+gathering_writes told files b series how old new fits loaded leaves =
+    of_both (told files.basin) (series_told told files.series) loaded.from_basin loaded.from_series
+  where
+    of_both : (t o : Option (List ℕ)) → IfSome t (IsBasinText b) → IfSome o (IsSeriesText b series) →
+        IfSome t (λ bytes. IfSome o (λ s. MayWrite (status_of how) → WritesEnsemble (status_of how) bytes s old new))
+    of_both None o from_basin from_series = tt
+    of_both (Some bytes) None from_basin from_series = tt
+    of_both (Some bytes) (Some s) from_basin from_series = λ may.
+        (let left = leaves may in
+        record {
+          basin = b;
+          series = series;
+          spelled = spelled_by bytes s b series fits from_basin from_series;
+          traces = left.0;
+          are_traces = left.1;
+          written = left.2;
+        })
+
+-- and how often searches pushed
+pub gathering_pushes : (told : Option (List ℕ)) (b : Basin) (before now : ℕ) → IfSome told (IsBasinText b) → now ≤ before + years_of b * run_pushes b →
+    IfSome told (λ bytes. (c : Basin) → Spells bytes c → now ≤ before + years_of c * run_pushes c)
+gathering_pushes None b before now text pushes = tt
+gathering_pushes (Some bytes) b before now text pushes =
+    λ c spelled. subst (λ (d : Basin). now ≤ before + years_of d * run_pushes d) (one_basin bytes b c text.spelled spelled) pushes

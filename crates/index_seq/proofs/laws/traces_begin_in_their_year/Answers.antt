@@ -1,0 +1,5 @@
+use Rattle.index_seq.proofs.Turning.{begun_is}
+use Rattle.index_seq.proofs.laws.traces_begin_in_their_year.Goals as goal
+
+pub returns : goal.returns
+returns c = λ b series years fits within. begun_is b series years fits within

@@ -1,0 +1,67 @@
+//! A record that is begun in another of its years.
+use crate::basins::basin_of;
+use index_seq::rotate;
+use inflow_file::read_inflows;
+use std::alloc::Global;
+use std::process::Abort;
+use std::test::Fail;
+use water_model::types::Inflows;
+
+/// Two gauges over two years from October on.
+const BASIN: &str = r#"format = 1
+first_month = "1900-10"
+months = 24
+node = [
+  { name = "top", inflow = "gauged" },
+  { name = "hill", inflow = "gauged" },
+  { name = "mouth", outlet = true },
+]
+link = [{ name = "a", from = "top", to = "mouth" }, { name = "b", from = "hill", to = "mouth" }]
+"#;
+
+/// In each month the amount of `top` is the month's place in three calendar years from 1900 on, and that of `hill` 100 more.
+fn record(alloc: Global) -> Result<String, Fail> {
+    let mut text = String::from_str(alloc, "month,node,amount\n")?;
+    for year in 0..3u32 {
+        for month in 0..12u32 {
+            let (number, place) = (1900 + year, year * 12 + month);
+            let zero = if month < 9 { "0" } else { "" };
+            let (next, far) = (month + 1, place + 100);
+            let lines = format!(in alloc;
+                "{number}-{zero}{next},top,{place}\n{number}-{zero}{next},hill,{far}\n"
+            )?;
+            text.push_str(lines.as_str())?;
+        }
+    }
+    Ok(text)
+}
+
+/// The amounts of a month of the run are those of this place of the record.
+fn expect_month<R: Abort>(rt: &R, series: &Inflows, month: usize, place: u64) {
+    let amounts = series.amount.as_slice();
+    assert!(rt; month < 24);
+    assert_eq!(rt; amounts.get(2 * month), Some(&place));
+    assert_eq!(rt;
+        amounts.get(2 * month + 1),
+        Some(&(place.saturating_add(100)))
+    );
+}
+
+/// The run goes from place 9 to place 32. Begun one year later it has the places 21 to 32, and then 9 to 20.
+#[test]
+fn begins_in_the_second_year(rt: HostRuntime) -> Result<(), Fail> {
+    let basin = basin_of(rt.alloc(), BASIN)?;
+    assert_eq!(&rt; basin.months, 24);
+    let text = record(rt.alloc())?;
+    let Ok(series) = read_inflows(rt.alloc(), &basin, text.as_bytes()) else {
+        panic!(&rt; "the record is refused");
+    };
+    let begun = rotate(rt.alloc(), &basin, &series, 1)?;
+    for month in 0..12usize {
+        expect_month(&rt, &begun, month, month as u64 + 21);
+        expect_month(&rt, &begun, month + 12, month as u64 + 9);
+    }
+    assert_eq!(&rt; begun.amount.len(), 48);
+    assert!(&rt; begun.wanted.len() == 0 && begun.want.len() == 0);
+    Ok(())
+}
