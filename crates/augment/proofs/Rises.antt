@@ -277,13 +277,13 @@ power_half k x some is =
 
 -- the ticks of the phases so far
 pub phases_cost : (count left arcs start before after : ℕ) → left < count →
-    before ≤ start + (count - (left + 1)) * (2 * arcs + 2) → after ≤ before + (2 * arcs + 1) →
-    after ≤ start + (count - left) * (2 * arcs + 2)
+    before ≤ start + (count - (left + 1)) * (2 * arcs + 1) → after ≤ before + (2 * arcs + 1) →
+    after ≤ start + (count - left) * (2 * arcs + 1)
 phases_cost count left arcs start before after b each more =
     let split : count - left ≡ count - (left + 1) + 1 = omega arith in
-    let product = ap (λ (n : ℕ). n * (2 * arcs + 2)) split ∙ next_product (count - (left + 1)) (2 * arcs + 2) in
+    let product = ap (λ (n : ℕ). n * (2 * arcs + 1)) split ∙ next_product (count - (left + 1)) (2 * arcs + 1) in
     omega (arith, product, each, more)
 
 -- the cost of at most thirty phases
-pub thirty : (count arcs : ℕ) → count ≤ 30 → count * (2 * arcs + 2) ≤ 30 * (2 * arcs + 2)
-thirty count arcs b = mul-le-mul_right (2 * arcs + 2) b
+pub thirty : (count arcs : ℕ) → count ≤ 30 → count * (2 * arcs + 1) ≤ 30 * (2 * arcs + 1)
+thirty count arcs b = mul-le-mul_right (2 * arcs + 1) b

@@ -395,7 +395,7 @@ fn run_phases<L: Ledger>(
     ensures limit { flow_of circ.new arc ≤ want }
     ensures cut { flow_of circ.new arc < want →
         IsGreatestCut (network circ.old) (flow_of circ.new) arc (not_reached circ.new) }
-    ensures cost { missing ≤ 1000000000 → searches.new ≤ searches.old + 30 * (2 * arcs circ.old + 2) }
+    ensures cost { missing ≤ 1000000000 → searches.new ≤ searches.old + 30 * (2 * arcs circ.old + 1) }
 {
     let (first, count) = first_phase(missing);
     let mut least = first;
@@ -443,7 +443,7 @@ pub fn raise<L: Ledger>(
     ensures cut { result ≡ Raised.Stopped →
         IsGreatestCut (network circ.old) (flow_of circ.new) arc (not_reached circ.new) }
 
-    ensures cost { want ≤ 1000000000 → searches.new ≤ searches.old + 30 * (2 * arcs circ.old + 2) }
+    ensures cost { want ≤ 1000000000 → searches.new ≤ searches.old + 30 * (2 * arcs circ.old + 1) }
 {
     let start = circ.flow(arc);
     if want <= start {

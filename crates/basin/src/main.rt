@@ -1,12 +1,19 @@
 //! The program: real files and streams under the top call.
 #![tactic(auto)]
 
-ghost use Rattle.std.specs.Prelude.{◌≡◌, ◌<◌};
+ghost use Rattle.std.specs.Prelude.{◌≡◌, ◌<◌, map, string_bytes};
+ghost use Rattle.std.specs.Process.{exit_status};
+ghost use Rattle.water_edge.specs.Edge.{Rose};
+ghost use Rattle.basin_cli.specs.Code.{code_of};
+ghost use Rattle.basin_cli.specs.Command.{ServesFiles, command_of};
+ghost use Rattle.basin_cli.specs.Outcome.{Ends, Completes, WritesFor};
+ghost use Rattle.basin_cli.specs.declared.status.Status.{Status};
 
 #[cfg(test)]
 mod tests;
 
 use basin_cli::{Status, basin_main};
+use std::alloc::Global;
 use std::io;
 use std::io::Write;
 use std::marker::Brand;
@@ -14,7 +21,7 @@ use std::process::ExitCode;
 use std::rt::{Env, Files};
 use std::sync::ledger::{Blank, Ledger};
 use steps::Steps;
-use water_edge::{FileShelf, StdSink};
+use water_edge::{FileShelf, Shelf, Sink, StdSink};
 
 /// The words behind the program's name. None of them where one is no text.
 fn words<R: Env + AllocGlobal>(rt: &R) -> Result<Vec<String>, ()> {
@@ -38,6 +45,28 @@ fn words<R: Env + AllocGlobal>(rt: &R) -> Result<Vec<String>, ()> {
     }
 }
 
+/// The status with which the process ends is that of the call.
+fn serve<S: Shelf, K: Sink, E: Sink, L: Ledger>(
+    alloc: Global,
+    words: &[String],
+    shelf: &mut S,
+    out: &mut K,
+    err: &mut E,
+    searches: &mut Steps<L>,
+) -> ExitCode
+    requires { ServesFiles (S.serves shelf.old) (command_of (map string_bytes words.now)) }
+    ensures { (status : Status) × (exit_status result ≡ code_of status)
+        × Ends (command_of (map string_bytes words.now)) status (S.told shelf.old)
+        (Rose (S.faults shelf.old) (S.faults shelf.new)) (Rose (K.faults out.old) (K.faults out.new))
+        (E.taken err.old) (E.taken err.new) (E.faults err.old) (E.faults err.new)
+        × Completes (command_of (map string_bytes words.now)) status (S.told shelf.old)
+        (Rose (S.faults shelf.old) (S.faults shelf.new)) (Rose (K.faults out.old) (K.faults out.new))
+        × WritesFor (command_of (map string_bytes words.now)) status (S.told shelf.old) (K.taken out.old) (K.taken out.new) }
+{
+    let status = basin_main(alloc, words, shelf, out, err, searches);
+    ExitCode::from(status.code())
+}
+
 fn run<L: Ledger, R: Files + Env + AllocGlobal, W: Write + Drop, V: Write + Drop>(
     rt: &R,
     out: W,
@@ -52,8 +81,8 @@ fn run<L: Ledger, R: Files + Env + AllocGlobal, W: Write + Drop, V: Write + Drop
     let mut shelf = FileShelf::new(rt);
     let mut out = StdSink::new(out);
     let mut err = StdSink::new(err);
-    let status = match words(rt) {
-        Ok(words) => basin_main(
+    match words(rt) {
+        Ok(words) => serve(
             rt.alloc(),
             &words,
             &mut shelf,
@@ -61,9 +90,8 @@ fn run<L: Ledger, R: Files + Env + AllocGlobal, W: Write + Drop, V: Write + Drop
             &mut err,
             &mut searches,
         ),
-        Err(()) => Status::OutOfMemory,
-    };
-    ExitCode::from(status.code())
+        Err(()) => ExitCode::from(Status::OutOfMemory.code()),
+    }
 }
 
 fn main(rt: HostRuntime) -> ExitCode {

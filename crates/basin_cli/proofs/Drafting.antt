@@ -17,14 +17,15 @@ use Rattle.water_model.proofs.Balance.{balanced}
 use Rattle.water_model.proofs.Returns.{covered}
 use Rattle.water_model.proofs.Greatest.{cuts_make_greatest, nobody_could_get_more}
 use Rattle.water_model.proofs.Sheltered.{histories_leave_nothing, called_rights_get_nothing, nothing_outside_helps}
-use Rattle.month_fold.specs.Runs.{RunSeen, StandsFor}
+use Rattle.month_fold.specs.Runs.{RunSeen, StandsFor, run_pushes}
 use Rattle.result_text.specs.Begun.{begun_bytes}
 use Rattle.result_text.specs.Range.{FitsText}
 use Rattle.result_text.proofs.Whole.{FitsText-follows, Puts-head, Puts-month, Puts-tail}
 use Rattle.basin_cli.specs.Drafts.{IsDraftOf}
-use Rattle.basin_cli.specs.Headline.{KeepsPriority, most_pushes, run_pushes, deliveries_of}
+use Rattle.basin_cli.specs.Headline.{KeepsPriority, deliveries_of}
 use Rattle.month_fold.specs.Reaches.{HaveReaches}
 use Rattle.std.specs.List.{flat_map}
+use Rattle.senior_hold.specs.MonthNetwork.{month_pushes}
 
 last_is : {X : Type 0} (xs : List X) (y : X) → slice_get (xs ++ y ∷ []) (length xs) ≡ Some y
 last_is [] y = refl
@@ -94,6 +95,6 @@ whole_run b series run records valid same fits stands done =
     }
 
 -- the pushes of some months and of one more are within those of a run
-pub within_run : (b : Basin) (first before after i : ℕ) → before ≤ first + i * most_pushes b → after ≤ before + most_pushes b → i < b.months →
+pub within_run : (b : Basin) (first before after i : ℕ) → before ≤ first + i * month_pushes b → after ≤ before + month_pushes b → i < b.months →
     after ≤ first + run_pushes b
-within_run b first before after i sofar more l = let all : (i + 1) * most_pushes b ≤ b.months * most_pushes b = mul-le-mul_right (most_pushes b) (omega arith) in omega arith
+within_run b first before after i sofar more l = let all : (i + 1) * month_pushes b ≤ b.months * month_pushes b = mul-le-mul_right (month_pushes b) (omega arith) in omega arith

@@ -96,6 +96,7 @@ checking_cause told files result text b series (ending.Refuted refuted) read wri
       verdict = ends;
       no_text = is_no_text bytes s text b series refuted valid spelled ends;
     })
+checking_cause told files result text b series ending.Injured read write valid fits loaded within is ends = absurd ends
 checking_cause told files result text b series ending.Usage read write valid fits loaded within is ends = absurd ends
 checking_cause told files result text b series (ending.BasinRefused finding) read write valid fits loaded within is ends = absurd ends
 checking_cause told files result text b series (ending.SeriesRefused finding) read write valid fits loaded within is ends = absurd ends

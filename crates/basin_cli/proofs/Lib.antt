@@ -6,3 +6,4 @@ pub mod OneSeries
 pub mod Judged
 pub mod Outcomes
 pub mod Answering
+pub mod Compared

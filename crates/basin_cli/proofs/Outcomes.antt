@@ -83,6 +83,7 @@ stopped files (ending.InputTooLong file.Result) told read P by_read by_memory h 
 stopped files ending.OutOfMemory told read P by_read by_memory h = always (told files.basin) _ P (by_memory refl)
 stopped files ending.Done told read P by_read by_memory h = absurd h
 stopped files (ending.Refuted refuted) told read P by_read by_memory h = absurd h
+stopped files ending.Injured told read P by_read by_memory h = absurd h
 stopped files ending.Usage told read P by_read by_memory h = absurd h
 stopped files ending.WriteFault told read P by_read by_memory h = absurd h
 
@@ -107,6 +108,7 @@ solving files (ending.InputTooLong file) told read write h =
     stopped files (ending.InputTooLong file) told read (Solved its.InputTooLong read write) (λ is _ _ no_read _. absurd (no_read is)) (memory_done (ending.InputTooLong file) read write) h
 solving files ending.OutOfMemory told read write h = always (told files.basin) _ (Solved its.OutOfMemory read write) (λ _ _ _ _. inr refl)
 solving files (ending.Refuted refuted) told read write h = absurd h
+solving files ending.Injured told read write h = absurd h
 solving files ending.Usage told read write h = absurd h
 
 -- a check
@@ -171,6 +173,7 @@ checking files result ending.OutOfMemory told read write h =
     always (told files.basin) _ (Checked its.OutOfMemory (told result) read write)
     (λ bytes s. of_result (told result) its.OutOfMemory read write bytes s (λ _ _ _. inl refl))
 checking files result ending.Usage told read write h = absurd h
+checking files result ending.Injured told read write h = absurd h
 
 trying : (how : Ending) (write : Type 0) → HasTrialCause how write → (write → ⊥) → IsDone (status_of how)
 trying ending.Done write h no_write = inl refl
@@ -178,6 +181,7 @@ trying ending.WriteFault write h no_write = absurd (no_write h)
 trying ending.OutOfMemory write h no_write = inr refl
 trying ending.Usage write h no_write = absurd h
 trying (ending.Refuted refuted) write h no_write = absurd h
+trying ending.Injured write h no_write = absurd h
 trying (ending.BasinRefused finding) write h no_write = absurd h
 trying (ending.SeriesRefused finding) write h no_write = absurd h
 trying (ending.ReadFault file) write h no_write = absurd h
@@ -204,6 +208,7 @@ pub quiet : (how : Ending) (old : Option (List ℕ)) (before : ℕ) → ((IsQuie
 unfolding line_of
 quiet ending.Done old before h = tells_nothing old before
 quiet (ending.Refuted refuted) old before h = tells_nothing old before
+quiet ending.Injured old before h = tells_nothing old before
 quiet ending.Usage old before h = absurd (h (λ q. q))
 quiet (ending.BasinRefused finding) old before h = absurd (h (λ q. q))
 quiet (ending.SeriesRefused finding) old before h = absurd (h (λ q. q))

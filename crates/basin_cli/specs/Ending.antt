@@ -22,6 +22,7 @@ use Rattle.basin_cli.specs.declared.status.Status.TheVariants as status
 abbrev pub status_of : Ending → Status
 status_of ending.Done = status.Done
 status_of (ending.Refuted refuted) = status.No
+status_of ending.Injured = status.No
 status_of ending.Usage = status.Usage
 status_of (ending.BasinRefused finding) = status.BasinRefused
 status_of (ending.SeriesRefused finding) = status.SeriesRefused
@@ -54,6 +55,7 @@ series_line (finding.Missing month node) = codes "series: Missing " ++ month_dig
 unfoldable pub line_of : Ending → List ℕ
 line_of ending.Done = []
 line_of (ending.Refuted refuted) = []
+line_of ending.Injured = []
 line_of ending.Usage = codes "usage: basin_cli COMMAND WORDS\n"
 line_of (ending.BasinRefused finding) = refusal_line finding
 line_of (ending.SeriesRefused finding) = series_line finding

@@ -1,7 +1,6 @@
 -- What the records of a run are: the theorem of the program.
-use Rattle.std.specs.Prelude.{◌≡◌, ℕ, ◌+◌, ◌*◌, ◌<◌, ◌≤◌, Bool, List, map, length, slice_index, slice_get, Some}
+use Rattle.std.specs.Prelude.{◌≡◌, ℕ, ◌+◌, ◌<◌, ◌≤◌, Bool, List, map, length, slice_index, slice_get, Some}
 use Rattle.month_fold.specs.Reaches.{HaveReaches}
-use Rattle.senior_hold.specs.MonthNetwork.{arc_count}
 use Rattle.water_model.specs.Balance.{IsBalanced, returned_before}
 use Rattle.water_model.specs.History.{IsHistory, Calls, cut_of}
 use Rattle.water_model.specs.Hydrology.{delivered_before}
@@ -64,10 +63,3 @@ pub record KeepsPriority (b : Basin) (series : Inflows) (records : List MonthRec
   -- and what comes back of a diversion's water, up to a month, is at most what it was delivered before that month
   pub covered : (right i : ℕ) → right < length b.rights →
       returned_before b (deliveries_of records) right (i + 1) ≤ delivered_before (deliveries_of records) right i
-
--- the most pushes in a month, and in all months of a run
-abbrev pub most_pushes : Basin → ℕ
-most_pushes b = length b.rights * (30 * (2 * arc_count b + 2))
-
-abbrev pub run_pushes : Basin → ℕ
-run_pushes b = b.months * most_pushes b

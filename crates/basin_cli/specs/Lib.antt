@@ -8,3 +8,4 @@ pub mod Drafts
 pub mod Series
 pub mod Actions
 pub mod Answer
+pub mod Compared

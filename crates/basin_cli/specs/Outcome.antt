@@ -28,8 +28,9 @@ use Rattle.basin_cli.specs.declared.ending.File.TheVariants as file
 use Rattle.basin_cli.specs.declared.ending.SeriesFinding.{SeriesFinding}
 use Rattle.basin_cli.specs.Command.{Command, Files, run, check, report, trial}
 use Rattle.basin_cli.specs.Ending.{status_of, line_of, finding_of}
-use Rattle.basin_cli.specs.Headline.{KeepsPriority, HasGreatestPlans, run_pushes}
+use Rattle.basin_cli.specs.Headline.{KeepsPriority, HasGreatestPlans}
 use Rattle.basin_cli.specs.Header.{header}
+use Rattle.month_fold.specs.Runs.{run_pushes}
 
 -- the most bytes of a file
 abbrev pub file_limit : ℕ

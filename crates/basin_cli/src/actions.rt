@@ -13,8 +13,9 @@ ghost use Rattle.water_model.specs.Valid.{IsValidBasin, IsSeriesOf};
 ghost use Rattle.basin_cli.specs.Actions.{EndsChecking, LeavesRecords};
 ghost use Rattle.basin_cli.specs.Answer.{answered, ending_of, EndsAnswer};
 ghost use Rattle.basin_cli.specs.Ending.{status_of};
-ghost use Rattle.basin_cli.specs.Headline.{KeepsPriority, run_pushes};
+ghost use Rattle.basin_cli.specs.Headline.{KeepsPriority};
 ghost use Rattle.basin_cli.specs.Outcome.{HasTrialCause, Leaves, MayWrite, WritesTrial, answer_line};
+ghost use Rattle.month_fold.specs.Runs.{run_pushes};
 
 use crate::ending::Ending;
 use crate::writing::text_of_run;

@@ -50,6 +50,8 @@ pub enum Ending {
     Done,
     /// A result is refuted, which out was told.
     Refuted(Refuted),
+    /// Somebody is injured in a comparison, which out was told.
+    Injured,
     Usage,
     BasinRefused(Finding),
     SeriesRefused(SeriesFinding),
@@ -64,7 +66,7 @@ impl Ending {
     pub fn is_told(&self) -> bool
         ensures { IsTrue result ↔ (IsQuiet (status_of self.now) → ⊥) }
     {
-        !matches!(self, Ending::Done | Ending::Refuted(_))
+        !matches!(self, Ending::Done | Ending::Refuted(_) | Ending::Injured)
     }
 
     /// The status of the call.
@@ -73,7 +75,7 @@ impl Ending {
     {
         match self {
             Ending::Done => Status::Done,
-            Ending::Refuted(_) => Status::No,
+            Ending::Refuted(_) | Ending::Injured => Status::No,
             Ending::Usage => Status::Usage,
             Ending::BasinRefused(_) => Status::BasinRefused,
             Ending::SeriesRefused(_) => Status::SeriesRefused,
@@ -158,7 +160,7 @@ fn put_line(line: &mut Line, ending: &Ending)
     ensures { line.new ≡ line_of ending.now }
 {
     match ending {
-        Ending::Done | Ending::Refuted(_) => {}
+        Ending::Done | Ending::Refuted(_) | Ending::Injured => {}
         Ending::Usage => line.word(b"usage: basin_cli COMMAND WORDS\n"),
         Ending::BasinRefused(finding) => put_refusal(line, finding),
         Ending::SeriesRefused(finding) => put_series_refusal(line, finding),

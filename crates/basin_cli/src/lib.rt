@@ -4,6 +4,7 @@
 
 mod actions;
 mod command;
+mod comparing;
 mod draft;
 mod ending;
 mod files;

@@ -4,10 +4,10 @@ ghost use Rattle.rights_roll.specs.Rolls.{IsRollOf};
 ghost use Rattle.water_model.specs.Text.{text_bytes};
 ghost use Rattle.water_model.specs.Valid.{IsValidBasin, IsSeriesOf};
 ghost use Rattle.water_model.specs.declared.types.MonthRecord.{MonthRecord};
-ghost use Rattle.month_fold.specs.Runs.{StandsFor};
+ghost use Rattle.month_fold.specs.Runs.{StandsFor, run_pushes};
 ghost use Rattle.result_text.specs.Begun.{begun_bytes};
 ghost use Rattle.basin_cli.specs.Drafts.{IsDraftOf, IsTextOfRun};
-ghost use Rattle.basin_cli.specs.Headline.{most_pushes, run_pushes};
+ghost use Rattle.senior_hold.specs.MonthNetwork.{month_pushes};
 
 use crate::draft::Draft;
 use month_fold::run::Run;
@@ -33,7 +33,7 @@ fn draft_month<L: Ledger>(
     ensures series { run.new.series ≡ run.old.series }
     ensures done { OnOk result (run.new.done ≡ run.old.done + 1) }
     ensures draft { OnOk result (IsDraftOf basin.now run.new draft.new.bytes) }
-    ensures pushes { searches.new ≤ searches.old + most_pushes basin.now }
+    ensures pushes { searches.new ≤ searches.old + month_pushes basin.now }
 {
     run.step(searches)?;
     match put_month(draft, basin, roll, run.month()) {

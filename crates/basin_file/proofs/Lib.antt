@@ -6,3 +6,4 @@ pub mod Ranges
 pub mod Counts
 pub mod Whole
 pub mod Joins
+pub mod Faultless

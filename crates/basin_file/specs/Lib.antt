@@ -1,3 +1,4 @@
 pub mod Spelled
 pub mod BasinFaults
 pub mod Sound
+pub mod Laws

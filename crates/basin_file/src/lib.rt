@@ -3,6 +3,7 @@
 
 mod build;
 mod findings;
+pub mod laws;
 mod parts;
 mod read;
 mod refused;

@@ -23,7 +23,7 @@ use water_model::types::{Basin, RightKind};
 use water_text::month::Month;
 
 /// Whether a right's set holds a node.
-fn holds(cuts: &CutList, right: u32, node: u32) -> bool
+pub fn holds(cuts: &CutList, right: u32, node: u32) -> bool
     requires right { right < length cuts.now.sets }
     requires node { node < cuts.now.nodes }
     ensures { result ≡ has (cut_at cuts.now right) node }
@@ -32,7 +32,7 @@ fn holds(cuts: &CutList, right: u32, node: u32) -> bool
 }
 
 /// Whether a link enters a right's set.
-fn enters(basin: &Basin, cuts: &CutList, right: u32, link: u32) -> bool
+pub fn enters(basin: &Basin, cuts: &CutList, right: u32, link: u32) -> bool
     requires basin { IsValidBasin basin.now }
     requires cut { HasCut basin.now cuts.now right }
     requires link { link < length basin.now.links }
@@ -43,7 +43,7 @@ fn enters(basin: &Basin, cuts: &CutList, right: u32, link: u32) -> bool
 }
 
 /// Whether a link leaves a right's set.
-fn leaves(basin: &Basin, cuts: &CutList, right: u32, link: u32) -> bool
+pub fn leaves(basin: &Basin, cuts: &CutList, right: u32, link: u32) -> bool
     requires basin { IsValidBasin basin.now }
     requires cut { HasCut basin.now cuts.now right }
     requires link { link < length basin.now.links }
@@ -54,7 +54,7 @@ fn leaves(basin: &Basin, cuts: &CutList, right: u32, link: u32) -> bool
 }
 
 /// Whether a right is an instream right on a link.
-fn is_on_link(basin: &Basin, right: u32, link: u32) -> bool
+pub fn is_on_link(basin: &Basin, right: u32, link: u32) -> bool
     requires { right < length basin.now.rights }
     ensures { result ≡ is_on_link basin.now right link }
 {
@@ -66,7 +66,7 @@ fn is_on_link(basin: &Basin, right: u32, link: u32) -> bool
 }
 
 /// Whether a right is a diversion or zone that takes within the set of another.
-fn takes_within(basin: &Basin, cuts: &CutList, right: u32, taker: u32) -> bool
+pub fn takes_within(basin: &Basin, cuts: &CutList, right: u32, taker: u32) -> bool
     requires basin { IsValidBasin basin.now }
     requires cut { HasCut basin.now cuts.now right }
     requires taker { taker < length basin.now.rights }
@@ -82,7 +82,7 @@ fn takes_within(basin: &Basin, cuts: &CutList, right: u32, taker: u32) -> bool
 }
 
 /// Whether one right of the basin is senior to another.
-fn is_senior_to(basin: &Basin, one: u32, other: u32) -> bool
+pub fn is_senior_to(basin: &Basin, one: u32, other: u32) -> bool
     requires one { one < length basin.now.rights }
     requires other { other < length basin.now.rights }
     ensures { result ≡ is_senior basin.now one other }
@@ -142,7 +142,7 @@ fn kept_with(basin: &Basin, delivered: &[u64], right: u32, holder: u32, kept: u6
 }
 
 /// What is kept on a link for the instream rights that are senior to a right.
-fn kept_on(basin: &Basin, roll: &Roll, delivered: &[u64], right: u32, link: u32) -> u64
+pub fn kept_on(basin: &Basin, roll: &Roll, delivered: &[u64], right: u32, link: u32) -> u64
     requires roll { IsRollOf basin.now.rights roll.now }
     requires delivered { length delivered.now ≡ length basin.now.rights }
     requires right { right < length basin.now.rights }

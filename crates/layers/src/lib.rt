@@ -8,6 +8,8 @@ mod basins;
 #[cfg(test)]
 mod edges;
 #[cfg(test)]
+mod edits;
+#[cfg(test)]
 mod lags;
 #[cfg(test)]
 mod nets;

@@ -5,7 +5,7 @@ use Rattle.std.proofs.lemmas.List.{get_or-replicate}
 use Rattle.place_sums.proofs.Totals.{total_same, term_le_total}
 use Rattle.water_model.specs.Cuts.{IsReach}
 use Rattle.water_model.specs.CutSets.{CutSets, set_of, without_sets}
-use Rattle.water_model.specs.History.{IsPartialHistory, IsShort, cut_of, opening_after, is_zone_of}
+use Rattle.water_model.specs.History.{IsPartialHistory, Follows, IsShort, cut_of, opening_after, is_zone_of}
 use Rattle.water_model.specs.Lookups.{of_entry}
 use Rattle.water_model.specs.Hydrology.{inflow_at, returned_at, stored_at, run_month, in_year, evaporation, used_of, want_of, want_in_month}
 use Rattle.water_model.specs.Laws.{AreDeliveries}
@@ -265,14 +265,18 @@ planned_small b series i m settled plan cuts valid is solved r l =
     omega (arith, solved.greatest.plan.wants r l, (wants_given b series i m settled valid is).small r l)
 
 -- and delivers little
-pub next_small : (b : Basin) (series : Inflows) (records : List MonthRecord) (m : MonthRecord) → IsValidBasin b → IsNext b series records m →
+pub deliveries_small : (b : Basin) (series : Inflows) (before : List MonthRecord) (m : MonthRecord) → IsValidBasin b → Follows b series before m →
     All (λ n. n ≤ 10 ^ 9) m.delivered
-next_small b series records m valid next = λ k d l. rw (any_default m.delivered k d 0 l) ((follows_small b series records m valid next.follows).delivered k)
+deliveries_small b series before m valid follows = λ k d l. rw (any_default m.delivered k d 0 l) ((follows_small b series before m valid follows).delivered k)
   where
     any_default : (xs : List ℕ) (k d e : ℕ) → k < length xs → get_or xs k d ≡ get_or xs k e
     any_default [] k d e l = absurd (omega arith)
     any_default (x ∷ xs) zero d e l = refl
     any_default (x ∷ xs) (suc k) d e l = any_default xs k d e (omega arith)
+
+pub next_small : (b : Basin) (series : Inflows) (records : List MonthRecord) (m : MonthRecord) → IsValidBasin b → IsNext b series records m →
+    All (λ n. n ≤ 10 ^ 9) m.delivered
+next_small b series records m valid next = deliveries_small b series records m valid next.follows
 
 -- the record in which a run's next month begins, with what comes back
 pub run_begun : (run : RunSeen) (records : List MonthRecord) (m : MonthRecord) → StandsFor run records →

@@ -1,4 +1,5 @@
 pub mod Counts
 pub mod Following
+pub mod Resuming
 pub mod Standing
 pub mod Outcomes

@@ -1,5 +1,5 @@
 -- Months whose sets are the reaches of short rights.
-use Rattle.std.specs.Prelude.{◌≡◌, ℕ, ◌<◌, ◌≤◌, Bool, List, length, slice_index, slice_get, Some, None}
+use Rattle.std.specs.Prelude.{◌≡◌, ℕ, ◌<◌, ◌≤◌, ◌^◌, All, Bool, List, length, slice_index, slice_get, Some, None}
 use Rattle.water_model.specs.Cuts.{IsReach}
 use Rattle.water_model.specs.History.{IsShort, cut_of}
 use Rattle.water_model.specs.declared.types.Basin.{Basin}
@@ -14,3 +14,8 @@ pub record HasReaches (b : Basin) (m : MonthRecord) : Type 0 where
 -- each record of a list has the reaches of its month
 abbrev pub HaveReaches : Basin → List MonthRecord → Type 0
 HaveReaches b records = (i : ℕ) (m : MonthRecord) → slice_get records i ≡ Some m → HasReaches b m
+
+-- a record says what each right was delivered, at most 10^9
+pub record HasDeliveries (b : Basin) (m : MonthRecord) : Type 0 where
+  pub count : length m.delivered ≡ length b.rights
+  pub small : All (λ n. n ≤ 10 ^ 9) m.delivered

@@ -1,9 +1,10 @@
 -- Runs, and the months that they went through.
-use Rattle.std.specs.Prelude.{◌≡◌, ℕ, List, map, length}
+use Rattle.std.specs.Prelude.{◌≡◌, ℕ, ◌*◌, List, map, length}
 use Rattle.lag_returns.specs.Lags.{OnTheWay}
 use Rattle.lag_returns.specs.Lags as lag
 use Rattle.water_model.specs.History.{IsPartialHistory, Follows, opening_after}
 use Rattle.month_fold.specs.Reaches.{HaveReaches, HasReaches}
+use Rattle.senior_hold.specs.MonthNetwork.{month_pushes}
 use Rattle.water_model.specs.declared.types.Basin.{Basin}
 use Rattle.water_model.specs.declared.types.Inflows.{Inflows}
 use Rattle.water_model.specs.declared.types.MonthRecord.{MonthRecord}
@@ -35,3 +36,7 @@ pub record HasMonths (run : RunSeen) : Type 0 where
 pub record IsNext (b : Basin) (series : Inflows) (records : List MonthRecord) (m : MonthRecord) : Type 0 where
   pub follows : Follows b series records m
   pub reaches : HasReaches b m
+
+-- how often the searches of a whole run push at most
+abbrev pub run_pushes : Basin → ℕ
+run_pushes b = b.months * month_pushes b

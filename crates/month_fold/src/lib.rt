@@ -4,4 +4,5 @@
 mod blank;
 pub mod laws;
 mod next;
+mod resume;
 pub mod run;

@@ -3,7 +3,7 @@ ghost use Rattle.std.specs.Prelude.{ℕ, List, ◌≡◌, ◌+◌, ◌*◌, ◌^
 ghost use Rattle.lag_returns.specs.Lags.{OnTheWay, return_rows};
 ghost use Rattle.lag_returns.specs.Lags as lag;
 ghost use Rattle.month_terms.specs.Terms.{FitsRecord, HasReturned};
-ghost use Rattle.senior_hold.specs.MonthNetwork.{arc_count};
+ghost use Rattle.senior_hold.specs.MonthNetwork.{month_pushes};
 ghost use Rattle.senior_hold.specs.Solved.{LacksRoom};
 ghost use Rattle.water_model.specs.Valid.{IsValidBasin, IsSeriesOf};
 ghost use Rattle.water_model.specs.declared.types.MonthRecord.{MonthRecord};
@@ -74,7 +74,7 @@ pub fn next_month<L: Ledger>(
     ensures next { OnOk result ((records : List MonthRecord) →
         StandsFor (record { basin = basin.now; series = series.now; done = index; last = month.old; lags = lags.now }) records →
         IsNext basin.now series.now records month.new) }
-    ensures pushes { searches.new ≤ searches.old + length basin.now.rights * (30 * (2 * arc_count basin.now + 2)) }
+    ensures pushes { searches.new ≤ searches.old + month_pushes basin.now }
 {
     bring_back(basin, lags, month);
     settle(basin, series, tables, index, month);

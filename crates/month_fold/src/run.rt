@@ -1,13 +1,16 @@
 //! A run of a basin, month by month.
 ghost use Rattle.std.specs.Prelude.{ℕ, List, ◌≡◌, ◌+◌, ◌-◌, ◌*◌, ◌<◌, ◌≤◌, ◌++◌, ◌∷◌, [], length, map, IfOk, OnOk, OnErr};
-ghost use Rattle.senior_hold.specs.MonthNetwork.{arc_count};
+ghost use Rattle.senior_hold.specs.MonthNetwork.{month_pushes};
 ghost use Rattle.senior_hold.specs.Solved.{LacksRoom};
 ghost use Rattle.water_model.specs.Valid.{IsValidBasin, IsSeriesOf};
 ghost use Rattle.water_model.specs.declared.types.MonthRecord.{MonthRecord};
+ghost use Rattle.water_model.specs.History.{IsPartialHistory};
+ghost use Rattle.month_fold.specs.Reaches.{HaveReaches};
 ghost use Rattle.month_fold.specs.Runs.{StandsFor};
 
 use crate::blank::blank_month;
 use crate::next::next_month;
+use crate::resume::{on_the_way, stored_after};
 use lag_returns::Lags;
 use month_terms::evaporation::tables_of;
 use reservoirs::AreaTable;
@@ -62,10 +65,30 @@ impl<'b> Run<'b> {
         ensures series { IfOk result (λ run. run.series ≡ series.now) }
         ensures stands { IfOk result (λ run. StandsFor run []) }
     {
+        Run::resume(alloc, basin, series, &[])
+    }
+
+    /// A run that went through these months, which may have been solved by another run. AllocError comes where memory is
+    /// lacking. No month is solved: the cost is that of opening a run, and linear in the return rows times the months.
+    pub fn resume(
+        alloc: Global,
+        basin: &'b Basin,
+        series: &'b Inflows,
+        months: &[Box<MonthRecord>],
+    ) -> Result<Run<'b>, AllocError>
+        requires basin { IsValidBasin basin.now }
+        requires series { IsSeriesOf basin.now series.now }
+        requires months { IsPartialHistory basin.now series.now (map (λ m. m.value) months.now) }
+        requires reaches { HaveReaches basin.now (map (λ m. m.value) months.now) }
+        ensures basin { IfOk result (λ run. run.basin ≡ basin.now) }
+        ensures series { IfOk result (λ run. run.series ≡ series.now) }
+        ensures stands { IfOk result (λ run. StandsFor run (map (λ m. m.value) months.now)) }
+    {
         let solver = solver_of(alloc, basin)?;
         let tables = tables_of(alloc, basin)?;
-        let lags = Lags::open(alloc, basin.returns.as_slice())?;
-        let month = blank_month(alloc, basin)?;
+        let lags = on_the_way(alloc, basin, months)?;
+        let stored = stored_after(alloc, basin, months)?;
+        let month = blank_month(alloc, basin, stored)?;
         Ok(Run {
             basin,
             series,
@@ -73,7 +96,7 @@ impl<'b> Run<'b> {
             tables,
             lags,
             month,
-            done: 0,
+            done: months.len() as u32,
         })
     }
 
@@ -84,8 +107,8 @@ impl<'b> Run<'b> {
         self.basin.months - self.done
     }
 
-    /// The record of the month that was solved last. Before the first it says nothing but the storage with which the
-    /// run opens, as its closing.
+    /// The record of the month that was solved last. Before the first step it says nothing but the storage with which the
+    /// next month opens, as its closing.
     pub fn month(&self) -> &MonthRecord
         ensures { result.now ≡ self.now.last }
     {
@@ -104,7 +127,7 @@ impl<'b> Run<'b> {
         ensures month { OnOk result ((records : List MonthRecord) → StandsFor self.old records → StandsFor self.new (records ++ self.new.last ∷ [])) }
         ensures stays { OnErr result ((records : List MonthRecord) → StandsFor self.old records → StandsFor self.new records) }
         ensures room { OnErr result (LacksRoom self.old.basin self.old.last.cuts) }
-        ensures pushes { searches.new ≤ searches.old + length self.old.basin.rights * (30 * (2 * arc_count self.old.basin + 2)) }
+        ensures pushes { searches.new ≤ searches.old + month_pushes self.old.basin }
     {
         next_month(
             self.basin,

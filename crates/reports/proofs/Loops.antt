@@ -2,15 +2,16 @@
 use Rattle.std.proofs.Common.{◌≡◌, ℕ, ◌+◌, ◌*◌, ◌<◌, ◌≤◌, arith, List, [], ◌∷◌, ◌++◌}
 use Rattle.std.proofs.Math.Nat.{mul-le-mul_right}
 use Rattle.month_fold.specs.Reaches.{HaveReaches}
-use Rattle.month_fold.specs.Runs.{RunSeen, StandsFor}
+use Rattle.month_fold.specs.Runs.{RunSeen, StandsFor, run_pushes}
 use Rattle.water_model.specs.History.{IsPartialHistory}
 use Rattle.water_model.specs.Valid.{IsValidBasin}
 use Rattle.water_model.specs.declared.types.Basin.{Basin}
 use Rattle.water_model.specs.declared.types.Inflows.{Inflows}
 use Rattle.water_model.specs.declared.types.MonthRecord.{MonthRecord}
 use Rattle.water_model.proofs.Histories.{all_months}
-use Rattle.reports.specs.Ends.{IsRun, month_pushes, most_pushes}
+use Rattle.reports.specs.Ends.{IsRun}
 use Rattle.reports.proofs.Balanced.{figures_balanced}
+use Rattle.senior_hold.specs.MonthNetwork.{month_pushes}
 
 -- the months that a run went through, and the next one
 pub next_partial : (b : Basin) (series : Inflows) (next : RunSeen) (records : List MonthRecord) (m : MonthRecord) → next.basin ≡ b → next.series ≡ series → m ≡ next.last →
@@ -31,5 +32,5 @@ whole_run b series run records valid same fits stands done =
 
 -- the pushes of some months and of one more are within those of a run
 pub within_run : (b : Basin) (first before after i : ℕ) → before ≤ first + i * month_pushes b → after ≤ before + month_pushes b → i < b.months →
-    after ≤ first + most_pushes b
+    after ≤ first + run_pushes b
 within_run b first before after i sofar more l = let all : (i + 1) * month_pushes b ≤ b.months * month_pushes b = mul-le-mul_right (month_pushes b) (omega arith) in omega arith

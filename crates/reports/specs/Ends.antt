@@ -1,8 +1,7 @@
 -- How a report may end.
-use Rattle.std.specs.Prelude.{ℕ, ◌*◌, ◌+◌, ◌≤◌, List, length, take, ⊤, Option, Result, Ok, Err}
+use Rattle.std.specs.Prelude.{ℕ, ◌≤◌, List, length, take, ⊤, Option, Result, Ok, Err}
 use Rattle.std.specs.Io.KnownBytes.{Appends}
 use Rattle.month_fold.specs.Reaches.{HaveReaches}
-use Rattle.senior_hold.specs.MonthNetwork.{arc_count}
 use Rattle.water_model.specs.History.{IsHistory}
 use Rattle.water_model.specs.declared.types.Basin.{Basin}
 use Rattle.water_model.specs.declared.types.Inflows.{Inflows}
@@ -25,10 +24,3 @@ Reports text b series (Err stop.SinkFailed) old new =
     (records : List MonthRecord) × IsRun b series records
     × ((count : ℕ) × (count ≤ length (text records)) × Appends old new (take count (text records)))
 Reports text b series (Err stop.OutOfMemory) old new = ⊤
-
--- the most pushes of the searches of a month, and of a whole run
-abbrev pub month_pushes : Basin → ℕ
-month_pushes b = length b.rights * (30 * (2 * arc_count b + 2))
-
-abbrev pub most_pushes : Basin → ℕ
-most_pushes b = b.months * month_pushes b

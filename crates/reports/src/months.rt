@@ -1,10 +1,9 @@
 //! All months of a run, one after the other.
 ghost use Rattle.std.specs.Prelude.{ℕ, [], ◌≡◌, ◌+◌, ◌-◌, ◌*◌, ◌<◌, ◌≤◌, length, IfOk, OnOk};
 ghost use Rattle.rights_roll.specs.Rolls.{IsRollOf};
-ghost use Rattle.senior_hold.specs.MonthNetwork.{arc_count};
+ghost use Rattle.senior_hold.specs.MonthNetwork.{arc_count, month_pushes};
 ghost use Rattle.water_model.specs.Valid.{IsValidBasin, IsSeriesOf};
-ghost use Rattle.month_fold.specs.Runs.{StandsFor};
-ghost use Rattle.reports.specs.Ends.{month_pushes, most_pushes};
+ghost use Rattle.month_fold.specs.Runs.{StandsFor, run_pushes};
 ghost use Rattle.reports.specs.Tallies.{IsTallyOf, IsTallyOfRun, IsTrialOf, IsTrialOfRun};
 
 use crate::called::Trial;
@@ -50,7 +49,7 @@ fn tally_months<L: Ledger>(
     requires first { run.old.done ≡ 0 }
     requires tally { IsTallyOf basin.now series.now run.old tally.old }
     ensures tally { OnOk result (IsTallyOfRun basin.now series.now tally.new) }
-    ensures pushes { searches.new ≤ searches.old + most_pushes basin.now }
+    ensures pushes { searches.new ≤ searches.old + run_pushes basin.now }
 {
     for _month in 0..basin.months {
         tally_month(tally, basin, series, run, searches)?;
@@ -72,7 +71,7 @@ fn tally_of<L: Ledger>(
     requires fits { run.old.series ≡ series.now }
     requires first { StandsFor run.old [] }
     ensures tally { IfOk result (IsTallyOfRun basin.now series.now) }
-    ensures pushes { searches.new ≤ searches.old + most_pushes basin.now }
+    ensures pushes { searches.new ≤ searches.old + run_pushes basin.now }
 {
     let mut tally = Tally::open(alloc, basin)?;
     tally_months(&mut tally, basin, series, run, searches)?;
@@ -89,7 +88,7 @@ pub fn tally_run<L: Ledger>(
     requires basin { IsValidBasin basin.now }
     requires series { IsSeriesOf basin.now series.now }
     ensures tally { IfOk result (IsTallyOfRun basin.now series.now) }
-    ensures pushes { searches.new ≤ searches.old + most_pushes basin.now }
+    ensures pushes { searches.new ≤ searches.old + run_pushes basin.now }
 {
     let mut run = Run::open(alloc, basin, series)?;
     tally_of(alloc, basin, series, &mut run, searches)
@@ -133,7 +132,7 @@ fn try_months<L: Ledger>(
     requires first { run.old.done ≡ 0 }
     requires trial { IsTrialOf basin.now series.now run.old trial.old }
     ensures trial { OnOk result (IsTrialOfRun basin.now series.now trial.new) }
-    ensures pushes { searches.new ≤ searches.old + most_pushes basin.now }
+    ensures pushes { searches.new ≤ searches.old + run_pushes basin.now }
 {
     for _month in 0..basin.months {
         try_month(trial, basin, series, roll, run, searches)?;
@@ -157,7 +156,7 @@ fn trial_of<L: Ledger>(
     requires fits { run.old.series ≡ series.now }
     requires first { StandsFor run.old [] }
     ensures trial { IfOk result (IsTrialOfRun basin.now series.now) }
-    ensures pushes { searches.new ≤ searches.old + most_pushes basin.now }
+    ensures pushes { searches.new ≤ searches.old + run_pushes basin.now }
 {
     let mut trial = Trial::open(alloc, basin)?;
     try_months(&mut trial, basin, series, roll, run, searches)?;
@@ -176,7 +175,7 @@ pub fn try_run<L: Ledger>(
     requires series { IsSeriesOf basin.now series.now }
     requires roll { IsRollOf basin.now.rights roll.now }
     ensures trial { IfOk result (IsTrialOfRun basin.now series.now) }
-    ensures pushes { searches.new ≤ searches.old + most_pushes basin.now }
+    ensures pushes { searches.new ≤ searches.old + run_pushes basin.now }
 {
     let mut run = Run::open(alloc, basin, series)?;
     trial_of(alloc, basin, series, roll, &mut run, searches)

@@ -2,9 +2,10 @@
 ghost use Rattle.std.specs.Prelude.{◌≡◌, ◌+◌, ◌≤◌, Err};
 ghost use Rattle.water_edge.specs.Edge.{HasCause};
 ghost use Rattle.water_model.specs.Valid.{IsValidBasin, IsSeriesOf};
-ghost use Rattle.reports.specs.Ends.{Reports, most_pushes};
+ghost use Rattle.reports.specs.Ends.{Reports};
 ghost use Rattle.reports.specs.Reports.{trial_text};
 ghost use Rattle.reports.specs.declared.stop.ReportStop.TheVariants.{SinkFailed, OutOfMemory};
+ghost use Rattle.month_fold.specs.Runs.{run_pushes};
 
 use crate::months::try_run;
 use crate::stop::ReportStop;
@@ -32,7 +33,7 @@ pub fn trial_report<K: Sink, L: Ledger>(
     ensures text { Reports (λ records. trial_text number size basin.now series.now records) basin.now series.now result (K.taken sink.old) (K.taken sink.new) }
     ensures cause { HasCause (K.faults sink.old) (K.faults sink.new) (result ≡ Err SinkFailed) }
     ensures stays { result ≡ Err OutOfMemory → sink.new ≡ sink.old }
-    ensures pushes { searches.new ≤ searches.old + most_pushes basin.now }
+    ensures pushes { searches.new ≤ searches.old + run_pushes basin.now }
 {
     let roll = match Roll::of_basin(alloc, basin) {
         Ok(roll) => roll,

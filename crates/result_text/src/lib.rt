@@ -6,7 +6,7 @@
 #![tactic(auto)]
 
 mod section;
-mod spelling;
+pub mod spelling;
 mod writer;
 
 pub use water_model::item::Item;

@@ -13,7 +13,7 @@ use water_text::line::Line;
 use water_text::month::Month;
 use water_text::name::Name;
 
-fn name_of_reservoir(basin: &Basin, reservoir: u32) -> &Name
+pub fn name_of_reservoir(basin: &Basin, reservoir: u32) -> &Name
     requires basin { IsValidBasin basin.now }
     requires reservoir { reservoir < length basin.now.reservoirs }
     ensures value { result.now ≡ reservoir_name basin.now reservoir }
@@ -22,7 +22,7 @@ fn name_of_reservoir(basin: &Basin, reservoir: u32) -> &Name
     &basin.nodes[basin.reservoirs[reservoir as usize].node as usize].name
 }
 
-fn name_of_node(basin: &Basin, node: u32) -> &Name
+pub fn name_of_node(basin: &Basin, node: u32) -> &Name
     requires basin { IsValidBasin basin.now }
     requires node { node < length basin.now.nodes }
     ensures value { result.now ≡ node_name basin.now node }
@@ -31,7 +31,7 @@ fn name_of_node(basin: &Basin, node: u32) -> &Name
     &basin.nodes[node as usize].name
 }
 
-fn name_of_link(basin: &Basin, link: u32) -> &Name
+pub fn name_of_link(basin: &Basin, link: u32) -> &Name
     requires basin { IsValidBasin basin.now }
     requires link { link < length basin.now.links }
     ensures value { result.now ≡ link_name basin.now link }
@@ -40,7 +40,7 @@ fn name_of_link(basin: &Basin, link: u32) -> &Name
     &basin.links[link as usize].name
 }
 
-fn name_of_right(basin: &Basin, right: u32) -> &Name
+pub fn name_of_right(basin: &Basin, right: u32) -> &Name
     requires basin { IsValidBasin basin.now }
     requires right { right < length basin.now.rights }
     ensures value { result.now ≡ right_name basin.now right }
@@ -50,7 +50,7 @@ fn name_of_right(basin: &Basin, right: u32) -> &Name
 }
 
 /// Appends a name behind a space.
-fn add_name(line: &mut Line, name: &Name)
+pub fn add_name(line: &mut Line, name: &Name)
     requires room { length line.old + 33 ≤ 128 }
     requires name { length name.now ≤ 32 }
     ensures text { line.new ≡ line.old ++ 32 ∷ name.now }
@@ -61,7 +61,7 @@ fn add_name(line: &mut Line, name: &Name)
 }
 
 /// Appends a number behind a space.
-fn add_number(line: &mut Line, value: u64)
+pub fn add_number(line: &mut Line, value: u64)
     requires { length line.old + 21 ≤ 128 }
     ensures text { line.new ≡ line.old ++ 32 ∷ decimal value }
     ensures room { length line.new ≤ length line.old + 21 }
@@ -71,7 +71,7 @@ fn add_number(line: &mut Line, value: u64)
 }
 
 /// Appends a month behind a space.
-fn add_month(line: &mut Line, month: Month)
+pub fn add_month(line: &mut Line, month: Month)
     requires room { length line.old + 8 ≤ 128 }
     requires month { IsMonth month }
     ensures text { line.new ≡ line.old ++ 32 ∷ month_digits month }

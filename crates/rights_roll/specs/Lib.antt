@@ -5,3 +5,4 @@ pub mod SeniorityOrder
 pub mod Priorities
 pub mod Tables
 pub mod Zones
+pub mod Laws

@@ -8,6 +8,7 @@ use std::alloc::{AllocError, AllocFailed};
 use thiserror::Error;
 
 mod faults;
+pub mod laws;
 mod links;
 mod order;
 pub mod priority;

@@ -50,13 +50,13 @@ carry_most b month e is_month valid l =
     of_kind River h = omega arith
     of_kind (Canal per_day shut) h = open_or_shut (unwrap_or (slice_get shut (month.month - 1)) false) (per_day * days_of month) (product per_day (days_of month) h.0 (days_most month is_month))
 
-pub begun_small : (b : Basin) (month : Month) (want upper : List ℕ) → IsMonth month → IsValidBasin b → AreBounds b month want (λ a. slice_index upper a) →
+pub begun_small : (b : Basin) (month : Month) (want upper : List ℕ) → ((e : ℕ) → e < length b.links → carry_of b month e ≤ 10 ^ 15) → AreBounds b month want (λ a. slice_index upper a) →
     ((r : ℕ) → r < length b.rights → slice_index want r ≤ 10 ^ 9) → length upper ≡ arc_count b →
     (a : ℕ) → a < length upper → slice_index upper a ≤ 10 ^ 15
-begun_small b month want upper is_month valid are limits len a l = of_arc a (arc_is b a (omega arith))
+begun_small b month want upper carries are limits len a l = of_arc a (arc_is b a (omega arith))
   where
     of_arc : (a : ℕ) → IsArc b a → slice_index upper a ≤ 10 ^ 15
-    of_arc a (is_link k) = omega (arith, are.on_links a k, carry_most b month a is_month valid k)
+    of_arc a (is_link k) = omega (arith, are.on_links a k, carries a k)
     of_arc a (is_take r k h e) = subst (λ a. slice_index upper a ≤ 10 ^ 15) e (omega (arith, are.on_takes r k h, limits r k))
     of_arc a (is_out n k h e) = subst (λ a. slice_index upper a ≤ 10 ^ 15) e (omega (arith, are.on_outs n k h))
 
@@ -88,15 +88,15 @@ begun_flow b month supply want upper start c p ends are plan laid small =
     (λ a l. get_or-replicate {A = ℕ} (length c.from) a 0 0 l) laid.on_links laid.on_takes laid.on_outs small
 
 -- a month may start with these bounds and amounts
-pub start_is : (b : Basin) (month : Month) (supply want upper start : List ℕ) (c : Contents) (p : Plan) → IsMonth month → IsValidBasin b →
-    HasBasinEnds b (network c) → AreSupplies b supply → AreWants b month want → length upper ≡ arc_count b → length start ≡ arc_count b →
+pub start_is : (b : Basin) (month : Month) (supply want upper start : List ℕ) (c : Contents) (p : Plan) → ((e : ℕ) → e < length b.links → carry_of b month e ≤ 10 ^ 15) →
+    HasBasinEnds b (network c) → length supply ≡ length b.nodes → AreWants b month want → length upper ≡ arc_count b → length start ≡ arc_count b →
     AreBounds b month want (λ a. slice_index upper a) → AreAmounts b p (λ a. slice_index start a) → IsPlan b month supply want p →
     ((n : ℕ) → n < length b.nodes → slice_index p.out n ≤ 10 ^ 15) → IsStart c supply upper start
-start_is b month supply want upper start c p is_month valid ends supplies wants uppers starts are laid plan small = record {
-  supplies = supplies.count ∙ sym ends.nodes;
+start_is b month supply want upper start c p carries ends supplies wants uppers starts are laid plan small = record {
+  supplies = supplies ∙ sym ends.nodes;
   uppers = uppers ∙ sym ends.arcs;
   amounts = starts ∙ sym ends.arcs;
-  small = λ a l. begun_small b month want upper is_month valid are wants.small uppers a (let n = ends.arcs in omega arith);
+  small = λ a l. begun_small b month want upper carries are wants.small uppers a (let n = ends.arcs in omega arith);
   flow = begun_flow b month supply want upper start c p ends are plan laid small;
 }
 

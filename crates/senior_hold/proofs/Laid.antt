@@ -8,11 +8,10 @@ use Rattle.place_sums.proofs.Totals.{total_where_start}
 use Rattle.water_model.specs.Basin.{tail_of, head_of, is_outlet, taking_node}
 use Rattle.water_model.specs.Valid.{IsValidBasin}
 use Rattle.water_model.specs.declared.types.Basin.{Basin}
-use Rattle.water_model.proofs.Balance.{ends}
 use Rattle.circulation.specs.declared.Ends.{Ends}
 use Rattle.circulation.specs.Contents.{Contents, network}
 use Rattle.senior_hold.specs.MonthNetwork.{takes, take_arc, out_arc, HasBasinEnds}
-use Rattle.senior_hold.proofs.MonthArcs.{IsKind, on_link, at_node, right_kind, IsArc, is_link, is_take, is_out, arc_is}
+use Rattle.senior_hold.proofs.MonthArcs.{IsKind, on_link, at_node, AreKinds, IsArc, is_link, is_take, is_out, arc_is}
 use Rattle.senior_hold.specs.Arcs.{AreEnds, AreEndsOf}
 use Rattle.senior_hold.proofs.WayOut.{ranks}
 use Rattle.senior_hold.proofs.Lists.{get_before, get_last, pushed_count}
@@ -24,7 +23,7 @@ froms es = map (λ e. e.from) es
 abbrev pub tos : List Ends → List ℕ
 tos es = map (λ e. e.to) es
 
-abbrev end_at : ℕ → ℕ → Ends
+abbrev pub end_at : ℕ → ℕ → Ends
 end_at from to = record { from = from; to = to }
 
 pub laid_start : (b : Basin) (es : List Ends) → es ≡ [] → AreEndsOf b es 0 0 0
@@ -143,9 +142,11 @@ laid_ends b es c laid nodes from to = record {
     to_outside r l (Some v) e h = ap (λ (xs : List ℕ). slice_index xs (take_arc b r)) to ∙ to_at es (take_arc b r) _ _ (laid.take r v l e)
 
 -- the ends are nodes and differ
-pub laid_fits : (b : Basin) (es : List Ends) (nodes : ℕ) → nodes ≡ length b.nodes → IsValidBasin b → AreEnds b es →
+pub laid_fits : (b : Basin) (es : List Ends) (nodes : ℕ) → nodes ≡ length b.nodes →
+    ((e : ℕ) → e < length b.links → (tail_of b e < length b.nodes) × (head_of b e < length b.nodes)) →
+    ((e : ℕ) → e < length b.links → tail_of b e ≢ head_of b e) → AreKinds b → AreEnds b es →
     All (λ e. (e.from ≤ nodes) × (e.to ≤ nodes) × (e.from ≢ e.to)) es
-laid_fits b es nodes is valid laid a d l = of_arc a d (arc_is b a (let s = laid.count in omega arith))
+laid_fits b es nodes is within apart kinds laid a d l = of_arc a d (arc_is b a (let s = laid.count in omega arith))
   where
     at : (a : ℕ) (d : Ends) (from to : ℕ) → slice_get es a ≡ Some (end_at from to) → from < nodes → to ≤ nodes → from ≢ to → (get_or es a d).from ≤ nodes × (get_or es a d).to ≤ nodes × ((get_or es a d).from ≢ (get_or es a d).to)
     at a d from to h f t ne =
@@ -154,12 +155,16 @@ laid_fits b es nodes is valid laid a d l = of_arc a d (arc_is b a (let s = laid.
 
     of_arc : (a : ℕ) (d : Ends) → IsArc b a → (get_or es a d).from ≤ nodes × (get_or es a d).to ≤ nodes × ((get_or es a d).from ≢ (get_or es a d).to)
     of_arc a d (is_link k) =
-        let e = ends b valid a k in let up = (ranks b valid).forward.runs a k in
-        at a d (tail_of b a) (head_of b a) (laid.link a k) (let t = e.0 in omega arith) (let h = e.1 in omega arith) (λ s. let q = ap (ranks b valid).rank s in absurd (omega arith))
-    of_arc a d (is_take r k h e) = subst (λ a. (get_or es a d).from ≤ nodes × (get_or es a d).to ≤ nodes × ((get_or es a d).from ≢ (get_or es a d).to)) e (of_kind (right_kind b valid r k))
+        let e = within a k in
+        at a d (tail_of b a) (head_of b a) (laid.link a k) (let t = e.0 in omega arith) (let h = e.1 in omega arith) (apart a k)
+    of_arc a d (is_take r k h e) = subst (λ a. (get_or es a d).from ≤ nodes × (get_or es a d).to ≤ nodes × ((get_or es a d).from ≢ (get_or es a d).to)) e (of_kind (kinds r k))
       where
         of_kind : IsKind b r → (get_or es (take_arc b r) d).from ≤ nodes × (get_or es (take_arc b r) d).to ≤ nodes × ((get_or es (take_arc b r) d).from ≢ (get_or es (take_arc b r) d).to)
         of_kind (on_link f m i t) = absurd (let s = sym (ap is_some t) ∙ h in cc (s))
         of_kind (at_node v m i t) = at (take_arc b r) d v (length b.nodes) (laid.take r v k t) (omega arith) (omega arith) (λ s. absurd (omega arith))
     of_arc a d (is_out n k h e) = subst (λ a. (get_or es a d).from ≤ nodes × (get_or es a d).to ≤ nodes × ((get_or es a d).from ≢ (get_or es a d).to)) e
         (at (out_arc b n) d n (length b.nodes) (laid.out n k h) (omega arith) (omega arith) (λ s. absurd (omega arith)))
+
+-- no link leads back to its tail
+pub links_apart : (b : Basin) → IsValidBasin b → (e : ℕ) → e < length b.links → tail_of b e ≢ head_of b e
+links_apart b valid e l = λ s. let up = (ranks b valid).forward.runs e l in let q = ap (ranks b valid).rank s in absurd (omega arith)

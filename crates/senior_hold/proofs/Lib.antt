@@ -14,3 +14,6 @@ pub mod Begins
 pub mod Solves
 pub mod Turns
 pub mod Rivers
+pub mod Spilled
+pub mod TreeServes
+pub mod SettledPlans

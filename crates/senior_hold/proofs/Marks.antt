@@ -105,6 +105,13 @@ is_unreached v n p t l both h = grind (arith, nat_tests)
 pub is_reached : (v n p : ℕ) (t : Bool) → (IsTrue t ↔ (0 < p)) → t ≡ true → nat_lt v n && (p == 0) ≡ false
 is_reached v n p t both h = grind (arith, nat_tests)
 
+-- a node is dry where its word is 0
+pub is_dry_node : (v n p : ℕ) (t : Bool) → v < n → (IsTrue t ↔ (p ≡ 0)) → t ≡ true → nat_lt v n && (p == 0) ≡ true
+is_dry_node v n p t l both h = grind (arith, nat_tests)
+
+pub is_wet_node : (v n p : ℕ) (t : Bool) → (IsTrue t ↔ (p ≡ 0)) → t ≡ false → nat_lt v n && (p == 0) ≡ false
+is_wet_node v n p t both h = grind (arith, nat_tests)
+
 -- no right loses its room
 pub room_stays : (c : CutSets) (r q : ℕ) → has_room c q ≡ true → has_room (with_room c r) q ≡ true
 room_stays c r q h = stays c.room r q h

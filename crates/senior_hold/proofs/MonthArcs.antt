@@ -74,6 +74,10 @@ right_kind b valid r l = of_kind k.kind k.link k.node k.place
         let entry = entry_holds (λ v. IsValidReservoir b v) b.reservoirs reservoir valid.reservoirs h.0 in
         at_node entry.0.node entry.2.node i (t ∙ ap (λ o. unwrap_or (option_map (λ x. Some x.node) o) None) entry.1)
 
+-- what each right is
+abbrev pub AreKinds : Basin → Type 0
+AreKinds b = (r : ℕ) → r < length b.rights → IsKind b r
+
 when_none : (t : Bool) (x : ℕ) → t ≡ false → (if t then x else 0) ≡ 0
 when_none t x h = rw h refl
 

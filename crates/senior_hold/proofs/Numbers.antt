@@ -9,7 +9,7 @@ use Rattle.water_model.specs.Basin.{is_outlet}
 use Rattle.water_model.specs.Valid.{IsValidBasin}
 use Rattle.water_model.specs.declared.types.Basin.{Basin}
 use Rattle.water_model.specs.declared.types.Plan.{Plan}
-use Rattle.senior_hold.specs.MonthNetwork.{takes, take_arc, out_arc, right_arc, arc_by_link, arc_count, list_of}
+use Rattle.senior_hold.specs.MonthNetwork.{takes, take_arc, out_arc, right_arc, arc_by_link, taker_count, arc_count, list_of}
 use Rattle.senior_hold.specs.Arcs.{AreArcs, AreAmountsOf}
 use Rattle.senior_hold.specs.declared.arcs.Arcs.{Arcs}
 use Rattle.senior_hold.proofs.MonthArcs.{IsKind, on_link, at_node, right_kind, take_arc_below, out_arc_below, take_arc_apart}
@@ -31,7 +31,7 @@ pub out_arc_read : (b : Basin) (arcs : Arcs) (n got : ℕ) → AreArcs b arcs �
 out_arc_read b arcs n got are l at = at ∙ get_or_default_zero arcs.outs.items n got (let c = are.out_count in omega arith) ∙ are.out n l
 
 -- it is among the arcs
-pub takes_arc_in : (b : Basin) (r arc : ℕ) → IsValidBasin b → r < length b.rights → takes b r ≡ true → arc ≡ right_arc b r → arc < arc_count b
+pub takes_arc_in : (b : Basin) (r arc : ℕ) → IsValidBasin b → r < length b.rights → takes b r ≡ true → arc ≡ right_arc b r → arc < length b.links + taker_count b
 takes_arc_in b r arc valid l h is = omega (arith, is, takes_arc b r valid l h, take_arc_below b r l h)
 
 pub outs_arc_in : (b : Basin) (n arc : ℕ) → n < length b.nodes → is_outlet b n ≡ true → arc ≡ out_arc b n → arc < arc_count b

@@ -3,13 +3,12 @@ use Rattle.std.proofs.Common.{◌≡◌, ◌≢◌, ℕ, ◌+◌, ◌<◌, ◌�
 use Rattle.std.proofs.lemmas.Bool.{cases_eq}
 use Rattle.std.proofs.lemmas.Bool.Decides.{nat_tests}
 use Rattle.std.proofs.lemmas.List.{length-set}
-use Rattle.std.specs.Prelude.{◌&&◌, slice_index, slice_set, max, min, nat_lt, Some, ◌⊎◌}
+use Rattle.std.specs.Prelude.{◌&&◌, slice_index, slice_set, max, min, nat_lt, Some, None, ◌⊎◌}
 use Rattle.place_sums.specs.Sums.{when, greatest_where}
 use Rattle.place_sums.proofs.Totals.{greatest_where_le, greatest_same_tests}
 use Rattle.water_model.specs.Basin.{is_senior, is_on_link}
 use Rattle.water_model.specs.CutSets.{CutSets, set_of, with_set, with_room}
 use Rattle.water_model.specs.Laws.{AreDeliveries}
-use Rattle.water_model.specs.Valid.{IsValidBasin}
 use Rattle.water_model.specs.RunOfRiver.{IsRunOfRiver}
 use Rattle.water_text.specs.declared.month.Month.{Month}
 use Rattle.water_model.specs.declared.types.Basin.{Basin}
@@ -19,7 +18,7 @@ use Rattle.circulation.specs.Network.{Network, IsFlow}
 use Rattle.augment.specs.Raised.{IsGreatestCut}
 use Rattle.senior_hold.specs.MonthNetwork.{take_arc, out_arc, right_arc, arc_count, HasBasinEnds, IsMonthNetwork, Holds, plan_of}
 use Rattle.senior_hold.specs.Layouts.{IsBegun}
-use Rattle.senior_hold.proofs.MonthArcs.{right_kind, take_arc_below, out_arc_below}
+use Rattle.senior_hold.proofs.MonthArcs.{AreKinds, take_arc_below, out_arc_below}
 use Rattle.senior_hold.proofs.Bridge.{greatest_reach}
 use Rattle.senior_hold.proofs.Plans.{delivery_is, right_arc_in}
 use Rattle.senior_hold.proofs.Sweeps.{got, swept_same, swept_next, swept_greatest, settled_stays}
@@ -28,7 +27,7 @@ use Rattle.water_model.specs.Lookups.{has}
 use Rattle.water_model.specs.Plans.{IsGreatest, delivery}
 use Rattle.rights_roll.specs.SeniorityOrder.{IsSeniorityOrder}
 use Rattle.senior_hold.specs.Serving.{IsServed, SameEnds}
-use Rattle.senior_hold.specs.Solved.{IsSolved, IsGiven, IsSettled}
+use Rattle.senior_hold.specs.Solved.{IsSolved, IsGiven, IsSettled, FitsCuts}
 use Rattle.senior_hold.proofs.Swept.{delivered_by, deliveries_by, IsSwept}
 
 -- how a month stands after the first k rights
@@ -45,30 +44,38 @@ never_below m = grind (arith, nat_tests)
 no_second : (p q : Bool) → q ≡ false → p && q ≡ true → ⊥
 no_second p q h i = grind (arith, nat_tests)
 
-pub standing_start : (b : Basin) (month : Month) (supply want order : List ℕ) (c : Contents) (cuts : CutSets) (p q : Plan) →
-    IsBegun b month supply want c p → IsGiven b month supply want q cuts → IsStanding b month supply want order 0 c cuts
-standing_start b month supply want order c cuts p q begun given = record {
-  net = begun.net;
-  size = begun.size;
+-- before any right is served no arc is held
+pub standing_first : (b : Basin) (month : Month) (supply want order : List ℕ) (c : Contents) (cuts : CutSets) →
+    IsMonthNetwork b month supply want (network c) → IsFlow (network c) (flow_of c) → length c.lower ≡ arc_count b →
+    ((a : ℕ) → a < arc_count b → slice_index c.lower a ≡ 0) → FitsCuts b cuts → ((r : ℕ) → r < length b.rights → set_of cuts r ≡ None) →
+    IsStanding b month supply want order 0 c cuts
+standing_first b month supply want order c cuts net is_flow size free fits_cuts no_sets = record {
+  net = net;
+  size = size;
   swept = λ o. record {
-    flow = begun.is_flow;
+    flow = is_flow;
     held = record {
-      on_links = λ e l. begun.free e (omega arith) ∙ (let most = greatest_where_le (length b.rights) (λ s. is_on_link b s e && nat_lt (o.place s) 0) (λ s. slice_index (deliveries_by b want (flow_of c)) s) 0
+      on_links = λ e l. free e (omega arith) ∙ (let most = greatest_where_le (length b.rights) (λ s. is_on_link b s e && nat_lt (o.place s) 0) (λ s. slice_index (deliveries_by b want (flow_of c)) s) 0
           (λ s k h. absurd (no_second (is_on_link b s e) (nat_lt (o.place s) 0) (never_below (o.place s)) h)) in zero (greatest_where (length b.rights) (λ s. is_on_link b s e && nat_lt (o.place s) 0) (λ s. slice_index (deliveries_by b want (flow_of c)) s)) most);
-      on_takes = λ r l h. begun.free (take_arc b r) (omega (arith, take_arc_below b r l h)) ∙ sym (ap (λ t. when t (slice_index (deliveries_by b want (flow_of c)) r)) (never_below (o.place r)));
-      on_outs = λ n l h. begun.free (out_arc b n) (out_arc_below b n l h);
+      on_takes = λ r l h. free (take_arc b r) (omega (arith, take_arc_below b r l h)) ∙ sym (ap (λ t. when t (slice_index (deliveries_by b want (flow_of c)) r)) (never_below (o.place r)));
+      on_outs = λ n l h. free (out_arc b n) (out_arc_below b n l h);
     };
     settled = λ r l below. absurd (omega arith);
-    others = λ r l above. given.no_sets r l;
+    others = λ r l above. no_sets r l;
   };
-  cut_nodes = given.fits_cuts.nodes;
-  cut_rights = given.fits_cuts.rights;
+  cut_nodes = fits_cuts.nodes;
+  cut_rights = fits_cuts.rights;
 }
   where
     zero : (x : ℕ) → x ≤ 0 → 0 ≡ x
     zero x h = omega arith
 
-abbrev changed : Contents → List ℕ → List ℕ → List ℕ → Contents
+pub standing_start : (b : Basin) (month : Month) (supply want order : List ℕ) (c : Contents) (cuts : CutSets) (p q : Plan) →
+    IsBegun b month supply want c p → IsGiven b month supply want q cuts → IsStanding b month supply want order 0 c cuts
+standing_start b month supply want order c cuts p q begun given =
+    standing_first b month supply want order c cuts begun.net begun.is_flow begun.size begun.free given.fits_cuts given.no_sets
+
+abbrev pub changed : Contents → List ℕ → List ℕ → List ℕ → Contents
 changed old f s lower = record old { flow = f; scratch = s; lower = lower }
 
 net_kept : (b : Basin) (month : Month) (supply want : List ℕ) (c : Contents) (f s lower : List ℕ) → IsMonthNetwork b month supply want (network c) →
@@ -116,17 +123,17 @@ holds_seniors b order d o r k w l at held = record {
     test : (s : ℕ) → s < length b.rights → nat_lt (o.place s) k ≡ is_senior b s r
     test s n = sym (o.senior s r n l ∙ ap (nat_lt (o.place s)) at)
 
-served_next : (b : Basin) (month : Month) (supply want order : List ℕ) (k r arc amount : ℕ) (c : Contents) (f s : List ℕ) (cuts after : CutSets) → IsValidBasin b →
+served_next : (b : Basin) (month : Month) (supply want order : List ℕ) (k r arc amount : ℕ) (c : Contents) (f s : List ℕ) (cuts after : CutSets) → AreKinds b →
     k < length b.rights → r ≡ slice_index order k → IsSeniorityOrder b.rights order → IsStanding b month supply want order k c cuts → arc ≡ right_arc b r → amount ≡ slice_index want r →
     IsFlow (network (changed c f s (slice_set c.lower arc (max (slice_index c.lower arc) (min amount (slice_index f arc)))))) (λ a. slice_index f a) →
     (((amount ≤ slice_index f arc) × (after ≡ cuts))
     ⊎ ((slice_index f arc < amount) × ((cut : List Bool) × ((after ≡ with_room (with_set cuts r (Some cut)) r) × ((length cut ≡ c.nodes) × IsGreatestCut (network c) (λ a. slice_index f a) arc (has cut)))))) →
     IsStanding b month supply want order (k + 1) (changed c f s (slice_set c.lower arc (max (slice_index c.lower arc) (min amount (slice_index f arc))))) after
-served_next b month supply want order k r arc amount c f s cuts after valid l at order_is now arc_is amount_is flow outcome = record {
+served_next b month supply want order k r arc amount c f s cuts after kinds l at order_is now arc_is amount_is flow outcome = record {
   net = net_kept b month supply want c f s (slice_set c.lower arc (max (slice_index c.lower arc) (min amount (slice_index f arc)))) now.net;
   size = length-set c.lower arc (max (slice_index c.lower arc) (min amount (slice_index f arc))) ∙ now.size;
   swept = λ o. swept_next b month supply want order o k r (min amount (slice_index f arc)) (network c) (network (changed c f s (slice_set c.lower arc (max (slice_index c.lower arc) (min amount (slice_index f arc))))))
-      (λ a. slice_index f a) cuts after valid l at (before o) is_amount flow raised rest (others outcome) (settled o outcome);
+      (λ a. slice_index f a) cuts after kinds l at (before o) is_amount flow raised rest (others outcome) (settled o outcome);
   cut_nodes = nodes outcome;
   cut_rights = rights outcome;
 }
@@ -141,10 +148,10 @@ served_next b month supply want order k r arc amount c f s cuts after valid l at
     place_is o = ap o.place at ∙ o.placed k l
 
     inside : arc < length c.lower
-    inside = let n = now.size in omega (arith, arc_is, right_arc_in b r (r_in order_is) (right_kind b valid r (r_in order_is)))
+    inside = let n = now.size in omega (arith, arc_is, right_arc_in b r (r_in order_is) (kinds r (r_in order_is)))
 
     before : (o : IsSeniorityOrder b.rights order) → IsSwept b month supply want o.place k (network c) (λ a. slice_index f a) cuts
-    before o = swept_same b month supply want order o k (network c) (flow_of c) (λ a. slice_index f a) cuts valid now.net (now.swept o)
+    before o = swept_same b month supply want order o k (network c) (flow_of c) (λ a. slice_index f a) cuts kinds now.net (now.swept o)
         (flow_kept c f s arc (min amount (slice_index f arc)) inside flow)
 
     is_amount : min amount (slice_index f arc) ≡ delivered_by b want (λ a. slice_index f a) r
@@ -191,34 +198,34 @@ served_next b month supply want order k r arc amount c f s cuts after valid l at
             (
               ap (λ (d : CutSets). set_of d r) short.1.1.0 ∙ set_of_with cuts r (Some short.1.0) (let n = now.cut_rights in omega (arith, r_in o)),
               greatest_reach b month supply want (deliveries_by b want g) (network c) g r short.1.0 now.net
-                  (holds_seniors b order (deliveries_by b want g) o r k (network c) (r_in o) (place_is o) (before o).held) (r_in o) (right_kind b valid r (r_in o))
+                  (holds_seniors b order (deliveries_by b want g) o r k (network c) (r_in o) (place_is o) (before o).held) (r_in o) (kinds r (r_in o))
                   (ap (slice_index f) (sym arc_is) ∙ sym d) (short.1.1.1.0 ∙ now.net.ends.nodes)
                   (subst (λ a. IsGreatestCut (network c) g a (has short.1.0)) arc_is short.1.1.1.1),
             ),
           ),
         )
 
-pub standing_next : (b : Basin) (month : Month) (supply want order : List ℕ) (k r arc amount : ℕ) (c new : Contents) (cuts after : CutSets) → IsValidBasin b →
+pub standing_next : (b : Basin) (month : Month) (supply want order : List ℕ) (k r arc amount : ℕ) (c new : Contents) (cuts after : CutSets) → AreKinds b →
     k < length b.rights → r ≡ slice_index order k → IsSeniorityOrder b.rights order → IsStanding b month supply want order k c cuts → arc ≡ right_arc b r → amount ≡ slice_index want r →
     IsServed c new arc amount cuts after r → IsCirculation new → IsStanding b month supply want order (k + 1) new after
-standing_next b month supply want order k r arc amount c new cuts after valid l at order_is now arc_is amount_is served kept =
+standing_next b month supply want order k r arc amount c new cuts after kinds l at order_is now arc_is amount_is served kept =
     subst (λ (x : Contents). IsStanding b month supply want order (k + 1) x after) (sym served.held)
-    (served_next b month supply want order k r arc amount c new.flow new.scratch cuts after valid l at order_is now arc_is amount_is
+    (served_next b month supply want order k r arc amount c new.flow new.scratch cuts after kinds l at order_is now arc_is amount_is
     (subst (λ (x : Contents). IsFlow (network x) (flow_of new)) served.held kept.flow) served.outcome)
 
 -- when all are served the month is solved
-pub standing_end : (b : Basin) (month : Month) (supply want order : List ℕ) (c first : Contents) (cuts : CutSets) (p q : Plan) → IsValidBasin b → IsSeniorityOrder b.rights order →
+pub standing_end : (b : Basin) (month : Month) (supply want order : List ℕ) (c first : Contents) (cuts : CutSets) (p q : Plan) → AreKinds b → IsSeniorityOrder b.rights order →
     IsStanding b month supply want order (length b.rights) c cuts → p ≡ plan_of b (flow_of c) → IsBegun b month supply want first q → (length b.rights ≡ 0 → c ≡ first) →
     IsSolved b month supply want p cuts
-standing_end b month supply want order c first cuts p q valid o now is begun none = record {
-  greatest = subst (IsGreatest b month supply want) (sym is) (swept_greatest b month supply want order o (network c) (flow_of c) cuts valid now.net (now.swept o));
+standing_end b month supply want order c first cuts p q kinds o now is begun none = record {
+  greatest = subst (IsGreatest b month supply want) (sym is) (swept_greatest b month supply want order o (network c) (flow_of c) cuts kinds now.net (now.swept o));
   settled = λ delivered are r l. settled_stays b month supply want (deliveries_by b want (flow_of c)) delivered cuts cuts r l (same delivered are r l) (λ s m senior. same delivered are s m) refl
       ((now.swept o).settled r l (o.in_range r l));
   river = λ h. subst (IsRunOfRiver b supply) (sym (is ∙ (ap (λ (x : Contents). plan_of b (flow_of x)) (none h) ∙ begun.same))) begun.run;
 }
   where
     same : (delivered : List ℕ) → AreDeliveries b want p delivered → (r : ℕ) → r < length b.rights → slice_index (deliveries_by b want (flow_of c)) r ≡ slice_index delivered r
-    same delivered are r l = got b want (flow_of c) r l ∙ (sym (delivery_is b month supply want (network c) (flow_of c) r now.net (now.swept o).flow l (right_kind b valid r l))
+    same delivered are r l = got b want (flow_of c) r l ∙ (sym (delivery_is b month supply want (network c) (flow_of c) r now.net (now.swept o).flow l (kinds r l))
         ∙ (ap (λ (x : Plan). delivery b want x r) (sym is) ∙ sym (are.each r l)))
 
 -- the ends are as before

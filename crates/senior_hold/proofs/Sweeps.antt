@@ -8,7 +8,6 @@ use Rattle.place_sums.proofs.Totals.{term_le_greatest, greatest_same_tests, grea
 use Rattle.water_model.specs.Basin.{is_outlet, is_on_link, is_at, is_senior}
 use Rattle.water_model.specs.Cuts.{IsReach, IsTight}
 use Rattle.water_model.specs.CutSets.{CutSets, set_of}
-use Rattle.water_model.specs.Valid.{IsValidBasin}
 use Rattle.water_text.specs.declared.month.Month.{Month}
 use Rattle.water_model.specs.declared.types.Basin.{Basin}
 use Rattle.water_model.proofs.Duality.{cut_slack}
@@ -16,7 +15,7 @@ use Rattle.water_model.proofs.Stays.{tight_stays, greatest_same_terms}
 use Rattle.water_model.proofs.Greatest.{cuts_make_plan_greatest}
 use Rattle.circulation.specs.Network.{Network, IsFlow}
 use Rattle.senior_hold.specs.MonthNetwork.{takes, take_arc, out_arc, right_arc, arc_by_link, arc_count, IsMonthNetwork, plan_of}
-use Rattle.senior_hold.proofs.MonthArcs.{IsKind, on_link, at_node, right_kind, take_arc_below, out_arc_below, take_arc_apart}
+use Rattle.senior_hold.proofs.MonthArcs.{IsKind, on_link, at_node, AreKinds, take_arc_below, out_arc_below, take_arc_apart}
 use Rattle.senior_hold.proofs.Plans.{list_get, plan_is, delivery_is, right_arc_in}
 use Rattle.water_model.specs.Plans.{delivery, IsGreatest}
 use Rattle.rights_roll.specs.SeniorityOrder.{IsSeniorityOrder}
@@ -59,17 +58,17 @@ lower_holds b month supply want place k w g cuts swept r l served (at_node v m i
 
 -- in every flow within the bounds, the rights that were served are delivered the same
 kept_below : (b : Basin) (month : Month) (supply want order : List ℕ) (o : IsSeniorityOrder b.rights order) (k : ℕ) (w : Network) (g h : ℕ → ℕ) (cuts : CutSets) →
-    IsValidBasin b → IsMonthNetwork b month supply want w → IsSwept b month supply want o.place k w g cuts → IsFlow w h →
+    AreKinds b → IsMonthNetwork b month supply want w → IsSwept b month supply want o.place k w g cuts → IsFlow w h →
     (i : ℕ) → i ≤ k → (r : ℕ) → r < length b.rights → o.place r < i → delivered_by b want h r ≡ delivered_by b want g r
-kept_below b month supply want order o k w g h cuts valid net swept flow zero le r l below = absurd (omega arith)
-kept_below b month supply want order o k w g h cuts valid net swept flow (suc i) le r l below =
+kept_below b month supply want order o k w g h cuts kinds net swept flow zero le r l below = absurd (omega arith)
+kept_below b month supply want order o k w g h cuts kinds net swept flow (suc i) le r l below =
     elim (cases_lt (o.place r) i) [
-      | inl before ↦ kept_below b month supply want order o k w g h cuts valid net swept flow i (omega arith) r l before
-      | inr last ↦ here (kept_below b month supply want order o k w g h cuts valid net swept flow i (omega arith)) (omega arith)
+      | inl before ↦ kept_below b month supply want order o k w g h cuts kinds net swept flow i (omega arith) r l before
+      | inr last ↦ here (kept_below b month supply want order o k w g h cuts kinds net swept flow i (omega arith)) (omega arith)
     ]
   where
     kind : (s : ℕ) → s < length b.rights → IsKind b s
-    kind = right_kind b valid
+    kind = kinds
 
     least : delivered_by b want g r ≤ delivered_by b want h r
     least = let held = lower_holds b month supply want o.place k w g cuts swept r l (omega arith) (kind r l) in
@@ -116,9 +115,9 @@ settled_stays b month supply want d d' cuts new r l own seniors sets (inr short)
 
 -- any other flow within the bounds serves as well
 pub swept_same : (b : Basin) (month : Month) (supply want order : List ℕ) (o : IsSeniorityOrder b.rights order) (k : ℕ) (w : Network) (g h : ℕ → ℕ) (cuts : CutSets) →
-    IsValidBasin b → IsMonthNetwork b month supply want w → IsSwept b month supply want o.place k w g cuts → IsFlow w h →
+    AreKinds b → IsMonthNetwork b month supply want w → IsSwept b month supply want o.place k w g cuts → IsFlow w h →
     IsSwept b month supply want o.place k w h cuts
-swept_same b month supply want order o k w g h cuts valid net swept flow = record {
+swept_same b month supply want order o k w g h cuts kinds net swept flow = record {
   flow = flow;
   held = record {
     on_links = λ e l. swept.held.on_links e l ∙ greatest_same_terms (length b.rights) (λ s. is_on_link b s e && nat_lt (o.place s) k)
@@ -135,7 +134,7 @@ swept_same b month supply want order o k w g h cuts valid net swept flow = recor
 }
   where
     same : (r : ℕ) → r < length b.rights → o.place r < k → slice_index (deliveries_by b want g) r ≡ slice_index (deliveries_by b want h) r
-    same r l below = omega (arith, got b want g r l, got b want h r l, kept_below b month supply want order o k w g h cuts valid net swept flow k (omega arith) r l below)
+    same r l below = omega (arith, got b want g r l, got b want h r l, kept_below b month supply want order o k w g h cuts kinds net swept flow k (omega arith) r l below)
 
     when_same : (t : Bool) (x y : ℕ) → (t ≡ true → x ≡ y) → when t x ≡ when t y
     when_same true x y e = e refl
@@ -143,16 +142,16 @@ swept_same b month supply want order o k w g h cuts valid net swept flow = recor
 
 -- the next right is held and settled
 pub swept_next : (b : Basin) (month : Month) (supply want order : List ℕ) (o : IsSeniorityOrder b.rights order) (k r amount : ℕ) (w w' : Network) (g : ℕ → ℕ)
-    (cuts new : CutSets) → IsValidBasin b → k < length b.rights → r ≡ slice_index order k →
+    (cuts new : CutSets) → AreKinds b → k < length b.rights → r ≡ slice_index order k →
     IsSwept b month supply want o.place k w g cuts → amount ≡ delivered_by b want g r → IsFlow w' g →
     w'.lower (right_arc b r) ≡ max (w.lower (right_arc b r)) amount →
     ((a : ℕ) → a < arc_count b → a ≢ right_arc b r → w'.lower a ≡ w.lower a) →
     ((s : ℕ) → s < length b.rights → s ≢ r → set_of new s ≡ set_of cuts s) →
     IsSettled b month supply want (deliveries_by b want g) new r →
     IsSwept b month supply want o.place (k + 1) w' g new
-swept_next b month supply want order o k r amount w w' g cuts new valid l at swept is flow raised rest sets settled = record {
+swept_next b month supply want order o k r amount w w' g cuts new kinds l at swept is flow raised rest sets settled = record {
   flow = flow;
-  held = record { on_links = on_links (right_kind b valid r r_in); on_takes = on_takes (right_kind b valid r r_in); on_outs = on_outs (right_kind b valid r r_in) };
+  held = record { on_links = on_links (kinds r r_in); on_takes = on_takes (kinds r r_in); on_outs = on_outs (kinds r r_in) };
   settled = λ s m below. elim (cases_eq s r) [
     | inl e ↦ subst (IsSettled b month supply want d new) (sym e) settled
     | inr ne ↦ settled_stays b month supply want d d cuts new s m refl (λ t n i. refl) (sets s m ne) (swept.settled s m (earlier s m ne below))
@@ -268,11 +267,11 @@ swept_next b month supply want order o k r amount w w' g cuts new valid l at swe
 
 -- when all rights are served, the plan of the flow is greatest
 pub swept_greatest : (b : Basin) (month : Month) (supply want order : List ℕ) (o : IsSeniorityOrder b.rights order) (w : Network) (g : ℕ → ℕ) (cuts : CutSets) →
-    IsValidBasin b → IsMonthNetwork b month supply want w → IsSwept b month supply want o.place (length b.rights) w g cuts →
+    AreKinds b → IsMonthNetwork b month supply want w → IsSwept b month supply want o.place (length b.rights) w g cuts →
     IsGreatest b month supply want (plan_of b g)
-swept_greatest b month supply want order o w g cuts valid net swept =
+swept_greatest b month supply want order o w g cuts kinds net swept =
     cuts_make_plan_greatest b month supply want (deliveries_by b want g) (plan_of b g) (plan_is b month supply want w g net swept.flow)
-    (record { each = λ r l. got b want g r l ∙ sym (delivery_is b month supply want w g r net swept.flow l (right_kind b valid r l)) })
+    (record { each = λ r l. got b want g r l ∙ sym (delivery_is b month supply want w g r net swept.flow l (kinds r l)) })
     (λ r l. of_settled r (swept.settled r l (o.in_range r l)))
   where
     of_settled : (r : ℕ) → IsSettled b month supply want (deliveries_by b want g) cuts r →

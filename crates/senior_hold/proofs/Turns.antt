@@ -9,7 +9,7 @@ use Rattle.water_model.specs.declared.types.Basin.{Basin}
 use Rattle.circulation.specs.Contents.{Contents, network, arcs}
 use Rattle.augment.specs.Raised.{HasWayOut}
 use Rattle.senior_hold.specs.MonthNetwork.{right_arc}
-use Rattle.senior_hold.proofs.MonthArcs.{right_kind}
+use Rattle.senior_hold.proofs.MonthArcs.{right_kind, AreKinds}
 use Rattle.senior_hold.proofs.Numbers.{right_arc_read}
 use Rattle.senior_hold.proofs.Plans.{right_arc_in, want_fits}
 use Rattle.senior_hold.proofs.WayOut.{way_out}
@@ -51,14 +51,14 @@ turn b order items all o k arc are same l at = record {
     in_range : slice_index items k < length b.rights
     in_range = let n = o.below k below in omega (arith, is)
 
-pub turn_arc : (b : Basin) (month : Month) (supply want order : List ℕ) (k r arc : ℕ) (c : Contents) (cuts : CutSets) → IsValidBasin b → IsTurn b order k r arc →
+pub turn_arc : (b : Basin) (month : Month) (supply want order : List ℕ) (k r arc : ℕ) (c : Contents) (cuts : CutSets) → AreKinds b → IsTurn b order k r arc →
     IsStanding b month supply want order k c cuts → arc < length c.from
-turn_arc b month supply want order k r arc c cuts valid t now = let n = now.net.ends.arcs in omega (arith, t.arc_is, right_arc_in b r t.in_range (right_kind b valid r t.in_range))
+turn_arc b month supply want order k r arc c cuts kinds t now = let n = now.net.ends.arcs in omega (arith, t.arc_is, right_arc_in b r t.in_range (kinds r t.in_range))
 
-pub turn_want : (b : Basin) (month : Month) (supply want order : List ℕ) (k r arc : ℕ) (c : Contents) (cuts : CutSets) → IsValidBasin b → IsTurn b order k r arc → AreWants b month want →
+pub turn_want : (b : Basin) (month : Month) (supply want order : List ℕ) (k r arc : ℕ) (c : Contents) (cuts : CutSets) → AreKinds b → IsTurn b order k r arc → AreWants b month want →
     IsStanding b month supply want order k c cuts → slice_index want r ≤ slice_index c.upper arc
-turn_want b month supply want order k r arc c cuts valid t fit now =
-    subst (λ a. slice_index want r ≤ slice_index c.upper a) (sym t.arc_is) (want_fits b month supply want (network c) r now.net fit t.in_range (right_kind b valid r t.in_range))
+turn_want b month supply want order k r arc c cuts kinds t fit now =
+    subst (λ a. slice_index want r ≤ slice_index c.upper a) (sym t.arc_is) (want_fits b month supply want (network c) r now.net fit t.in_range (kinds r t.in_range))
 
 pub turn_way_out : (b : Basin) (month : Month) (supply want order : List ℕ) (k r arc : ℕ) (c : Contents) (cuts : CutSets) → IsValidBasin b → IsTurn b order k r arc →
     total (length b.nodes) (λ v. slice_index supply v) < 4 * 10 ^ 13 → IsStanding b month supply want order k c cuts → HasWayOut (network c) arc
@@ -70,11 +70,11 @@ pub turn_free : (b : Basin) (month : Month) (supply want order : List ℕ) (o : 
 turn_free b month supply want order o k r arc c cuts t now = (now.swept o).others r t.in_range (let p = ap o.place t.is ∙ o.placed k t.below in omega arith)
 
 -- the cost of one turn more
-pub one_more : (a arcs k before now after : ℕ) → arcs ≡ a → now ≤ before + k * (30 * (2 * a + 2)) → after ≤ now + 30 * (2 * arcs + 2) →
-    after ≤ before + (k + 1) * (30 * (2 * a + 2))
+pub one_more : (a arcs k before now after : ℕ) → arcs ≡ a → now ≤ before + k * (30 * (2 * a + 1)) → after ≤ now + 30 * (2 * arcs + 1) →
+    after ≤ before + (k + 1) * (30 * (2 * a + 1))
 one_more a arcs k before now after same so_far turn =
-    let t : after ≤ now + 30 * (2 * a + 2) = subst (λ n. after ≤ now + 30 * (2 * n + 2)) same turn in
-    sum before k (30 * (2 * a + 2)) now after so_far t
+    let t : after ≤ now + 30 * (2 * a + 1) = subst (λ n. after ≤ now + 30 * (2 * n + 1)) same turn in
+    sum before k (30 * (2 * a + 1)) now after so_far t
   where
     sum : (before k c now after : ℕ) → now ≤ before + k * c → after ≤ now + c → after ≤ before + (k + 1) * c
     sum before k c now after h i = grind arith

@@ -5,3 +5,5 @@ pub mod Serving
 pub mod Layouts
 pub mod Solver
 pub mod Laws
+pub mod Spilled
+pub mod TreeSolver

@@ -1,5 +1,5 @@
 -- A month's network: the links, then the takes, then the outflows, both to the outside node.
-use Rattle.std.specs.Prelude.{◌≡◌, ℕ, ◌+◌, ◌<◌, ◌^◌, ◌&&◌, Bool, true, List, map, length, slice_index, Option, Some, None, is_some}
+use Rattle.std.specs.Prelude.{◌≡◌, ℕ, ◌+◌, ◌*◌, ◌<◌, ◌^◌, ◌&&◌, Bool, true, List, map, length, slice_index, Option, Some, None, is_some}
 use Rattle.std.specs.List.{range_with_len}
 use Rattle.place_sums.specs.Sums.{when, count_where, greatest_where}
 use Rattle.water_model.specs.Basin.{tail_of, head_of, is_outlet, taking_node, instream_link, is_on_link}
@@ -22,6 +22,10 @@ outlet_count b = count_where (length b.nodes) (λ n. is_outlet b n)
 -- how many arcs there are
 abbrev pub arc_count : Basin → ℕ
 arc_count b = length b.links + (taker_count b + outlet_count b)
+
+-- how often the searches of a month push at most, whatever its amounts
+abbrev pub month_pushes : Basin → ℕ
+month_pushes b = length b.rights * (30 * (2 * arc_count b + 2))
 
 -- the arc of a right that takes, and that of an outlet
 abbrev pub take_arc : Basin → ℕ → ℕ

@@ -1,4 +1,5 @@
 -- What a solver is to its callers, and what it keeps.
+use Rattle.std.specs.Prelude.{◌≡◌}
 use Rattle.water_model.specs.Valid.{IsValidBasin}
 use Rattle.water_model.specs.declared.types.Basin.{Basin}
 use Rattle.circulation.specs.Contents.{network}
@@ -15,3 +16,4 @@ pub record IsReady (i : Inside) : Type 0 where
   pub is_layout : IsLayout i.basin.now i.layout
   pub fits_room : FitsRoom i.basin.now i.room
   pub ends : HasBasinEnds i.basin.now (network i.circ)
+  pub tree : i.tree ≡ i.basin.now

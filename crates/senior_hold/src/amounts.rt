@@ -1,12 +1,12 @@
 //! Amounts by arc: the bounds of a month, and plans as flows and back.
-ghost use Rattle.std.specs.Prelude.{◌≡◌, ℕ, ◌<◌, ◌≤◌, length, slice_index};
+ghost use Rattle.std.specs.Prelude.{◌≡◌, ℕ, ◌+◌, ◌<◌, ◌≤◌, length, slice_index};
 ghost use Rattle.place_sums.specs.Sums.{when};
 ghost use Rattle.water_text.specs.Months.{IsMonth};
 ghost use Rattle.water_model.specs.Basin.{is_outlet};
 ghost use Rattle.water_model.specs.Plans.{carry_of};
 ghost use Rattle.water_model.specs.Valid.{IsValidBasin};
 ghost use Rattle.circulation.specs.Contents.{network, flow_of, arcs};
-ghost use Rattle.senior_hold.specs.MonthNetwork.{arc_count, take_arc, out_arc, takes, list_of, plan_of, HasBasinEnds};
+ghost use Rattle.senior_hold.specs.MonthNetwork.{arc_count, taker_count, take_arc, out_arc, takes, list_of, plan_of, HasBasinEnds};
 ghost use Rattle.senior_hold.specs.Arcs.{AreArcs, AreAmounts, AreAmountsOf, AreBounds};
 ghost use Rattle.senior_hold.specs.Solved.{FitsPlan};
 
@@ -17,9 +17,9 @@ use water_model::types::{Basin, Plan};
 use water_text::month::Month;
 
 /// Writes the flows of a plan to the places of links.
-fn lay_flows(basin: &Basin, plan: &Plan, into: &mut [u64])
+pub fn lay_flows(basin: &Basin, plan: &Plan, into: &mut [u64])
     requires plan { FitsPlan basin.now plan.now }
-    requires into { length into.old ≡ arc_count basin.now }
+    requires into { length basin.now.links ≤ length into.old }
     ensures { AreAmountsOf basin.now plan.now (slice_index into.new) (length basin.now.links) 0 0 }
 {
     for link in 0..basin.links.len() {
@@ -28,11 +28,11 @@ fn lay_flows(basin: &Basin, plan: &Plan, into: &mut [u64])
 }
 
 /// Writes the takes of a plan to the places of their arcs.
-fn lay_takes(basin: &Basin, arcs: &Arcs, plan: &Plan, into: &mut [u64])
+pub fn lay_takes(basin: &Basin, arcs: &Arcs, plan: &Plan, into: &mut [u64])
     requires valid { IsValidBasin basin.now }
     requires arcs { AreArcs basin.now arcs.now }
     requires plan { FitsPlan basin.now plan.now }
-    requires into { length into.old ≡ arc_count basin.now }
+    requires into { length basin.now.links + taker_count basin.now ≤ length into.old }
     requires flows { AreAmountsOf basin.now plan.now (slice_index into.old) (length basin.now.links) 0 0 }
     ensures { AreAmountsOf basin.now plan.now (slice_index into.new) (length basin.now.links) (length basin.now.rights) 0 }
 {
@@ -72,7 +72,7 @@ pub fn lay(basin: &Basin, arcs: &Arcs, plan: &Plan, into: &mut [u64])
 }
 
 /// The most that each link carries in a month.
-fn write_carries(basin: &Basin, month: Month, into: &mut [u64])
+pub fn write_carries(basin: &Basin, month: Month, into: &mut [u64])
     requires valid { IsValidBasin basin.now }
     requires month { IsMonth month }
     requires into { length into.old ≡ length basin.now.links }
@@ -109,7 +109,7 @@ pub fn write_bounds(
 }
 
 /// Reads the flow of each link.
-fn read_links(circ: &Circulation, into: &mut [u64])
+pub fn read_links(circ: &Circulation, into: &mut [u64])
     requires { length into.old ≤ arcs circ.now }
     ensures { into.new ≡ list_of (length into.old) (flow_of circ.now) }
 {
@@ -120,9 +120,9 @@ fn read_links(circ: &Circulation, into: &mut [u64])
 }
 
 /// Reads what each right takes.
-fn read_takes(basin: &Basin, circ: &Circulation, arcs: &Arcs, into: &mut [u64])
+pub fn read_takes(basin: &Basin, circ: &Circulation, arcs: &Arcs, into: &mut [u64])
     requires valid { IsValidBasin basin.now }
-    requires ends { HasBasinEnds basin.now (network circ.now) }
+    requires inside { length basin.now.links + taker_count basin.now ≤ length circ.now.from }
     requires into { length into.old ≡ length basin.now.rights }
     requires arcs { AreArcs basin.now arcs.now }
     ensures { into.new ≡ list_of (length basin.now.rights) (λ r.

@@ -40,7 +40,7 @@ fn right_arcs(alloc: Global, basin: &Basin) -> Result<Vec<u32>, AllocError>
 }
 
 /// How many rights take water.
-fn count_takers(basin: &Basin) -> u32
+pub fn count_takers(basin: &Basin) -> u32
     requires { IsValidBasin basin.now }
     ensures { result ≡ taker_count basin.now }
 {
@@ -82,7 +82,7 @@ pub fn arcs_of(alloc: Global, basin: &Basin) -> Result<Arcs, AllocError>
 }
 
 /// The ends of the links.
-fn link_ends(alloc: Global, basin: &Basin) -> Result<Vec<Ends>, AllocError>
+pub fn link_ends(alloc: Global, basin: &Basin) -> Result<Vec<Ends>, AllocError>
     requires { IsValidBasin basin.now }
     ensures { IfOk result (λ ends. AreEndsOf basin.now ends.items (length basin.now.links) 0 0) }
 {
@@ -96,7 +96,7 @@ fn link_ends(alloc: Global, basin: &Basin) -> Result<Vec<Ends>, AllocError>
 }
 
 /// Adds the ends of what rights take.
-fn add_takes(basin: &Basin, ends: &mut Vec<Ends>) -> Result<(), AllocError>
+pub fn add_takes(basin: &Basin, ends: &mut Vec<Ends>) -> Result<(), AllocError>
     requires valid { IsValidBasin basin.now }
     requires links { AreEndsOf basin.now ends.old.items (length basin.now.links) 0 0 }
     ensures { OnOk result (AreEndsOf basin.now ends.new.items (length basin.now.links) (length basin.now.rights) 0) }

@@ -9,7 +9,11 @@
 mod amounts;
 mod arcs;
 pub mod laws;
+mod pulls;
 mod serving;
 mod solver;
+mod spills;
+mod tree_solver;
 
 pub use solver::Solver;
+pub use tree_solver::{Sweep, TreeSolver};

@@ -49,7 +49,7 @@ pub fn serve<L: Ledger>(
     ensures ends { SameEnds circ.old circ.new }
     ensures shape { KeepsShape cuts.old cuts.new }
     ensures room { OnErr result (has_room cuts.old right ≡ false) }
-    ensures cost { searches.new ≤ searches.old + 30 * (2 * arcs circ.old + 2) }
+    ensures cost { searches.new ≤ searches.old + 30 * (2 * arcs circ.old + 1) }
 {
     let raised = raise(circ, arc, want, searches);
     if raised == Raised::Stopped {

@@ -5,13 +5,14 @@ ghost use Rattle.water_model.specs.Valid.{IsValidBasin};
 ghost use Rattle.water_model.specs.RunOfRiver.{IsRunOfRiver};
 ghost use Rattle.circulation.specs.Contents.{network};
 ghost use Rattle.river_net.specs.Net.{IsNet};
-ghost use Rattle.senior_hold.specs.MonthNetwork.{arc_count, HasBasinEnds};
+ghost use Rattle.senior_hold.specs.MonthNetwork.{arc_count, HasBasinEnds, month_pushes};
 ghost use Rattle.senior_hold.specs.Solved.{FitsPlan, FitsCuts, AreSupplies, AreWants, IsGiven, IsSolved, LacksRoom};
 ghost use Rattle.senior_hold.specs.Layouts.{IsLayout, FitsRoom, IsBegun};
 
 use crate::amounts::{lay, read_plan, write_bounds};
 use crate::arcs::{Arcs, arcs_of, ends_of_arcs};
 use crate::serving::serve;
+use crate::tree_solver::{Sweep, TreeSolver};
 use circulation::Circulation;
 use rights_roll::roll::Roll;
 use river_net::Net;
@@ -26,18 +27,18 @@ use water_text::month::Month;
 
 /// What stays from month to month.
 #[derive(Drop)]
-struct Layout {
-    net: Net,
-    roll: Roll,
-    arcs: Arcs,
+pub struct Layout {
+    pub net: Net,
+    pub roll: Roll,
+    pub arcs: Arcs,
 }
 
 /// Room for a month's bounds, and for the flow that it starts from.
 #[derive(Drop)]
-struct Room {
-    most: Plan,
-    upper: Vec<u64>,
-    start: Vec<u64>,
+pub struct Room {
+    pub most: Plan,
+    pub upper: Vec<u64>,
+    pub start: Vec<u64>,
 }
 
 /// Writes the run of the river, which is a plan for any wants.
@@ -115,7 +116,7 @@ fn solve<L: Ledger>(
     ensures cuts { FitsCuts basin.now cuts.new }
     ensures solved { OnOk result (IsSolved basin.now month supply.now want.now plan.new cuts.new) }
     ensures room { OnErr result (LacksRoom basin.now cuts.old) }
-    ensures pushes { searches.new ≤ searches.old + length basin.now.rights * (30 * (2 * arc_count basin.now + 2)) }
+    ensures pushes { searches.new ≤ searches.old + length basin.now.rights * (30 * (2 * arc_count basin.now + 1)) }
 {
     begin(basin, layout, room, circ, month, supply, want, plan);
     let order = layout.roll.by_seniority();
@@ -142,6 +143,7 @@ pub struct Solver<'b> {
     layout: Layout,
     room: Room,
     circ: Circulation,
+    tree: TreeSolver<'b>,
 }
 
 impl<'b> Model for Solver<'b> {
@@ -157,7 +159,7 @@ impl<'b> Model for Solver<'b> {
 }
 
 /// What stays from month to month in a basin.
-fn layout_of(alloc: Global, basin: &Basin) -> Result<Layout, AllocError>
+pub fn layout_of(alloc: Global, basin: &Basin) -> Result<Layout, AllocError>
     requires { IsValidBasin basin.now }
     ensures { IfOk result (λ layout. IsLayout basin.now layout) }
 {
@@ -201,11 +203,13 @@ impl<'b> Solver<'b> {
         let ends = ends_of_arcs(alloc, basin)?;
         let circ = Circulation::open(alloc, basin.nodes.len() as u32, &ends)?;
         let room = room_of(alloc, basin, ends.len())?;
+        let tree = TreeSolver::open(alloc, basin)?;
         Ok(Solver {
             basin,
             layout,
             room,
             circ,
+            tree,
         })
     }
 
@@ -231,8 +235,15 @@ impl<'b> Solver<'b> {
         ensures cuts { FitsCuts self.old cuts.new }
         ensures solved { OnOk result (IsSolved self.old month supply.now want.now plan.new cuts.new) }
         ensures room { OnErr result (LacksRoom self.old cuts.old) }
-        ensures pushes { searches.new ≤ searches.old + length self.old.rights * (30 * (2 * arc_count self.old + 2)) }
+        ensures pushes { searches.new ≤ searches.old + month_pushes self.old }
     {
+        let sweep = self
+            .tree
+            .solve_month(month, supply, want, plan, cuts, searches)?;
+        if sweep == Sweep::Solved {
+            return Ok(());
+        }
+        cuts.clear();
         solve(
             self.basin,
             &self.layout,

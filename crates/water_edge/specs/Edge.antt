@@ -35,3 +35,8 @@ ReadsWhole (Some whole) limit (Err OutOfMemory) = ⊤
 abbrev pub Puts : {E : Type 0} → Option (List ℕ) → Option (List ℕ) → Result (Unit {0}) E → List ℕ → Type 0
 Puts old new (Ok _) piece = Appends old new piece
 Puts old new (Err _) piece = (count : ℕ) × (count ≤ length piece) × Appends old new (take count piece)
+
+-- a sink over a writer: the bytes that the writer holds, where it tells them, and how many calls failed
+pub record WriterState : Type 0 where
+  pub bytes : Option (List ℕ)
+  pub faults : ℕ

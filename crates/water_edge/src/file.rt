@@ -100,7 +100,8 @@ impl<'a, R: Files> Shelf for FileShelf<'a, R> {
     }
 }
 
-/// A writer of std, as a file or a standard stream. It tells no bytes. Contracts see it as how many calls failed.
+/// A writer of std, as a file or a standard stream. It tells what the writer tells. Contracts see it as these bytes and
+/// how many calls failed.
 #[derive(Drop)]
 pub struct StdSink<W: Write + Drop> {
     writer: W,
@@ -108,26 +109,26 @@ pub struct StdSink<W: Write + Drop> {
 }
 
 impl<W: Write + Drop> Model for StdSink<W> {
-    ghost use Rattle.std.specs.Prelude.{ℕ};
+    ghost use Rattle.water_edge.specs.Edge.{WriterState};
 
-    ghost Value = { ℕ };
+    ghost Value = { WriterState };
 
-    ghost view = { λ s. s.faults };
+    ghost view = { λ s. record { bytes = W.contents s.writer; faults = s.faults } };
 }
 
 impl<W: Write + Drop> StdSink<W> {
     /// A sink over this writer. No call failed yet.
     pub fn new(writer: W) -> StdSink<W>
-        ensures { result ≡ 0 }
+        ensures { result ≡ record { bytes = W.contents writer; faults = 0 } }
     {
         StdSink { writer, faults: 0 }
     }
 }
 
 impl<W: Write + Drop> Sink for StdSink<W> {
-    ghost taken = { λ _. None };
+    ghost taken = { λ s. s.bytes };
 
-    ghost faults = { λ faults. faults };
+    ghost faults = { λ s. s.faults };
 
     /// Fails where std's `write` or `flush` does, or `write` takes nothing of a rest.
     ///

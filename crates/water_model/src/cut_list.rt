@@ -1,7 +1,7 @@
 //! For each right none or a set of nodes.
-ghost use Rattle.std.specs.Prelude.{◌≡◌, ◌<◌, ◌≤◌, None, Some, length, replicate, slice_set, false, true, IfOk, OnOk, OnErr, IfSome, IfNone, IsSome, IsNone, IsTrue, ◌↔◌, map};
+ghost use Rattle.std.specs.Prelude.{All, ◌≡◌, ◌<◌, ◌≤◌, None, Some, length, replicate, slice_set, false, true, IfOk, OnOk, OnErr, IfSome, IfNone, IsSome, IsNone, IsTrue, ◌↔◌, map};
 ghost use Rattle.water_model.specs.Lookups.{has};
-ghost use Rattle.water_model.specs.CutInside.{emptied};
+ghost use Rattle.water_model.specs.CutInside.{emptied, set_in, IsSizedSlot};
 ghost use Rattle.water_model.specs.CutSets.{set_of, with_set, with_room, without_sets, has_room, CutSets};
 
 use std::alloc::{AllocError, Global};
@@ -13,6 +13,25 @@ pub struct Slot {
     held: bool,
     has_room: bool,
     members: Vec<bool>,
+}
+
+impl Slot {
+    /// An equal slot, with its own memory for its set.
+    fn copy(&self, alloc: Global, nodes: usize) -> Result<Slot, AllocError>
+        requires { IsSizedSlot nodes self.now }
+        ensures set { IfOk result (λ copied. set_in copied ≡ set_in self.now) }
+        ensures room { IfOk result (λ copied. copied.has_room ≡ self.now.has_room) }
+        ensures sized { IfOk result (IsSizedSlot nodes) }
+    {
+        let room = if self.has_room { nodes } else { 0 };
+        let mut members = Vec::with_capacity(alloc, room)?;
+        members.extend_from_slice(self.members.as_slice())?;
+        Ok(Slot {
+            held: self.held,
+            has_room: self.has_room,
+            members,
+        })
+    }
 }
 
 /// For each right none or a set of nodes: the cuts of a month, which show why rights are short.
@@ -54,6 +73,15 @@ impl CutList {
             slots,
             nodes: nodes as usize,
         })
+    }
+
+    /// An equal list, with room for the same sets. AllocError comes where memory is lacking.
+    pub fn copy(&self, alloc: Global) -> Result<CutList, AllocError>
+        ensures { IfOk result (λ copied. copied ≡ self.now) }
+    {
+        let nodes = self.nodes;
+        let slots = copy_each(alloc, nodes, &self.slots)?;
+        Ok(CutList { slots, nodes })
     }
 
     /// Whether a right's set holds a node, or none exactly where it has no set.
@@ -107,6 +135,20 @@ impl CutList {
     {
         give_up(&mut self.slots);
     }
+}
+
+/// Equal slots over so many nodes.
+fn copy_each(alloc: Global, nodes: usize, slots: &[Slot]) -> Result<Vec<Slot>, AllocError>
+    requires { All (IsSizedSlot nodes) slots.now }
+    ensures sets { IfOk result (λ copied. map set_in copied.items ≡ map set_in slots.now) }
+    ensures room { IfOk result (λ copied. map (λ s. s.has_room) copied.items ≡ map (λ s. s.has_room) slots.now) }
+    ensures sized { IfOk result (λ copied. All (IsSizedSlot nodes) copied.items) }
+{
+    let mut copied = Vec::with_capacity(alloc, slots.len())?;
+    for slot in slots {
+        copied.push(slot.copy(alloc, nodes)?)?;
+    }
+    Ok(copied)
 }
 
 /// Gives up each slot's set, and keeps its room.

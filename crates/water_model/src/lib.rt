@@ -2,6 +2,7 @@
 #![tactic(auto)]
 
 pub mod calls;
+pub mod copies;
 pub mod cut_list;
 pub mod item;
 pub mod laws;

@@ -29,7 +29,7 @@ loop-left-preserved g c =
     let count = ap (λ (x : Contents). arcs x) inv.rest in
     let before : c.loop-left.left ≡ c.loop-left.left - 1 + 1 = omega (arith, some) in
     let cost = subst (λ (n : ℕ). c.loop-left.searches ≤ c.args.searches.now + (c.first_phase-first.result.1 - n) *
-    (2 * arcs c.args.circ.now + 2)) before inv.cost in
+    (2 * arcs c.args.circ.now + 1)) before inv.cost in
     record {
       rest = ended.rest ∙ ap (λ (x : Contents). record x
           { flow = c.phase.new.circ.flow; scratch = c.phase.new.circ.scratch }) inv.rest;
@@ -60,5 +60,5 @@ returns-clause-cost g c = λ small.
     let last = thirty c.first_phase-first.result.1 (arcs c.args.circ.now) (omega (arith, below)) in
     let end : c.first_phase-first.result.1 - c.loop-left.left ≡ c.first_phase-first.result.1 = omega
     (arith, c.loop-left-test.false) in
-    let cost = subst (λ (n : ℕ). c.loop-left.searches ≤ c.args.searches.now + n * (2 * arcs c.args.circ.now + 2)) end inv.cost in
+    let cost = subst (λ (n : ℕ). c.loop-left.searches ≤ c.args.searches.now + n * (2 * arcs c.args.circ.now + 1)) end inv.cost in
     omega (arith, cost, last)

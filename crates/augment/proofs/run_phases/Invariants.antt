@@ -15,5 +15,5 @@ invariant-loop-left g l = record {
       (network l.fn.circ) h → h l.arc ≤ l.want → h l.arc ≤ flow_of l.circ l.arc + arcs l.fn.circ * (2 * l.least - 1);
   cut : flow_of l.circ l.arc < l.want → l.left ≡ 0 → IsGreatestCut (network l.fn.circ) (flow_of l.circ) l.arc
       (not_reached l.circ);
-  cost : l.searches ≤ l.fn.searches + (l.count - l.left) * (2 * arcs l.fn.circ + 2);
+  cost : l.searches ≤ l.fn.searches + (l.count - l.left) * (2 * arcs l.fn.circ + 1);
 }

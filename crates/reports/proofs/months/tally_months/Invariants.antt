@@ -1,7 +1,7 @@
 use Rattle.std.proofs.Common.{◌≡◌, ◌+◌, ◌*◌, ◌≤◌}
-use Rattle.reports.specs.Ends.{month_pushes}
 use Rattle.reports.specs.Tallies.{IsTallyOf}
 use Rattle.reports.proofs.months.tally_months.Given as goal
+use Rattle.senior_hold.specs.MonthNetwork.{month_pushes}
 
 abbrev pub invariant-loop-month : goal.invariant-loop-month
 invariant-loop-month g l = record {

@@ -9,5 +9,5 @@ invariant-loop-turn g l = record {
   standing : IsStanding l.basin l.fn.month l.fn.supply l.want l.fn.layout.roll.order l.turn l.circ l.cuts;
   first : l.turn ≡ 0 → l.circ ≡ l.initial.circ;
   room : (r : ℕ) → has_room l.fn.cuts r ≡ true → has_room l.cuts r ≡ true;
-  cost : l.searches ≤ l.fn.searches + l.turn * (30 * (2 * arc_count l.basin + 2));
+  cost : l.searches ≤ l.fn.searches + l.turn * (30 * (2 * arc_count l.basin + 1));
 }

@@ -5,7 +5,9 @@ use Rattle.water_model.specs.Basin.{is_outlet}
 use Rattle.circulation.specs.declared.Ends.{Ends}
 use Rattle.circulation.specs.Contents.{Contents}
 use Rattle.senior_hold.specs.MonthNetwork.{takes}
-use Rattle.senior_hold.proofs.Laid.{laid_fits, laid_ends, froms, tos}
+use Rattle.senior_hold.proofs.Laid.{laid_fits, laid_ends, links_apart, froms, tos}
+use Rattle.senior_hold.proofs.MonthArcs.{right_kind}
+use Rattle.water_model.proofs.Balance.{ends}
 use Rattle.senior_hold.proofs.solver.Solver.open.Goals as goal
 
 pub open-requires-clause-few : goal.open-requires-clause-few
@@ -24,7 +26,8 @@ open-requires-clause-few c =
 pub open-requires-clause-ends : goal.open-requires-clause-ends
 open-requires-clause-ends c =
     subst (λ (xs : List Ends). All (λ e. (e.from ≤ c.len.result) × (e.to ≤ c.len.result) × (e.from ≢ e.to)) xs) (sym c.deref.ensures.value)
-    (laid_fits c.args.basin.now c.in_ok-ends.ends.items c.len.result c.len.ensures c.requires c.in_ok-ends.ensures)
+    (laid_fits c.args.basin.now c.in_ok-ends.ends.items c.len.result c.len.ensures (ends c.args.basin.now c.requires) (links_apart c.args.basin.now c.requires)
+    (right_kind c.args.basin.now c.requires) c.in_ok-ends.ensures)
 
 pub invariant_of-result : goal.invariant_of-result
 invariant_of-result c = record {
@@ -33,4 +36,5 @@ invariant_of-result c = record {
   fits_room = c.in_ok-room.ensures;
   ends = laid_ends c.args.basin.now c.in_ok-ends.ends.items c.in_ok-circ.circ c.in_ok-ends.ensures (ap (λ (x : Contents). x.nodes) c.in_ok-circ.ensures ∙ c.len.ensures)
       (ap (λ (x : Contents). x.from) c.in_ok-circ.ensures ∙ ap froms c.deref.ensures.value) (ap (λ (x : Contents). x.to) c.in_ok-circ.ensures ∙ ap tos c.deref.ensures.value);
+  tree = c.in_ok-tree.ensures;
 }

@@ -1,0 +1,226 @@
+//! The comparison of two runs.
+ghost use Rattle.std.specs.Prelude.{ℕ, List, [], ◌≡◌, ◌+◌, ◌-◌, ◌*◌, ◌<◌, ◌≤◌, ◌++◌, length, flat_map, IfOk, OnOk};
+ghost use Rattle.water_model.specs.Valid.{IsValidBasin, IsSeriesOf};
+ghost use Rattle.water_text.specs.Months.{IsMonth};
+ghost use Rattle.month_fold.specs.Runs.{StandsFor, run_pushes};
+ghost use Rattle.injury.specs.Common.{common_rights, HaveDeliveries};
+ghost use Rattle.injury.specs.Injuries.{injuries_of, injured_row, compared_row};
+ghost use Rattle.water_edge.specs.Edge.{Rose};
+ghost use Rattle.basin_cli.specs.Compared.{AreCompared, IsTextOfComparison, Compares, ending_with};
+ghost use Rattle.basin_cli.specs.Ending.{status_of};
+ghost use Rattle.basin_cli.specs.Outcome.{MayWrite};
+ghost use Rattle.basin_cli.specs.declared.ending.Ending.TheVariants.{OutOfMemory};
+ghost use Rattle.senior_hold.specs.MonthNetwork.{month_pushes};
+
+use crate::draft::Draft;
+use crate::ending::Ending;
+use injury::{Pairing, put_compared};
+use month_fold::run::Run;
+use std::alloc::{AllocError, Global};
+use std::sync::ledger::Ledger;
+use steps::Steps;
+use water_edge::Sink;
+use water_model::types::{Basin, Inflows, MonthRecord};
+
+/// Appends the rows of a month's injuries and answers their number.
+fn draft_injuries(
+    draft: &mut Draft,
+    pairing: &Pairing,
+    basin: &Basin,
+    first: &MonthRecord,
+    second: &MonthRecord,
+) -> Result<u32, AllocError>
+    requires basin { IsValidBasin basin.now }
+    requires month { IsMonth first.now.month }
+    requires fits { length first.now.delivered ≡ length basin.now.rights }
+    requires records { HaveDeliveries pairing.now first.now second.now }
+    ensures number { IfOk result (λ count. count ≡ length (injuries_of pairing.now first.now second.now)) }
+    ensures rows { OnOk result (draft.new.bytes ≡ draft.old.bytes ++ flat_map (injured_row basin.now) (injuries_of pairing.now first.now second.now)) }
+{
+    match pairing.put_injured(draft, basin, first, second) {
+        Ok(count) => Ok(count),
+        Err(_) => Err(AllocError),
+    }
+}
+
+/// Solves the next month of both runs and appends the rows of its injuries. `injured` counts those of the months before,
+/// and the answer those of this month too.
+fn compare_month<L: Ledger>(
+    draft: &mut Draft,
+    pairing: &Pairing,
+    basin: &Basin,
+    other: &Basin,
+    first: &mut Run,
+    second: &mut Run,
+    injured: u32,
+    searches: &mut Steps<L>,
+) -> Result<u32, AllocError>
+    requires basin { IsValidBasin basin.now }
+    requires other { IsValidBasin other.now }
+    requires pairing { pairing.now ≡ common_rights basin.now other.now }
+    requires months { other.now.months ≡ basin.now.months }
+    requires left { first.old.done < basin.now.months }
+    requires abreast { second.old.done ≡ first.old.done }
+    requires compared { AreCompared basin.now other.now first.old second.old draft.old.bytes injured }
+    ensures series { first.new.series ≡ first.old.series }
+    ensures other_series { second.new.series ≡ second.old.series }
+    ensures done { OnOk result (first.new.done ≡ first.old.done + 1) }
+    ensures abreast { OnOk result (second.new.done ≡ first.new.done) }
+    ensures compared { IfOk result (AreCompared basin.now other.now first.new second.new draft.new.bytes) }
+    ensures pushes { searches.new ≤ searches.old + (month_pushes basin.now + month_pushes other.now) }
+{
+    first.step(searches)?;
+    second.step(searches)?;
+    let count = draft_injuries(draft, pairing, basin, first.month(), second.month())?;
+    Ok(injured + count)
+}
+
+/// Solves all months of both runs and appends the rows of their injuries. Answers how many there are.
+fn compare_months<L: Ledger>(
+    draft: &mut Draft,
+    pairing: &Pairing,
+    basin: &Basin,
+    other: &Basin,
+    first: &mut Run,
+    second: &mut Run,
+    searches: &mut Steps<L>,
+) -> Result<u32, AllocError>
+    requires basin { IsValidBasin basin.now }
+    requires other { IsValidBasin other.now }
+    requires pairing { pairing.now ≡ common_rights basin.now other.now }
+    requires months { other.now.months ≡ basin.now.months }
+    requires fresh { first.old.done ≡ 0 }
+    requires abreast { second.old.done ≡ first.old.done }
+    requires compared { AreCompared basin.now other.now first.old second.old draft.old.bytes 0 }
+    ensures series { first.new.series ≡ first.old.series }
+    ensures other_series { second.new.series ≡ second.old.series }
+    ensures done { OnOk result (first.new.done ≡ basin.now.months) }
+    ensures abreast { OnOk result (second.new.done ≡ first.new.done) }
+    ensures compared { IfOk result (AreCompared basin.now other.now first.new second.new draft.new.bytes) }
+    ensures pushes { searches.new ≤ searches.old + (run_pushes basin.now + run_pushes other.now) }
+{
+    let mut injured = 0;
+    for _month in 0..basin.months {
+        injured = compare_month(
+            draft, pairing, basin, other, first, second, injured, searches,
+        )?;
+    }
+    Ok(injured)
+}
+
+/// Appends the row of the counts.
+fn draft_counts(draft: &mut Draft, pairing: &Pairing, injured: u32) -> Result<(), AllocError>
+    ensures { OnOk result (draft.new.bytes ≡ draft.old.bytes ++ compared_row (length pairing.now) injured) }
+{
+    match put_compared(draft, pairing.common().len() as u32, injured) {
+        Ok(()) => Ok(()),
+        Err(_) => Err(AllocError),
+    }
+}
+
+/// Solves all months of both runs and drafts their comparison. Answers how many injuries there are, too.
+fn compare_runs<L: Ledger>(
+    alloc: Global,
+    pairing: &Pairing,
+    basin: &Basin,
+    other: &Basin,
+    first: &mut Run,
+    second: &mut Run,
+    searches: &mut Steps<L>,
+) -> Result<(Draft, u32), AllocError>
+    requires basin { IsValidBasin basin.now }
+    requires other { IsValidBasin other.now }
+    requires pairing { pairing.now ≡ common_rights basin.now other.now }
+    requires months { other.now.months ≡ basin.now.months }
+    requires run { first.old.basin ≡ basin.now }
+    requires other_run { second.old.basin ≡ other.now }
+    requires fresh { StandsFor first.old [] }
+    requires other_fresh { StandsFor second.old [] }
+    ensures text { IfOk result (λ drafted. IsTextOfComparison basin.now other.now first.old.series second.old.series drafted.0.bytes drafted.1) }
+    ensures pushes { searches.new ≤ searches.old + (run_pushes basin.now + run_pushes other.now) }
+{
+    let mut draft = Draft::new(alloc);
+    let injured = compare_months(&mut draft, pairing, basin, other, first, second, searches)?;
+    draft_counts(&mut draft, pairing, injured)?;
+    Ok((draft, injured))
+}
+
+/// The comparison of two runs, before any of it is written, and the number of injuries in it.
+pub fn text_of_comparison<L: Ledger>(
+    alloc: Global,
+    basin: &Basin,
+    other: &Basin,
+    series: &Inflows,
+    other_series: &Inflows,
+    searches: &mut Steps<L>,
+) -> Result<(Draft, u32), AllocError>
+    requires basin { IsValidBasin basin.now }
+    requires other { IsValidBasin other.now }
+    requires months { other.now.months ≡ basin.now.months }
+    requires series { IsSeriesOf basin.now series.now }
+    requires other_series { IsSeriesOf other.now other_series.now }
+    ensures text { IfOk result (λ drafted. IsTextOfComparison basin.now other.now series.now other_series.now drafted.0.bytes drafted.1) }
+    ensures pushes { searches.new ≤ searches.old + (run_pushes basin.now + run_pushes other.now) }
+{
+    let pairing = Pairing::build(alloc, basin, other)?;
+    let mut first = Run::open(alloc, basin, series)?;
+    let mut second = Run::open(alloc, other, other_series)?;
+    compare_runs(
+        alloc,
+        &pairing,
+        basin,
+        other,
+        &mut first,
+        &mut second,
+        searches,
+    )
+}
+
+/// How a comparison with so many injuries ends.
+fn ending_with(injured: u32) -> Ending
+    ensures { result ≡ ending_with injured }
+{
+    if injured == 0 {
+        Ending::Done
+    } else {
+        Ending::Injured
+    }
+}
+
+/// Solves the months of two basins, each with its series, and puts who is delivered less in the second.
+pub fn compare_basins<K: Sink, L: Ledger>(
+    alloc: Global,
+    basin: &Basin,
+    other: &Basin,
+    series: &Inflows,
+    other_series: &Inflows,
+    out: &mut K,
+    searches: &mut Steps<L>,
+) -> Ending
+    requires basin { IsValidBasin basin.now }
+    requires other { IsValidBasin other.now }
+    requires months { other.now.months ≡ basin.now.months }
+    requires series { IsSeriesOf basin.now series.now }
+    requires other_series { IsSeriesOf other.now other_series.now }
+    ensures compares { MayWrite (status_of result) →
+        Compares basin.now other.now series.now other_series.now result (Rose (K.faults out.old) (K.faults out.new)) (K.taken out.old) (K.taken out.new) }
+    ensures out_stays { (MayWrite (status_of result) → ⊥) → out.new ≡ out.old }
+    ensures memory { (MayWrite (status_of result) → ⊥) → result ≡ OutOfMemory }
+    ensures pushes { searches.new ≤ searches.old + (run_pushes basin.now + run_pushes other.now) }
+{
+    let (text, injured) = match text_of_comparison(
+        alloc,
+        basin,
+        other,
+        series,
+        other_series,
+        searches,
+    ) {
+        Ok(drafted) => drafted,
+        Err(_) => return Ending::OutOfMemory,
+    };
+    match out.put(text.bytes()) {
+        Ok(()) => ending_with(injured),
+        Err(_) => Ending::WriteFault,
+    }
+}

@@ -1,0 +1,9 @@
+-- Laws over what a file spells.
+use Rattle.std.specs.Prelude.{◌≡◌, ℕ, List, None}
+use Rattle.water_model.specs.Valid.{IsValidBasin}
+use Rattle.water_model.specs.declared.types.Basin.{Basin}
+use Rattle.basin_file.specs.BasinFaults.{Spells, file_fault}
+
+-- A file without a fault spells a basin, which is valid.
+abbrev pub FaultlessFilesAreValid : Type 0
+FaultlessFilesAreValid = (bytes : List ℕ) → file_fault bytes ≡ None → (b : Basin) × Spells bytes b × IsValidBasin b

@@ -1,0 +1,4 @@
+pub mod Holding
+pub mod Adding
+pub mod Written
+pub mod Examples

@@ -1,0 +1,70 @@
+-- The account book of a right: the terms of the bound of a set, and what they add up to.
+use Rattle.std.specs.Prelude.{ℕ, Bool, ◌&&◌, not, List, [], ◌∷◌, ◌++◌, filter, length, slice_index, Option, Some, None, if◌then◌else◌}
+use Rattle.std.specs.List.{flat_map}
+use Rattle.water_model.specs.Basin.{is_on_link, is_senior}
+use Rattle.water_model.specs.Cuts.{enters, leaves, takes_within, kept_on}
+use Rattle.water_model.specs.Lookups.{has}
+use Rattle.water_model.specs.Places.{places_of, seniors_first}
+use Rattle.water_model.specs.Plans.{carry_of}
+use Rattle.water_model.specs.declared.types.Basin.{Basin}
+use Rattle.water_model.specs.declared.types.MonthRecord.{MonthRecord}
+use Rattle.cut_book.specs.Entries.{has_amount, balance_of, whole_line}
+use Rattle.cut_book.specs.Holders.{holder_of}
+use Rattle.cut_book.specs.declared.entry.Entry.{Entry}
+use Rattle.cut_book.specs.declared.entry.Entry.TheVariants as line
+use Rattle.cut_book.specs.declared.part.Part.{Part}
+use Rattle.cut_book.specs.declared.part.Part.TheVariants as part
+
+-- what a part goes over: nodes and links in the order of the basin, rights seniors first
+abbrev pub places_in : Part → Basin → List ℕ
+places_in part.Supplies b = places_of b.nodes
+places_in part.Enters b = places_of b.links
+places_in part.Keeps b = places_of b.links
+places_in part.Takes b = seniors_first b
+
+abbrev pub count_in : Part → Basin → ℕ
+count_in part.Supplies b = length b.nodes
+count_in part.Enters b = length b.links
+count_in part.Keeps b = length b.links
+count_in part.Takes b = length b.rights
+
+-- whether it has a term in the bound of a right's set
+abbrev pub counts : Part → Basin → ℕ → List Bool → ℕ → Bool
+counts part.Supplies b right set node = has set node
+counts part.Enters b right set link = enters b set link
+counts part.Keeps b right set link = leaves b set link && not (is_on_link b right link)
+counts part.Takes b right set taker = takes_within b set taker && is_senior b taker right
+
+-- the term of a link on which an amount is kept for a holder
+abbrev pub keep_terms : ℕ → ℕ → Option ℕ → List Entry
+keep_terms link amount None = []
+keep_terms link amount (Some holder) = line.Keep link amount holder ∷ []
+
+-- and its term
+abbrev pub terms_at : Part → Basin → MonthRecord → ℕ → ℕ → List Entry
+terms_at part.Supplies b m right node = line.Supply node (slice_index m.supply node) ∷ []
+terms_at part.Enters b m right link = line.Enter link (carry_of b m.month link) ∷ []
+terms_at part.Keeps b m right link =
+    keep_terms link (kept_on b m.delivered right link) (holder_of b m.delivered link (kept_on b m.delivered right link))
+terms_at part.Takes b m right taker = line.Take taker (slice_index m.delivered taker) ∷ []
+
+-- the lines of a part: its terms, without those of amount 0
+abbrev pub lines_at : Part → Basin → MonthRecord → ℕ → List Bool → ℕ → List Entry
+lines_at of_part b m right set place = if counts of_part b right set place then filter has_amount (terms_at of_part b m right place) else []
+
+abbrev pub lines_in : Part → Basin → MonthRecord → ℕ → List Bool → List Entry
+lines_in of_part b m right set = flat_map (lines_at of_part b m right set) (places_in of_part b)
+
+-- all terms: supplies, links that enter, what is kept on links, and takes
+abbrev pub terms : Basin → MonthRecord → ℕ → List Bool → List Entry
+terms b m right set = flat_map (λ p. lines_in p b m right set) (part.Supplies ∷ part.Enters ∷ part.Keeps ∷ part.Takes ∷ [])
+
+-- the book: what the right got and wanted, the terms, and their sum
+abbrev pub book : Basin → MonthRecord → ℕ → List Bool → List Entry
+book b m right set =
+    line.Why m.month right (slice_index m.delivered right) (slice_index m.want right)
+    ∷ (terms b m right set ++ line.Sum (balance_of (terms b m right set)) ∷ [])
+
+-- and its bytes
+abbrev pub book_bytes : Basin → MonthRecord → ℕ → List Bool → List ℕ
+book_bytes b m right set = flat_map (whole_line b) (book b m right set)

@@ -1,0 +1,4 @@
+pub mod Entries
+pub mod Holders
+pub mod Book
+pub mod Laws

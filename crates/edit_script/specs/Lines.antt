@@ -1,0 +1,69 @@
+-- What one line of a script asks for.
+use Rattle.std.specs.Prelude.{ℕ, ◌^◌, List, [], ◌∷◌, codes, Option, Some, None, Result, Ok, Err, ◌==◌, if◌then◌else◌}
+use Rattle.std.specs.Borrow.{Bor}
+use Rattle.std.specs.List.{slice_split}
+use Rattle.std.specs.Str.{bytes_eq}
+use Rattle.water_text.specs.Amounts.{read_plain}
+use Rattle.water_text.specs.Months.{read_month}
+use Rattle.water_text.specs.Names.{is_name}
+use Rattle.water_model.specs.Hydrology.{place_in}
+use Rattle.water_model.specs.Valid.{is_gauged}
+use Rattle.water_model.specs.declared.types.Basin.{Basin}
+use Rattle.water_model.specs.declared.types.Inflows.{Inflows}
+use Rattle.edit_script.specs.Names.{index_in_run, node_named, right_named, is_in_series}
+use Rattle.edit_script.specs.declared.edit.Edit.{Edit}
+use Rattle.edit_script.specs.declared.edit.Edit.TheVariants as edit
+use Rattle.edit_script.specs.declared.refused.ScriptFault.{ScriptFault}
+use Rattle.edit_script.specs.declared.refused.ScriptFault.TheVariants as fault
+
+-- the fields of a line, between its spaces, and those behind a space, if there is one
+abbrev pub fields_of : List ℕ → List (List ℕ)
+fields_of bytes = slice_split (λ byte. byte == 32) bytes
+
+abbrev pub fields_behind : Option (Bor (List ℕ)) → List (List ℕ)
+fields_behind None = []
+fields_behind (Some rest) = fields_of rest.now
+
+-- what is made of a value, or the fault where there is none
+abbrev pub need : {X Y : Type 0} → ScriptFault → Option X → (X → Result Y ScriptFault) → Result Y ScriptFault
+need fault None next = Err fault
+need fault (Some x) next = next x
+
+-- what a line `show MONTH` asks for
+unfoldable pub show_of : Basin → List ℕ → Result Edit ScriptFault
+show_of b month =
+    need fault.BadLine (read_month month) (λ m.
+    need fault.OutsideRun (index_in_run b m) (λ index. Ok (edit.Show index)))
+
+-- what a line `inflow MONTH NODE AMOUNT` asks for
+unfoldable pub inflow_of : Basin → Inflows → List ℕ → List ℕ → List ℕ → Result Edit ScriptFault
+inflow_of b series month name amount =
+    need fault.BadLine (read_month month) (λ m.
+    if is_name name then
+    need fault.BadLine (read_plain amount (10 ^ 9)) (λ a.
+    need fault.OutsideRun (index_in_run b m) (λ index.
+    need fault.NoSuchName (node_named b name) (λ node.
+    if is_gauged b node then Ok (edit.Inflow index (place_in series.gauged node) a) else Err fault.NotSeries)))
+    else Err fault.BadLine)
+
+-- what a line `want MONTH RIGHT AMOUNT` asks for
+unfoldable pub want_of : Basin → Inflows → List ℕ → List ℕ → List ℕ → Result Edit ScriptFault
+want_of b series month name amount =
+    need fault.BadLine (read_month month) (λ m.
+    if is_name name then
+    need fault.BadLine (read_plain amount (10 ^ 9)) (λ a.
+    need fault.OutsideRun (index_in_run b m) (λ index.
+    need fault.NoSuchName (right_named b name) (λ right.
+    if is_in_series b right then Ok (edit.Want index (place_in series.wanted right) a) else Err fault.NotSeries)))
+    else Err fault.BadLine)
+
+-- what a line of these fields asks for, or its first fault
+abbrev pub edit_in : Basin → Inflows → List (List ℕ) → Result Edit ScriptFault
+edit_in b series (word ∷ month ∷ []) = if bytes_eq word (codes "show") then show_of b month else Err fault.BadLine
+edit_in b series (word ∷ month ∷ name ∷ amount ∷ []) =
+    if bytes_eq word (codes "inflow") then inflow_of b series month name amount
+    else (if bytes_eq word (codes "want") then want_of b series month name amount else Err fault.BadLine)
+edit_in b series _ = Err fault.BadLine
+
+unfoldable pub edit_of : Basin → Inflows → List ℕ → Result Edit ScriptFault
+edit_of b series line = edit_in b series (fields_of line)

@@ -1,0 +1,13 @@
+//! Scripts of changes and of months to show, read line by line.
+#![tactic(auto)]
+
+pub mod edit;
+mod fields;
+pub mod laws;
+mod lines;
+mod names;
+mod refused;
+mod script;
+
+pub use refused::{ScriptFault, ScriptRefused};
+pub use script::read_script;

@@ -1,0 +1,163 @@
+//! What one line of a script asks for.
+ghost use Rattle.std.specs.Prelude.{◌≡◌, ◌∷◌, [], IfOk};
+ghost use Rattle.water_model.specs.Valid.{IsValidBasin, IsSeriesOf};
+ghost use Rattle.water_model.specs.declared.types.Inflows.{Inflows};
+ghost use Rattle.edit_script.specs.Edits.{IsPlaced};
+ghost use Rattle.edit_script.specs.Lines.{edit_in, edit_of, fields_of, inflow_of, want_of, show_of};
+
+use crate::edit::Edit;
+use crate::fields::cut;
+use crate::names::{index_in_run, is_gauged, is_in_series, node_named, place_of, right_named};
+use crate::refused::ScriptFault;
+use water_model::types::{Basin, Inflows};
+use water_text::amount::read_plain;
+use water_text::month::Month;
+use water_text::name::is_name;
+
+/// What a line `show` asks for.
+#[tactic(auto, unfolding(crate::specs::Lines::show_of))]
+fn read_show(basin: &Basin, month: &[u8]) -> Result<Edit, ScriptFault>
+    requires { IsValidBasin basin.now }
+    ensures reads { result ≡ show_of basin.now month.now }
+    ensures placed { IfOk result (λ e. (series : Inflows) → IsPlaced basin.now series e) }
+{
+    let Some(month) = Month::read(month) else {
+        return Err(ScriptFault::BadLine);
+    };
+    let Some(index) = index_in_run(basin, month) else {
+        return Err(ScriptFault::OutsideRun);
+    };
+    Ok(Edit::Show { index })
+}
+
+/// What a line `inflow` asks for.
+#[tactic(auto, unfolding(crate::specs::Lines::inflow_of))]
+fn read_inflow(
+    basin: &Basin,
+    series: &Inflows,
+    month: &[u8],
+    name: &[u8],
+    amount: &[u8],
+) -> Result<Edit, ScriptFault>
+    requires basin { IsValidBasin basin.now }
+    requires series { IsSeriesOf basin.now series.now }
+    ensures reads { result ≡ inflow_of basin.now series.now month.now name.now amount.now }
+    ensures placed { IfOk result (IsPlaced basin.now series.now) }
+{
+    let Some(month) = Month::read(month) else {
+        return Err(ScriptFault::BadLine);
+    };
+    if !is_name(name) {
+        return Err(ScriptFault::BadLine);
+    }
+    let Some(amount) = read_plain(amount, 1_000_000_000) else {
+        return Err(ScriptFault::BadLine);
+    };
+    let Some(index) = index_in_run(basin, month) else {
+        return Err(ScriptFault::OutsideRun);
+    };
+    let Some(node) = node_named(basin, name) else {
+        return Err(ScriptFault::NoSuchName);
+    };
+    if !is_gauged(basin, node) {
+        return Err(ScriptFault::NotSeries);
+    }
+    let gauge = place_of(series.gauged.as_slice(), node);
+    Ok(Edit::Inflow {
+        index,
+        gauge,
+        amount,
+    })
+}
+
+/// What a line `want` asks for.
+#[tactic(auto, unfolding(crate::specs::Lines::want_of))]
+fn read_want(
+    basin: &Basin,
+    series: &Inflows,
+    month: &[u8],
+    name: &[u8],
+    amount: &[u8],
+) -> Result<Edit, ScriptFault>
+    requires basin { IsValidBasin basin.now }
+    requires series { IsSeriesOf basin.now series.now }
+    ensures reads { result ≡ want_of basin.now series.now month.now name.now amount.now }
+    ensures placed { IfOk result (IsPlaced basin.now series.now) }
+{
+    let Some(month) = Month::read(month) else {
+        return Err(ScriptFault::BadLine);
+    };
+    if !is_name(name) {
+        return Err(ScriptFault::BadLine);
+    }
+    let Some(amount) = read_plain(amount, 1_000_000_000) else {
+        return Err(ScriptFault::BadLine);
+    };
+    let Some(index) = index_in_run(basin, month) else {
+        return Err(ScriptFault::OutsideRun);
+    };
+    let Some(right) = right_named(basin, name) else {
+        return Err(ScriptFault::NoSuchName);
+    };
+    if !is_in_series(basin, right) {
+        return Err(ScriptFault::NotSeries);
+    }
+    let place = place_of(series.wanted.as_slice(), right);
+    Ok(Edit::Want {
+        index,
+        place,
+        amount,
+    })
+}
+
+/// What a line with a third field asks for: its word, its month and what is behind them.
+fn read_change(
+    basin: &Basin,
+    series: &Inflows,
+    word: &[u8],
+    month: &[u8],
+    behind: &[u8],
+) -> Result<Edit, ScriptFault>
+    requires basin { IsValidBasin basin.now }
+    requires series { IsSeriesOf basin.now series.now }
+    ensures reads { result ≡ edit_in basin.now series.now (word.now ∷ month.now ∷ fields_of behind.now) }
+    ensures placed { IfOk result (IsPlaced basin.now series.now) }
+{
+    let (name, behind) = cut(behind);
+    let Some(behind) = behind else {
+        return Err(ScriptFault::BadLine);
+    };
+    let (amount, behind) = cut(behind);
+    if behind.is_some() {
+        return Err(ScriptFault::BadLine);
+    }
+    if word == b"inflow".as_slice() {
+        return read_inflow(basin, series, month, name, amount);
+    }
+    if word == b"want".as_slice() {
+        return read_want(basin, series, month, name, amount);
+    }
+    Err(ScriptFault::BadLine)
+}
+
+/// What a line between the first and the last asks for, or its first fault.
+#[tactic(auto, unfolding(crate::specs::Lines::edit_of))]
+pub fn read_edit(basin: &Basin, series: &Inflows, line: &[u8]) -> Result<Edit, ScriptFault>
+    requires basin { IsValidBasin basin.now }
+    requires series { IsSeriesOf basin.now series.now }
+    ensures reads { result ≡ edit_of basin.now series.now line.now }
+    ensures placed { IfOk result (IsPlaced basin.now series.now) }
+{
+    let (word, behind) = cut(line);
+    let Some(behind) = behind else {
+        return Err(ScriptFault::BadLine);
+    };
+    let (month, behind) = cut(behind);
+    if let Some(behind) = behind {
+        return read_change(basin, series, word, month, behind);
+    }
+    if word == b"show".as_slice() {
+        return read_show(basin, month);
+    }
+    Err(ScriptFault::BadLine)
+}

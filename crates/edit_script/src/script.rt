@@ -1,0 +1,114 @@
+//! A whole script.
+ghost use Rattle.std.specs.Prelude.{◌≡◌, ◌≤◌, All, length, Ok, Err, MatchResult, IfOk};
+ghost use Rattle.water_model.specs.Valid.{IsValidBasin, IsSeriesOf};
+ghost use Rattle.edit_script.specs.Edits.{IsPlaced};
+ghost use Rattle.edit_script.specs.Lines.{edit_of};
+ghost use Rattle.edit_script.specs.Scripts.{IsRefusalOf, edits_from, ended, lines_of, numbered, script_of};
+
+use crate::edit::Edit;
+use crate::fields::first_line;
+use crate::lines::read_edit;
+use crate::refused::{ScriptFault, ScriptRefused};
+use std::alloc::Global;
+use water_model::types::{Basin, Inflows};
+
+/// What the line of this number asks for, or the refusal of the script.
+fn read_numbered(
+    basin: &Basin,
+    series: &Inflows,
+    line: &[u8],
+    number: u64,
+) -> Result<Edit, ScriptRefused>
+    requires basin { IsValidBasin basin.now }
+    requires series { IsSeriesOf basin.now series.now }
+    ensures reads { result ≡ numbered number (edit_of basin.now series.now line.now) }
+    ensures placed { IfOk result (IsPlaced basin.now series.now) }
+{
+    match read_edit(basin, series, line) {
+        Ok(edit) => Ok(edit),
+        Err(fault) => Err(ScriptRefused::Refused {
+            fault,
+            line: number,
+        }),
+    }
+}
+
+/// Makes sure that nothing follows the line `done`. The next line has this number.
+fn end_of(edits: Vec<Edit>, number: u64, behind: &[u8]) -> Result<Vec<Edit>, ScriptRefused>
+    ensures { MatchResult result (λ read. ended edits.items number (lines_of behind.now) ≡ Ok read.items)
+        (λ refused. ended edits.items number (lines_of behind.now) ≡ Err refused) }
+{
+    if behind.is_empty() {
+        Ok(edits)
+    } else {
+        Err(ScriptRefused::Refused {
+            fault: ScriptFault::AfterEnd,
+            line: number,
+        })
+    }
+}
+
+/// What the lines behind the first ask for, or the first at fault. The first of them has the number 2.
+fn read_edits(
+    alloc: Global,
+    basin: &Basin,
+    series: &Inflows,
+    text: &[u8],
+) -> Result<Vec<Edit>, ScriptRefused>
+    requires basin { IsValidBasin basin.now }
+    requires series { IsSeriesOf basin.now series.now }
+    requires small { length text.now ≤ 67108864 }
+    ensures reads { MatchResult result (λ edits. edits_from basin.now series.now 2 (lines_of text.now) ≡ Ok edits.items)
+        (IsRefusalOf (edits_from basin.now series.now 2 (lines_of text.now))) }
+    ensures placed { IfOk result (λ edits. All (IsPlaced basin.now series.now) edits.items) }
+{
+    let mut edits = Vec::new(alloc);
+    let mut rest = text;
+    let mut number = 2;
+    while let Some((line, behind)) = first_line(rest) {
+        if line == b"done".as_slice() {
+            return end_of(edits, number + 1, behind);
+        }
+        let edit = read_numbered(basin, series, line, number)?;
+        edits.push(edit)?;
+        rest = behind;
+        number += 1;
+    }
+    Err(ScriptRefused::Refused {
+        fault: ScriptFault::EarlyEnd,
+        line: number,
+    })
+}
+
+/// What a script asks for, line by line between its first and its last, or its first line at fault. No line behind that is
+/// looked at.
+pub fn read_script(
+    alloc: Global,
+    basin: &Basin,
+    series: &Inflows,
+    text: &[u8],
+) -> Result<Vec<Edit>, ScriptRefused>
+    requires basin { IsValidBasin basin.now }
+    requires series { IsSeriesOf basin.now series.now }
+    requires small { length text.now ≤ 67108864 }
+    ensures reads { MatchResult result (λ edits. script_of basin.now series.now text.now ≡ Ok edits.items)
+        (IsRefusalOf (script_of basin.now series.now text.now)) }
+    ensures placed { IfOk result (λ edits. All (IsPlaced basin.now series.now) edits.items) }
+{
+    match first_line(text) {
+        None => Err(ScriptRefused::Refused {
+            fault: ScriptFault::EarlyEnd,
+            line: 1,
+        }),
+        Some((first, behind)) => {
+            if first == b"river-edit 1".as_slice() {
+                read_edits(alloc, basin, series, behind)
+            } else {
+                Err(ScriptRefused::Refused {
+                    fault: ScriptFault::BadLine,
+                    line: 1,
+                })
+            }
+        }
+    }
+}

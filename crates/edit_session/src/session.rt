@@ -1,0 +1,137 @@
+//! A run whose series changes.
+ghost use Rattle.std.specs.Prelude.{ℕ, ◌≡◌, ◌+◌, ◌-◌, ◌*◌, ◌^◌, ◌<◌, ◌≤◌, [], max, length, take, slice_get, Some, IfOk, OnOk};
+ghost use Rattle.water_model.specs.Valid.{IsValidBasin, IsSeriesOf};
+ghost use Rattle.edit_script.specs.Edits.{with_inflow, with_want};
+ghost use Rattle.edit_session.specs.Sessions.{IsKept};
+ghost use Rattle.senior_hold.specs.MonthNetwork.{month_pushes};
+
+use crate::solving::solve_months;
+use std::alloc::{AllocError, Global};
+use std::marker::Model;
+use std::sync::ledger::Ledger;
+use steps::Steps;
+use water_model::types::{Basin, Inflows, MonthRecord};
+
+/// A basin, a series that may change, and the records of the first months that were solved with it.
+///
+/// At every moment the kept records are those of a run of the basin and of the series as it is now, with the reaches as
+/// the sets of short rights.
+#[derive(Drop)]
+pub struct Session<'b> {
+    basin: &'b Basin,
+    series: Inflows,
+    kept: Vec<Box<MonthRecord>>,
+}
+
+impl<'b> Model for Session<'b> {
+    ghost use Rattle.edit_session.specs.Sessions.{SessionSeen};
+
+    ghost Value = { SessionSeen };
+
+    ghost use Rattle.edit_session.specs.SessionInside.{seen_of, IsReady};
+
+    ghost view = { seen_of };
+
+    ghost invariant = { IsReady };
+}
+
+impl<'b> Session<'b> {
+    /// A session with a copy of the series, in which no month is solved. AllocError comes where memory is lacking.
+    pub fn open(
+        alloc: Global,
+        basin: &'b Basin,
+        series: &Inflows,
+    ) -> Result<Session<'b>, AllocError>
+        requires basin { IsValidBasin basin.now }
+        requires series { IsSeriesOf basin.now series.now }
+        ensures basin { IfOk result (λ session. session.basin ≡ basin.now) }
+        ensures series { IfOk result (λ session. session.series ≡ series.now) }
+        ensures none { IfOk result (λ session. session.kept ≡ []) }
+        ensures history { IfOk result IsKept }
+    {
+        let series = series.copy(alloc)?;
+        Ok(Session {
+            basin,
+            series,
+            kept: Vec::new(alloc),
+        })
+    }
+
+    /// How many months are kept.
+    pub fn solved(&self) -> u32
+        ensures { result ≡ length self.now.kept }
+    {
+        self.kept.len() as u32
+    }
+
+    /// The record of a month that is kept.
+    pub fn month(&self, index: u32) -> &MonthRecord
+        requires { index < length self.now.kept }
+        ensures { slice_get self.now.kept index ≡ Some result.now }
+    {
+        &self.kept[index as usize]
+    }
+
+    /// Changes what flows in at a gauge in a month, in units of 1,000 cubic metres. The gauge is given by its place among
+    /// the gauged nodes. The months before are kept, and no other. No memory is taken.
+    pub fn set_inflow(&mut self, index: u32, gauge: u32, amount: u64)
+        requires index { index < self.old.basin.months }
+        requires gauge { gauge < length self.old.series.gauged }
+        requires amount { amount ≤ 10 ^ 9 }
+        ensures basin { self.new.basin ≡ self.old.basin }
+        ensures series { self.new.series ≡ with_inflow self.old.series index gauge amount }
+        ensures kept { self.new.kept ≡ take index self.old.kept }
+        ensures history { IsKept self.new }
+    {
+        let at = index as usize * self.series.gauged.len() + gauge as usize;
+        self.series.amount.set(at, amount);
+        self.kept.truncate(index as usize);
+    }
+
+    /// Changes what a right wants in a month, in units of 1,000 cubic metres. The right is given by its place among those
+    /// whose wants stand in the series. The months before are kept, and no other. No memory is taken.
+    pub fn set_want(&mut self, index: u32, place: u32, amount: u64)
+        requires index { index < self.old.basin.months }
+        requires place { place < length self.old.series.wanted }
+        requires amount { amount ≤ 10 ^ 9 }
+        ensures basin { self.new.basin ≡ self.old.basin }
+        ensures series { self.new.series ≡ with_want self.old.series index place amount }
+        ensures kept { self.new.kept ≡ take index self.old.kept }
+        ensures history { IsKept self.new }
+    {
+        let at = index as usize * self.series.wanted.len() + place as usize;
+        self.series.want.set(at, amount);
+        self.kept.truncate(index as usize);
+    }
+
+    /// Solves the months up to this one that are not kept yet. The records that were kept stay as they are, and no month
+    /// of theirs is solved again. Each search that finds a walk ticks `searches` once.
+    ///
+    /// AllocError comes only where memory is lacking. Some months more may be kept then, and the session can go on.
+    pub fn solve<L: Ledger>(
+        &mut self,
+        alloc: Global,
+        index: u32,
+        searches: &mut Steps<L>,
+    ) -> Result<(), AllocError>
+        requires { index < self.old.basin.months }
+        ensures basin { self.new.basin ≡ self.old.basin }
+        ensures series { self.new.series ≡ self.old.series }
+        ensures stay { take (length self.old.kept) self.new.kept ≡ self.old.kept }
+        ensures solved { OnOk result (length self.new.kept ≡ max (length self.old.kept) (index + 1)) }
+        ensures history { IsKept self.new }
+        ensures pushes { searches.new ≤ searches.old + (index + 1 - length self.old.kept) * month_pushes self.old.basin }
+    {
+        if index < self.solved() {
+            return Ok(());
+        }
+        solve_months(
+            alloc,
+            self.basin,
+            &self.series,
+            index + 1,
+            &mut self.kept,
+            searches,
+        )
+    }
+}

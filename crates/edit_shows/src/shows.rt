@@ -1,0 +1,130 @@
+//! A whole script answered.
+ghost use Rattle.std.specs.Prelude.{◌≡◌, ◌+◌, ◌*◌, ◌<◌, ◌≤◌, ◌++◌, All, length, codes, Err, OnOk, [], IsErr};
+ghost use Rattle.std.specs.Fmt.{decimal};
+ghost use Rattle.rights_roll.specs.Rolls.{IsRollOf};
+ghost use Rattle.water_edge.specs.Edge.{HasCause, Puts};
+ghost use Rattle.water_model.specs.Valid.{IsValidBasin, IsSeriesOf};
+ghost use Rattle.edit_script.specs.Edits.{IsPlaced, cost, cost_from, edited};
+ghost use Rattle.edit_shows.specs.Shown.{Answers, AnswersWhole, done_bytes, is_show, shows_in};
+ghost use Rattle.edit_shows.specs.declared.stop.EditStop.TheVariants as stop;
+ghost use Rattle.senior_hold.specs.MonthNetwork.{month_pushes};
+
+use crate::answer::answer;
+use crate::stop::EditStop;
+use edit_script::edit::Edit;
+use edit_session::session::Session;
+use rights_roll::roll::Roll;
+use std::alloc::Global;
+use std::sync::ledger::Ledger;
+use steps::Steps;
+use water_edge::{Sink, SinkFailed};
+use water_model::types::{Basin, Inflows};
+use water_text::line::Line;
+
+/// Answers line after line.
+fn answer_each<K: Sink, L: Ledger>(
+    alloc: Global,
+    basin: &Basin,
+    roll: &Roll,
+    session: &mut Session,
+    edits: &[Edit],
+    out: &mut K,
+    searches: &mut Steps<L>,
+) -> Result<(), EditStop>
+    requires basin { IsValidBasin basin.now }
+    requires same { session.old.basin ≡ basin.now }
+    requires roll { IsRollOf basin.now.rights roll.now }
+    requires placed { All (IsPlaced basin.now session.old.series) edits.now }
+    ensures answers { Answers basin.now session.old.series edits.now result (K.taken out.old) (K.taken out.new) }
+    ensures cause { HasCause (K.faults out.old) (K.faults out.new) (result ≡ Err stop.SinkFailed) }
+    ensures pushes { searches.new ≤ searches.old + cost_from (length session.old.kept) edits.now * month_pushes basin.now }
+{
+    for edit in edits {
+        answer(alloc, basin, roll, session, *edit, out, searches)?;
+    }
+    Ok(())
+}
+
+fn is_show(edit: Edit) -> bool
+    ensures { result ≡ is_show edit }
+{
+    match edit {
+        Edit::Show { .. } => true,
+        Edit::Inflow { .. } | Edit::Want { .. } => false,
+    }
+}
+
+/// How many months a script shows.
+fn count_shows(edits: &[Edit]) -> u64
+    ensures { result ≡ shows_in edits.now }
+{
+    edits.iter().filter(|edit| is_show(**edit)).count() as u64
+}
+
+/// Makes the last line.
+fn make_done(line: &mut Line, shows: u64)
+    requires { line.old ≡ [] }
+    ensures { line.new ≡ done_bytes shows }
+{
+    line.word(b"done ");
+    line.amount(shows);
+    line.word(b"\n");
+}
+
+/// Puts the last line.
+fn put_done<K: Sink>(out: &mut K, shows: u64) -> Result<(), SinkFailed>
+    ensures text { Puts (K.taken out.old) (K.taken out.new) result (done_bytes shows) }
+    ensures cause { HasCause (K.faults out.old) (K.faults out.new) (IsErr result) }
+{
+    let mut line = Line::new();
+    make_done(&mut line, shows);
+    out.put(line.bytes())
+}
+
+/// Answers the lines of a script and puts the last line.
+fn put_answers<K: Sink, L: Ledger>(
+    alloc: Global,
+    basin: &Basin,
+    roll: &Roll,
+    session: &mut Session,
+    edits: &[Edit],
+    out: &mut K,
+    searches: &mut Steps<L>,
+) -> Result<(), EditStop>
+    requires basin { IsValidBasin basin.now }
+    requires same { session.old.basin ≡ basin.now }
+    requires roll { IsRollOf basin.now.rights roll.now }
+    requires placed { All (IsPlaced basin.now session.old.series) edits.now }
+    ensures answers { AnswersWhole basin.now session.old.series edits.now result (K.taken out.old) (K.taken out.new) }
+    ensures cause { HasCause (K.faults out.old) (K.faults out.new) (result ≡ Err stop.SinkFailed) }
+    ensures pushes { searches.new ≤ searches.old + cost_from (length session.old.kept) edits.now * month_pushes basin.now }
+{
+    answer_each(alloc, basin, roll, session, edits, out, searches)?;
+    match put_done(out, count_shows(edits)) {
+        Ok(()) => Ok(()),
+        Err(_) => Err(EditStop::SinkFailed),
+    }
+}
+
+/// Answers a script: puts for each `show` the lines of its month, of the series as it is by then, and at the end the number
+/// of months shown. Kept months before a change are not solved again: the searches push at most so often as the cost of
+/// the script in months allows.
+pub fn put_shows<K: Sink, L: Ledger>(
+    alloc: Global,
+    basin: &Basin,
+    series: &Inflows,
+    edits: &[Edit],
+    out: &mut K,
+    searches: &mut Steps<L>,
+) -> Result<(), EditStop>
+    requires basin { IsValidBasin basin.now }
+    requires series { IsSeriesOf basin.now series.now }
+    requires placed { All (IsPlaced basin.now series.now) edits.now }
+    ensures answers { AnswersWhole basin.now series.now edits.now result (K.taken out.old) (K.taken out.new) }
+    ensures cause { HasCause (K.faults out.old) (K.faults out.new) (result ≡ Err stop.SinkFailed) }
+    ensures pushes { searches.new ≤ searches.old + cost edits.now * month_pushes basin.now }
+{
+    let roll = Roll::of_basin(alloc, basin)?;
+    let mut session = Session::open(alloc, basin, series)?;
+    put_answers(alloc, basin, &roll, &mut session, edits, out, searches)
+}

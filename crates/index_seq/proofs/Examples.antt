@@ -1,0 +1,51 @@
+-- A record of two years, and the text of its traces.
+use Rattle.std.proofs.Common.{◌≡◌, ℕ, ◌++◌, refl, false, true, List, [], ◌∷◌, replicate, None}
+use Rattle.std.specs.Prelude.{codes}
+use Rattle.std.specs.Fmt.{digits}
+use Rattle.std.specs.List.{flat_map}
+use Rattle.water_model.specs.Places.{numbers_from, by_seniority}
+use Rattle.water_model.specs.declared.types.Basin.{Basin}
+use Rattle.water_model.specs.declared.types.Carry.TheVariants.{River}
+use Rattle.water_model.specs.declared.types.Inflow.TheVariants.{Monthly, Gauged}
+use Rattle.water_model.specs.declared.types.Inflows.{Inflows}
+use Rattle.water_model.specs.declared.types.RightKind.TheVariants.{Diversion}
+use Rattle.index_seq.specs.Entries.{whole_line, fields_of}
+use Rattle.index_seq.specs.Text.{ensemble_lines}
+use Rattle.index_seq.specs.Traces.{begun_after}
+
+-- a gauge that reads 4 in each month of one year and 12 in each month of the next
+abbrev two_years : Inflows
+two_years = record { gauged = 0 ∷ []; amount = replicate 12 4 ++ replicate 12 12; wanted = []; want = [] }
+
+-- begun in the second year
+begun_in_second : (begun_after two_years 1).amount ≡ replicate 12 12 ++ replicate 12 4
+begun_in_second = refl
+
+abbrev basin : Basin
+basin = record {
+  format = 1;
+  first = record { year = 1900; month = 1 };
+  months = 24;
+  year_start = 10;
+  nodes = record { name = codes "top"; outlet = false; inflow = Gauged } ∷ record { name = codes "mouth"; outlet = true; inflow = Monthly (replicate 12 0) } ∷ [];
+  links = record { name = codes "a"; from = 0; to = 1; carry = River } ∷ [];
+  reservoirs = [];
+  rights =
+      record {
+        name = codes "user";
+        date = record { year = 1900; month = 1; day = 1 };
+        order = 0;
+        kind = Diversion 0;
+        want = replicate 12 10;
+        volume = None;
+        series = false;
+      }
+      ∷ [];
+  returns = [];
+}
+
+-- a right that wants 10 a month gets 48 and 120 in the years of the first trace, and 120 and 48 in those of the second
+text_of_two : flat_map (whole_line basin) (ensemble_lines basin (λ right. 48 ∷ 120 ∷ 120 ∷ 48 ∷ []))
+    ≡ codes "ensemble 1900-01 2" ++ 10 ∷ codes "right user" ++ 10 ∷ codes "yearly 48 2" ++ 10 ∷ codes "yearly 120 2" ++ 10 ∷ codes "done 2" ++ 10 ∷ []
+unfolding whole_line fields_of digits by_seniority numbers_from
+text_of_two = refl

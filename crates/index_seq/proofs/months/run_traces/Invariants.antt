@@ -1,0 +1,10 @@
+use Rattle.std.proofs.Common.{◌≡◌, ◌+◌, ◌*◌, ◌≤◌}
+use Rattle.index_seq.specs.Sums.{HaveSums}
+use Rattle.index_seq.proofs.months.run_traces.Given as goal
+use Rattle.month_fold.specs.Runs.{run_pushes}
+
+abbrev pub invariant-loop-trace : goal.invariant-loop-trace
+invariant-loop-trace g l = record {
+  sums : HaveSums l.basin l.series l.trace l.sums;
+  pushes : l.searches ≤ l.fn.searches + l.trace * run_pushes l.basin;
+}

@@ -1,0 +1,177 @@
+//! A trace, month by month and year by year.
+ghost use Rattle.std.specs.Prelude.{ℕ, List, ◌≡◌, ◌+◌, ◌*◌, ◌<◌, ◌≤◌, length, slice_index, IfOk, OnOk};
+ghost use Rattle.water_model.specs.Valid.{IsValidBasin, IsSeriesOf};
+ghost use Rattle.index_seq.specs.Sums.{IsUnderWay, HaveSums};
+ghost use Rattle.index_seq.specs.Traces.{HasWholeYears, years_of};
+ghost use Rattle.senior_hold.specs.MonthNetwork.{month_pushes};
+ghost use Rattle.month_fold.specs.Runs.{run_pushes};
+
+use crate::begun::rotate;
+use crate::sums::{add_month, empty_sums, empty_year, end_year};
+use month_fold::run::Run;
+use std::alloc::{AllocError, Global};
+use std::sync::ledger::Ledger;
+use steps::Steps;
+use water_model::rows::Rows;
+use water_model::types::{Basin, Inflows};
+
+/// Where the traces stand: how many are whole, and how many years of the next, and how many months of its next year.
+#[derive(Clone, Copy)]
+struct Position {
+    trace: u32,
+    years: u32,
+    months: u32,
+}
+
+/// Solves the next month of a trace and adds it to the year. AllocError comes where memory is lacking.
+fn run_month<L: Ledger>(
+    basin: &Basin,
+    series: &Inflows,
+    at: Position,
+    run: &mut Run,
+    sums: &[Rows<u64>],
+    year: &mut [u64],
+    searches: &mut Steps<L>,
+) -> Result<(), AllocError>
+    requires basin { IsValidBasin basin.now }
+    requires left { run.old.done < basin.now.months }
+    requires under_way { IsUnderWay basin.now series.now at.trace at.years at.months run.old sums.now year.old }
+    ensures done { OnOk result (run.new.done ≡ run.old.done + 1) }
+    ensures under_way { OnOk result (IsUnderWay basin.now series.now at.trace at.years (at.months + 1) run.new sums.now year.new) }
+    ensures pushes { searches.new ≤ searches.old + month_pushes basin.now }
+{
+    run.step(searches)?;
+    add_month(year, run.month());
+    Ok(())
+}
+
+/// Solves the months of the next year of a trace and sums them up. AllocError comes where memory is lacking.
+fn run_year<L: Ledger>(
+    basin: &Basin,
+    series: &Inflows,
+    trace: u32,
+    years: u32,
+    run: &mut Run,
+    sums: &[Rows<u64>],
+    year: &mut [u64],
+    searches: &mut Steps<L>,
+) -> Result<(), AllocError>
+    requires basin { IsValidBasin basin.now }
+    requires left { run.old.done + 12 ≤ basin.now.months }
+    requires under_way { IsUnderWay basin.now series.now trace years 0 run.old sums.now year.old }
+    ensures done { OnOk result (run.new.done ≡ run.old.done + 12) }
+    ensures under_way { OnOk result (IsUnderWay basin.now series.now trace years 12 run.new sums.now year.new) }
+    ensures pushes { searches.new ≤ searches.old + 12 * month_pushes basin.now }
+{
+    for months in 0..12u32 {
+        let at = Position {
+            trace,
+            years,
+            months,
+        };
+        run_month(basin, series, at, run, sums, year, searches)?;
+    }
+    Ok(())
+}
+
+/// Solves the next year of a trace and adds it to the sums. AllocError comes where memory is lacking.
+fn next_year<L: Ledger>(
+    basin: &Basin,
+    series: &Inflows,
+    trace: u32,
+    years: u32,
+    run: &mut Run,
+    sums: &mut [Rows<u64>],
+    year: &mut [u64],
+    searches: &mut Steps<L>,
+) -> Result<(), AllocError>
+    requires basin { IsValidBasin basin.now }
+    requires left { run.old.done + 12 ≤ basin.now.months }
+    requires under_way { IsUnderWay basin.now series.now trace years 0 run.old sums.old year.old }
+    ensures done { OnOk result (run.new.done ≡ run.old.done + 12) }
+    ensures under_way { OnOk result (IsUnderWay basin.now series.now trace (years + 1) 0 run.new sums.new year.new) }
+    ensures zeros { OnOk result ((r : ℕ) → r < length basin.now.rights → slice_index year.new r ≡ 0) }
+    ensures pushes { searches.new ≤ searches.old + 12 * month_pushes basin.now }
+{
+    run_year(basin, series, trace, years, run, sums, year, searches)?;
+    end_year(sums, year)?;
+    Ok(())
+}
+
+/// Solves all years of a trace that had none yet. AllocError comes where memory is lacking.
+fn run_years<L: Ledger>(
+    basin: &Basin,
+    series: &Inflows,
+    trace: u32,
+    run: &mut Run,
+    sums: &mut [Rows<u64>],
+    year: &mut [u64],
+    searches: &mut Steps<L>,
+) -> Result<(), AllocError>
+    requires basin { IsValidBasin basin.now }
+    requires whole { HasWholeYears basin.now }
+    requires first { run.old.done ≡ 0 }
+    requires under_way { IsUnderWay basin.now series.now trace 0 0 run.old sums.old year.old }
+    ensures under_way { OnOk result (IsUnderWay basin.now series.now trace (years_of basin.now) 0 run.new sums.new year.new) }
+    ensures pushes { searches.new ≤ searches.old + run_pushes basin.now }
+{
+    let count = basin.months / 12;
+    for years in 0..count {
+        next_year(basin, series, trace, years, run, sums, year, searches)?;
+    }
+    Ok(())
+}
+
+/// Runs the record from one more of its years, and adds the years of this trace to the sums. AllocError comes where
+/// memory is lacking.
+fn run_trace<L: Ledger>(
+    alloc: Global,
+    basin: &Basin,
+    series: &Inflows,
+    trace: u32,
+    sums: &mut [Rows<u64>],
+    searches: &mut Steps<L>,
+) -> Result<(), AllocError>
+    requires basin { IsValidBasin basin.now }
+    requires whole { HasWholeYears basin.now }
+    requires series { IsSeriesOf basin.now series.now }
+    requires trace { trace < years_of basin.now }
+    requires sums { HaveSums basin.now series.now trace sums.old }
+    ensures sums { OnOk result (HaveSums basin.now series.now (trace + 1) sums.new) }
+    ensures pushes { searches.new ≤ searches.old + run_pushes basin.now }
+{
+    let begun = rotate(alloc, basin, series, trace)?;
+    let mut year = empty_year(alloc, basin.rights.len())?;
+    let mut run = Run::open(alloc, basin, &begun)?;
+    run_years(
+        basin,
+        series,
+        trace,
+        &mut run,
+        sums,
+        year.as_mut_slice(),
+        searches,
+    )?;
+    Ok(())
+}
+
+/// What each right was delivered in each year of each trace, trace by trace. AllocError comes where memory is lacking.
+pub fn run_traces<L: Ledger>(
+    alloc: Global,
+    basin: &Basin,
+    series: &Inflows,
+    searches: &mut Steps<L>,
+) -> Result<Rows<Rows<u64>>, AllocError>
+    requires basin { IsValidBasin basin.now }
+    requires whole { HasWholeYears basin.now }
+    requires series { IsSeriesOf basin.now series.now }
+    ensures sums { IfOk result (HaveSums basin.now series.now (years_of basin.now)) }
+    ensures pushes { searches.new ≤ searches.old + years_of basin.now * run_pushes basin.now }
+{
+    let mut sums = empty_sums(alloc, basin.rights.len())?;
+    let count = basin.months / 12;
+    for trace in 0..count {
+        run_trace(alloc, basin, series, trace, sums.as_mut_slice(), searches)?;
+    }
+    Ok(sums)
+}

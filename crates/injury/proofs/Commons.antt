@@ -1,0 +1,82 @@
+-- The pairs of common rights are those of one name.
+use Rattle.std.proofs.Common.{◌≡◌, ℕ, zero, suc, ◌<◌, Bool, true, cond, refl, sym, ◌∙◌, ap, subst, arith, List, [], ◌∷◌, length, get_or, inl, inr}
+use Rattle.std.proofs.lemmas.Bool.{cases_order}
+use Rattle.std.proofs.lemmas.Bool.Decides.{nat_tests}
+use Rattle.std.proofs.lemmas.Option.{get_or_from_slice_get, slice_get_within}
+use Rattle.std.specs.List.{cons_option, position_or_len}
+use Rattle.std.specs.Prelude.{slice_get, nat_lt, Option, Some, None, unwrap_or, option_map, position, filter_map, bytes_eq, Contains}
+use Rattle.water_model.specs.Basin.{right_name}
+use Rattle.water_model.specs.Places.{seniors_first}
+use Rattle.water_model.specs.Valid.{IsValidBasin}
+use Rattle.water_model.specs.declared.types.Basin.{Basin}
+use Rattle.water_model.specs.declared.types.Right.{Right}
+use Rattle.water_model.proofs.Balance.{entry_at}
+use Rattle.water_model.proofs.Order.{Has, seniors_have}
+use Rattle.rights_roll.proofs.Places.{same_bytes, position_or_len-at_most}
+use Rattle.injury.specs.Common.{HaveOneName, right_named, pair_of, common_rights}
+use Rattle.injury.specs.Laws.{CommonRightsHaveOneName}
+use Rattle.injury.specs.declared.pair.Pair.{Pair}
+use Rattle.injury.proofs.Pairs.{Each, IsPair, named, common_have_one_name}
+
+-- what holds of each element holds of one
+each_at : {X : Type 0} (P : X → Type 0) (xs : List X) (x : X) (k : ℕ) → Each P xs → k < length xs → get_or xs k x ≡ x → P x
+each_at P [] x k h l e = absurd (omega arith)
+each_at P (y ∷ ys) x zero h l e = subst P e h.0
+each_at P (y ∷ ys) x (suc k) h l e = each_at P ys x k h.1 (omega arith) e
+
+found_at : {X : Type 0} (p : X → Bool) (xs : List X) (k : ℕ) (x : X) → slice_get xs k ≡ Some x → p x ≡ true → (i : ℕ) × (position p xs ≡ Some i)
+found_at p xs k x at h =
+    let most = position_or_len-at_most p xs k x (slice_get_within xs k x at) (ap p (get_or_from_slice_get xs k x x at) ∙ h) in
+    let within = slice_get_within xs k x at in
+    (position_or_len p xs, ap (λ t. cond t (Some (position_or_len p xs)) None) (less (position_or_len p xs) (length xs) (omega arith)))
+  where
+    less : (i n : ℕ) → i < n → nat_lt i n ≡ true
+    less i n l = grind (arith, nat_tests)
+
+module _ (first second : Basin) where
+  -- by its name the right of the second basin is found
+  the_right : (r s : ℕ) → IsValidBasin second → HaveOneName first second r s → right_named second (right_name first r) ≡ Some s
+  the_right r s valid one = by_entry (entry_at second.rights s one.in_second)
+    where
+      only : (i : ℕ) → right_named second (right_name first r) ≡ Some i → i ≡ s
+      only i e =
+          let has = named second (right_name first r) i e in
+          elim (cases_order i s) [
+            | inl same ↦ same
+            | inr o ↦ elim o [
+              | inl below ↦ absurd (valid.names.rights i s below one.in_second (has.0 ∙ one.name))
+              | inr above ↦ absurd (valid.names.rights s i above has.1 (sym one.name ∙ sym has.0))
+            ]
+          ]
+
+      by_entry : (x : Right) × (slice_get second.rights s ≡ Some x) → right_named second (right_name first r) ≡ Some s
+      by_entry entry =
+          let name : right_name second s ≡ entry.0.name = ap (λ o. unwrap_or (option_map (λ r. r.name) o) []) entry.1 in
+          let found = found_at (λ x. bytes_eq x.name (right_name first r)) second.rights s entry.0 entry.1
+          (same_bytes entry.0.name (right_name first r) (sym name ∙ sym one.name)) in
+          found.1 ∙ ap (λ i. Some i) (only found.0 found.1)
+
+  -- and the pair stands among those of the rights
+  among : (xs : List ℕ) (r s : ℕ) → right_named second (right_name first r) ≡ Some s → Has xs r →
+      Contains (filter_map (pair_of first second) xs) (record { first = r; second = s })
+  among [] r s e h = absurd h
+  among (x ∷ xs) r s e (inl here) =
+      let p : Pair = record { first = r; second = s } in
+      let pair : pair_of first second x ≡ Some p = ap (pair_of first second) (sym here) ∙ ap (λ o. option_map (λ s. record { first = r; second = s }) o) e in
+      subst (λ (o : Option Pair). Contains (cons_option o (filter_map (pair_of first second) xs)) p) (sym pair) (0, omega arith, refl)
+  among (x ∷ xs) r s e (inr further) = behind (pair_of first second x) (among xs r s e further)
+    where
+      behind : (o : Option Pair) → Contains (filter_map (pair_of first second) xs) (record { first = r; second = s }) →
+          Contains (cons_option o (filter_map (pair_of first second) xs)) (record { first = r; second = s })
+      behind None c = c
+      behind (Some q) c = (suc c.0, (let l = c.1 in omega arith), c.2)
+
+  among_common : (r s : ℕ) → IsValidBasin second → HaveOneName first second r s → Contains (common_rights first second) (record { first = r; second = s })
+  unfolding common_rights
+  among_common r s valid one = among (seniors_first first) r s (the_right r s valid one) (seniors_have first.rights r one.in_first)
+
+pub common_rights_have_one_name : CommonRightsHaveOneName
+common_rights_have_one_name first second r s valid = (
+  (λ one. among_common first second r s valid one),
+  λ c. each_at (IsPair first second) (common_rights first second) (record { first = r; second = s }) c.0 (common_have_one_name first second) c.1 c.2,
+)

@@ -1,0 +1,63 @@
+-- What a comparison needs that goes on month by month.
+use Rattle.std.proofs.Common.{◌≡◌, ℕ, zero, suc, ◌+◌, ◌*◌, ◌<◌, ◌≤◌, sym, ◌∙◌, ap, arith, List, [], ◌∷◌, ◌++◌, length, append-nil, append_assoc, length-append}
+use Rattle.std.specs.Prelude.{All}
+use Rattle.water_model.specs.History.{FitsBasin}
+use Rattle.water_model.specs.Places.{seniors_first}
+use Rattle.water_model.specs.Valid.{IsValidBasin}
+use Rattle.water_model.specs.declared.types.Basin.{Basin}
+use Rattle.water_model.specs.declared.types.MonthRecord.{MonthRecord}
+use Rattle.rights_roll.proofs.Seniors.{length-by_seniority}
+use Rattle.injury.specs.Common.{HaveDeliveries, common_rights}
+use Rattle.injury.specs.Injuries.{injuries_of, injuries}
+use Rattle.injury.proofs.Pairs.{Each, IsPair, common_have_one_name, pairs_few}
+use Rattle.injury.proofs.Put.{injuries-count}
+
+-- the records of two basins have deliveries of their common rights
+each_all : {X : Type 0} (P Q : X → Type 0) (xs : List X) → ((x : X) → P x → Q x) → Each P xs → All Q xs
+each_all P Q [] f h k d l = absurd (omega arith)
+each_all P Q (x ∷ xs) f h zero d l = f x h.0
+each_all P Q (x ∷ xs) f h (suc k) d l = each_all P Q xs f h.1 k d (omega arith)
+
+pub common_deliver : (first second : Basin) (m n : MonthRecord) → FitsBasin first m → FitsBasin second n →
+    HaveDeliveries (common_rights first second) m n
+common_deliver first second m n f g =
+    each_all (IsPair first second) (λ p. (p.first < length m.delivered) × (p.second < length n.delivered)) (common_rights first second) (λ p one. (
+      (let l = one.in_first in let e = f.delivered in omega arith),
+      (let l = one.in_second in let e = g.delivered in omega arith),
+    )) (common_have_one_name first second)
+
+pub common_few : (first second : Basin) → IsValidBasin first → length (common_rights first second) ≤ 2000
+unfolding common_rights
+common_few first second valid =
+    let few = valid.few.rights in
+    omega (arith, pairs_few first second (seniors_first first), length-by_seniority first.rights)
+
+-- one month more
+pub injuries_more : (first second : Basin) (records others : List MonthRecord) (m n : MonthRecord) → length records ≡ length others →
+    injuries first second (records ++ m ∷ []) (others ++ n ∷ [])
+    ≡ injuries first second records others ++ injuries_of (common_rights first second) m n
+unfolding injuries
+injuries_more first second [] [] m n e = append-nil (injuries_of (common_rights first second) m n)
+injuries_more first second [] (y ∷ ys) m n e = absurd (omega arith)
+injuries_more first second (x ∷ xs) [] m n e = absurd (omega arith)
+injuries_more first second (x ∷ xs) (y ∷ ys) m n e =
+    ap (λ t. injuries_of (common_rights first second) x y ++ t) (injuries_more first second xs ys m n (omega arith))
+    ∙ sym (append_assoc (injuries_of (common_rights first second) x y) (injuries first second xs ys) (injuries_of (common_rights first second) m n))
+
+-- in each month there are at most as many injuries as common rights
+pub injuries_few : (first second : Basin) (records others : List MonthRecord) →
+    length (injuries first second records others) ≤ length records * length (common_rights first second)
+unfolding injuries
+injuries_few first second [] others = omega arith
+injuries_few first second (x ∷ xs) [] = omega arith
+injuries_few first second (x ∷ xs) (y ∷ ys) =
+    omega (
+      arith,
+      length-append (injuries_of (common_rights first second) x y) (injuries first second xs ys),
+      injuries-count (common_rights first second) x y,
+      injuries_few first second xs ys,
+      suc_times (length xs) (length (common_rights first second)),
+    )
+  where
+    suc_times : (a c : ℕ) → suc a * c ≡ a * c + c
+    suc_times a c = omega arith

@@ -1,0 +1,10 @@
+pub mod Moves
+pub mod Joined
+pub mod Month
+pub mod Runs
+pub mod Pairs
+pub mod Put
+pub mod Commons
+pub mod OneText
+pub mod Growing
+pub mod Examples

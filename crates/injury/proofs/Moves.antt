@@ -1,0 +1,154 @@
+-- Places behind an inserted one move on: what that does to lists and sums.
+use Rattle.std.proofs.Common.{◌≡◌, ℕ, zero, suc, ◌+◌, ◌<◌, ◌≤◌, Bool, true, false, refl, sym, ◌∙◌, ap, ap₂, arith, List, [], ◌∷◌, length, inl, inr}
+use Rattle.std.proofs.lemmas.Bool.{cases_lt, cases_order}
+use Rattle.std.proofs.lemmas.Bool.Decides.{nat_tests}
+use Rattle.std.proofs.lemmas.List.Edits.{length-insert}
+use Rattle.std.proofs.lemmas.Option.{unwrap_or-slice_get}
+use Rattle.std.specs.Prelude.{if◌then◌else◌, max, insert, slice_get, slice_index, unwrap_or, Some, ◌≢◌}
+use Rattle.place_sums.specs.Sums.{total, total_where, greatest_where}
+use Rattle.place_sums.proofs.Totals.{total_same}
+use Rattle.injury.specs.OneMore.{moved}
+
+pub moved_below : (at r : ℕ) → r < at → moved at r ≡ r
+unfolding moved
+moved_below at r l = grind (arith, nat_tests)
+
+pub moved_behind : (at r : ℕ) → at ≤ r → moved at r ≡ suc r
+unfolding moved
+moved_behind at r l = grind (arith, nat_tests)
+
+moved_suc : (at r : ℕ) → moved (suc at) (suc r) ≡ suc (moved at r)
+moved_suc at r = elim (cases_lt r at) [
+  | inl below ↦ moved_below (suc at) (suc r) (omega arith) ∙ ap suc (sym (moved_below at r below))
+  | inr behind ↦ moved_behind (suc at) (suc r) (omega arith) ∙ ap suc (sym (moved_behind at r behind))
+]
+
+pub moved_within : (at r n : ℕ) → r < n → moved at r < suc n
+moved_within at r n l = elim (cases_lt r at) [
+  | inl below ↦ omega (arith, moved_below at r below)
+  | inr behind ↦ omega (arith, moved_behind at r behind)
+]
+
+pub moved_apart : (at r : ℕ) → moved at r ≢ at
+moved_apart at r e = elim (cases_lt r at) [
+  | inl below ↦ omega (arith, moved_below at r below)
+  | inr behind ↦ omega (arith, moved_behind at r behind)
+]
+
+-- each place but the inserted one is that of an old place
+pub record IsMoved (at n s : ℕ) : Type 0 where
+  pub place : ℕ
+  pub within : place < n
+  pub moves : s ≡ moved at place
+
+pub old_place : (at n s : ℕ) → at ≤ n → s < suc n → s ≢ at → IsMoved at n s
+old_place at n s le l apart = elim (cases_order s at) [
+  | inl same ↦ absurd (apart same)
+  | inr o ↦ elim o [
+    | inl below ↦ record { place = s; within = omega arith; moves = sym (moved_below at s below) }
+    | inr above ↦ behind s above l
+  ]
+]
+  where
+    behind : (s : ℕ) → at < s → s < suc n → IsMoved at n s
+    behind zero a l = absurd (omega arith)
+    behind (suc k) a l = record { place = k; within = omega arith; moves = sym (moved_behind at k (omega arith)) }
+
+-- the entries of a list beside an inserted one
+pub entry_at_moved : {X : Type 0} (xs : List X) (at : ℕ) (x : X) (r : ℕ) → at ≤ length xs →
+    slice_get (insert xs at x) (moved at r) ≡ slice_get xs r
+entry_at_moved xs zero x r l = ap (slice_get (x ∷ xs)) (moved_behind 0 r (omega arith))
+entry_at_moved [] (suc at) x r l = absurd (omega arith)
+entry_at_moved (y ∷ ys) (suc at) x zero l = ap (slice_get (y ∷ insert ys at x)) (moved_below (suc at) 0 (omega arith))
+entry_at_moved (y ∷ ys) (suc at) x (suc r) l =
+    ap (slice_get (y ∷ insert ys at x)) (moved_suc at r) ∙ entry_at_moved ys at x r (omega arith)
+
+pub entry_at_new : {X : Type 0} (xs : List X) (at : ℕ) (x : X) → at ≤ length xs → slice_get (insert xs at x) at ≡ Some x
+entry_at_new xs zero x l = refl
+entry_at_new [] (suc at) x l = absurd (omega arith)
+entry_at_new (y ∷ ys) (suc at) x l = entry_at_new ys at x (omega arith)
+
+pub one_longer : {X : Type 0} (xs : List X) (at : ℕ) (x : X) → at ≤ length xs → length (insert xs at x) ≡ suc (length xs)
+one_longer xs at x l = omega (arith, length-insert xs at x l)
+
+-- a sum over all places is that over the old ones and the new term
+total_moved : (n at : ℕ) (f : ℕ → ℕ) → at ≤ n → total (suc n) f ≡ total n (λ r. f (moved at r)) + f at
+unfolding total
+total_moved zero at f l = let e : f at ≡ f 0 = ap f (omega arith) in omega arith
+total_moved (suc n) at f l = elim (cases_lt n at) [
+  | inl last ↦ (let e : f at ≡ f (suc n) = ap f (omega arith) in
+      omega (arith, total_same (suc n) (λ r. f (moved at r)) f (λ r k. ap f (moved_below at r (omega arith)))))
+  | inr before ↦ (let e : f (moved at n) ≡ f (suc n) = ap f (moved_behind at n before) in
+      omega (arith, total_moved n at f before))
+]
+
+-- a sum over places that pass, and nothing at the new one
+pub total_where_moved : (m n at : ℕ) (p q : ℕ → Bool) (f g : ℕ → ℕ) → m ≡ suc n → at ≤ n →
+    (q at ≡ true → g at ≡ 0) →
+    ((r : ℕ) → r < n → q (moved at r) ≡ p r) →
+    ((r : ℕ) → r < n → p r ≡ true → g (moved at r) ≡ f r) →
+    total_where m q g ≡ total_where n p f
+total_where_moved m n at p q f g len l none tests terms =
+    ap (λ k. total_where k q g) len
+    ∙ omega (
+      arith,
+      total_moved n at (λ s. if q s then g s else 0) l,
+      nothing (q at) (g at) none,
+      total_same n (λ r. if q (moved at r) then g (moved at r) else 0) (λ r. if p r then f r else 0)
+          (λ r k. term (p r) (q (moved at r)) (f r) (g (moved at r)) (tests r k) (terms r k)),
+    )
+  where
+    nothing : (t : Bool) (x : ℕ) → (t ≡ true → x ≡ 0) → (if t then x else 0) ≡ 0
+    nothing true x h = h refl
+    nothing false x h = refl
+
+    term : (p q : Bool) (x y : ℕ) → q ≡ p → (p ≡ true → y ≡ x) → (if q then y else 0) ≡ (if p then x else 0)
+    term true q x y e h = rw e (h refl)
+    term false q x y e h = rw e refl
+
+greatest_same : (n : ℕ) (p q : ℕ → Bool) (f g : ℕ → ℕ) → ((r : ℕ) → r < n → q r ≡ p r) → ((r : ℕ) → r < n → g r ≡ f r) →
+    greatest_where n q g ≡ greatest_where n p f
+unfolding greatest_where
+greatest_same zero p q f g h i = refl
+greatest_same (suc n) p q f g h i =
+    ap₂ max (greatest_same n p q f g (λ r l. h r (omega arith)) (λ r l. i r (omega arith)))
+    (ap₂ (λ t x. if t then x else 0) (h n (omega arith)) (i n (omega arith)))
+
+greatest_moved : (n at : ℕ) (q : ℕ → Bool) (g : ℕ → ℕ) → at ≤ n → q at ≡ false →
+    greatest_where (suc n) q g ≡ greatest_where n (λ r. q (moved at r)) (λ r. g (moved at r))
+unfolding greatest_where
+greatest_moved zero at q g l none =
+    let e : q 0 ≡ false = ap q (omega arith) ∙ none in
+    let last : (if q 0 then g 0 else 0) ≡ 0 = ap (λ t. if t then g 0 else 0) e in
+    omega arith
+greatest_moved (suc n) at q g l none = elim (cases_lt n at) [
+  | inl last ↦ (let e : q (suc n) ≡ false = ap q (omega arith) ∙ none in
+      let nothing : (if q (suc n) then g (suc n) else 0) ≡ 0 = ap (λ t. if t then g (suc n) else 0) e in
+      drop_last (greatest_where (suc n) q g) (if q (suc n) then g (suc n) else 0)
+      (greatest_where (suc n) (λ r. q (moved at r)) (λ r. g (moved at r))) nothing
+      (sym (greatest_same (suc n) q (λ r. q (moved at r)) g (λ r. g (moved at r))
+      (λ r k. ap q (moved_below at r (omega arith))) (λ r k. ap g (moved_below at r (omega arith))))))
+  | inr before ↦ ap₂ max (greatest_moved n at q g before none)
+      (ap (λ s. if q s then g s else 0) (sym (moved_behind at n before)))
+]
+  where
+    drop_last : (x y z : ℕ) → y ≡ 0 → x ≡ z → max x y ≡ z
+    drop_last x y z h e = omega arith
+
+pub greatest_where_moved : (m n at : ℕ) (p q : ℕ → Bool) (f g : ℕ → ℕ) → m ≡ suc n → at ≤ n → q at ≡ false →
+    ((r : ℕ) → r < n → q (moved at r) ≡ p r) → ((r : ℕ) → r < n → g (moved at r) ≡ f r) →
+    greatest_where m q g ≡ greatest_where n p f
+greatest_where_moved m n at p q f g len l none tests terms =
+    ap (λ k. greatest_where k q g) len
+    ∙ (greatest_moved n at q g l none
+    ∙ greatest_same n p (λ r. q (moved at r)) f (λ r. g (moved at r)) tests terms)
+
+-- and numbers by their places
+pub number_at_moved : (xs : List ℕ) (at x r : ℕ) → at ≤ length xs → slice_index (insert xs at x) (moved at r) ≡ slice_index xs r
+number_at_moved xs at x r l =
+    sym (unwrap_or-slice_get (insert xs at x) (moved at r) 0)
+    ∙ (ap (λ o. unwrap_or o 0) (entry_at_moved xs at x r l) ∙ unwrap_or-slice_get xs r 0)
+
+pub number_at_new : (xs : List ℕ) (at x : ℕ) → at ≤ length xs → slice_index (insert xs at x) at ≡ x
+number_at_new xs at x l =
+    sym (unwrap_or-slice_get (insert xs at x) at 0) ∙ ap (λ o. unwrap_or o 0) (entry_at_new xs at x l)

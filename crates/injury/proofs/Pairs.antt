@@ -1,0 +1,132 @@
+-- The pairs of common rights.
+use Rattle.std.proofs.Common.{◌≡◌, ℕ, suc, ◌+◌, ◌<◌, ◌≤◌, Bool, true, false, refl, sym, ◌∙◌, ap, arith, List, [], ◌∷◌, ◌++◌, length, map, inl, inr, take, get_or}
+use Rattle.std.proofs.lemmas.List.{take_all, take_more}
+use Rattle.std.proofs.lemmas.List.Elements.{filter_map-append}
+use Rattle.std.proofs.lemmas.Bool.Decides.{nat_tests}
+use Rattle.std.proofs.lemmas.List.Quantifiers.{position-Some}
+use Rattle.std.proofs.lemmas.Option.{get_or_from_slice_get}
+use Rattle.std.specs.List.{cons_option}
+use Rattle.std.specs.Prelude.{slice_index, slice_get, option_to_list, Option, Some, None, unwrap_or, position, filter, filter_map, option_map, bytes_eq, nat_lt}
+use Rattle.water_model.specs.Basin.{right_name}
+use Rattle.water_model.specs.Places.{seniors_first}
+use Rattle.water_model.specs.declared.types.Basin.{Basin}
+use Rattle.water_model.specs.declared.types.MonthRecord.{MonthRecord}
+use Rattle.water_model.specs.declared.types.Right.{Right}
+use Rattle.water_model.proofs.Balance.{entry_at}
+use Rattle.water_model.proofs.Order.{Has, seniors_below}
+use Rattle.rights_roll.proofs.Places.{bytes_same}
+use Rattle.injury.specs.Common.{HaveOneName, right_named, pair_of, common_rights}
+use Rattle.injury.specs.Injuries.{is_injured, injury_of, injuries_of, injuries}
+use Rattle.injury.specs.Laws.{JuniorLeavesNoInjury}
+use Rattle.injury.specs.declared.pair.Pair.{Pair}
+use Rattle.injury.proofs.Runs.{junior_injures_nobody}
+
+position-within : {X : Type 0} (p : X → Bool) (xs : List X) (i : ℕ) → position p xs ≡ Some i → i < length xs
+position-within p [] i h = cc
+position-within p (x ∷ xs) i h = (position-Some p (x ∷ xs) i x h).0
+
+position-passes : {X : Type 0} (p : X → Bool) (xs : List X) (i : ℕ) (x : X) → position p xs ≡ Some i → slice_get xs i ≡ Some x → p x ≡ true
+position-passes p xs i x h at = ap p (sym (get_or_from_slice_get xs i x x at)) ∙ (position-Some p xs i x h).1
+
+-- what holds of each element
+abbrev pub Each : {X : Type 0} → (X → Type 0) → List X → Type 0
+Each P [] = Unit {0}
+Each P (x ∷ xs) = P x × Each P xs
+
+-- a right that was found by a name has it
+pub named : (b : Basin) (name : List ℕ) (s : ℕ) → right_named b name ≡ Some s → (right_name b s ≡ name) × (s < length b.rights)
+named b name s h = found (entry_at b.rights s within)
+  where
+    within : s < length b.rights
+    within = position-within (λ r. bytes_eq r.name name) b.rights s h
+
+    found : (x : Right) × (slice_get b.rights s ≡ Some x) → (right_name b s ≡ name) × (s < length b.rights)
+    found x =
+        let passes = position-passes (λ r. bytes_eq r.name name) b.rights s x.0 h x.1 in
+        (ap (λ o. unwrap_or (option_map (λ r. r.name) o) []) x.1 ∙ bytes_same x.0.name name passes, within)
+
+module _ (first second : Basin) where
+  abbrev pub IsPair : Pair → Type 0
+  IsPair p = HaveOneName first second p.first p.second
+
+  pairs_of : (xs : List ℕ) → ((r : ℕ) → Has xs r → r < length first.rights) → Each IsPair (filter_map (pair_of first second) xs)
+  pairs_of [] within = tt
+  pairs_of (r ∷ xs) within =
+      one (right_named second (right_name first r)) refl (pairs_of xs (λ s h. within s (inr h)))
+    where
+      one : (o : Option ℕ) → right_named second (right_name first r) ≡ o → Each IsPair (filter_map (pair_of first second) xs) →
+          Each IsPair (filter_map (pair_of first second) (r ∷ xs))
+      one None e rest = rw e rest
+      one (Some s) e rest =
+          rw e (
+            (let found = named second (right_name first r) s e in
+                record { in_first = within r (inl refl); in_second = found.1; name = sym found.0 }),
+            rest,
+          )
+
+  -- each pair of common rights has one name
+  pub common_have_one_name : Each IsPair (common_rights first second)
+  unfolding common_rights
+  common_have_one_name = pairs_of (seniors_first first) (λ r h. seniors_below first.rights r h)
+
+filter_none : {X : Type 0} (p : X → Bool) (xs : List X) → Each (λ x. p x ≡ false) xs → filter p xs ≡ []
+filter_none p [] h = refl
+filter_none p (x ∷ xs) h = rw h.0 (filter_none p xs h.1)
+
+each_then : {X : Type 0} (P Q : X → Type 0) (xs : List X) → ((x : X) → P x → Q x) → Each P xs → Each Q xs
+each_then P Q [] f h = tt
+each_then P Q (x ∷ xs) f h = (f x h.0, each_then P Q xs f h.1)
+
+-- a month in which each pair is delivered the same has no injury
+no_injury_in : (first second : Basin) (m n : MonthRecord) →
+    ((r s : ℕ) → HaveOneName first second r s → slice_index m.delivered r ≡ slice_index n.delivered s) → injuries_of (common_rights first second) m n ≡ []
+no_injury_in first second m n same =
+    ap (map (injury_of m n)) (filter_none (is_injured m n) (common_rights first second)
+    (each_then (IsPair first second) (λ p. is_injured m n p ≡ false) (common_rights first second)
+    (λ p one. not_less (slice_index m.delivered p.first) (slice_index n.delivered p.second) (same p.first p.second one))
+    (common_have_one_name first second)))
+  where
+    not_less : (y z : ℕ) → y ≡ z → nat_lt z y ≡ false
+    not_less y z e = grind (arith, nat_tests)
+
+no_injury : (first second : Basin) (records others : List MonthRecord) →
+    ((i : ℕ) (m n : MonthRecord) → slice_get records i ≡ Some m → slice_get others i ≡ Some n → injuries_of (common_rights first second) m n ≡ []) →
+    injuries first second records others ≡ []
+unfolding injuries
+no_injury first second [] others none = refl
+no_injury first second (m ∷ ms) [] none = refl
+no_injury first second (m ∷ ms) (n ∷ ns) none =
+    rw (none 0 m n refl refl) (no_injury first second ms ns (λ i k l. none (suc i) k l))
+
+pub junior_leaves_no_injury : JuniorLeavesNoInjury
+junior_leaves_no_injury first second at x series other records others valid valid' more give f g =
+    no_injury first second records others (λ i m n here there. no_injury_in first second m n
+    (junior_injures_nobody first second at x series other records others valid valid' more give f g i m n here there))
+
+-- the pairs of the rights so far, one right after another
+pub pairs_more : (first second : Basin) (order : List ℕ) (i : ℕ) → i < length order →
+    filter_map (pair_of first second) (take (i + 1) order)
+    ≡ filter_map (pair_of first second) (take i order) ++ option_to_list (pair_of first second (get_or order i 0))
+pairs_more first second order i l =
+    ap (filter_map (pair_of first second)) (take_more order i 0 l)
+    ∙ (filter_map-append (pair_of first second) (take i order) (get_or order i 0 ∷ [])
+    ∙ ap (λ t. filter_map (pair_of first second) (take i order) ++ t) (one (pair_of first second (get_or order i 0))))
+  where
+    one : (o : Option Pair) → cons_option o [] ≡ option_to_list o
+    one None = refl
+    one (Some p) = refl
+
+pub pairs_all : (first second : Basin) (order : List ℕ) (i : ℕ) → length order ≤ i → order ≡ seniors_first first →
+    filter_map (pair_of first second) (take i order) ≡ common_rights first second
+unfolding common_rights
+pairs_all first second order i l same = ap (filter_map (pair_of first second)) (take_all i order l ∙ same)
+
+-- there are no more pairs than rights
+pub pairs_few : (first second : Basin) (order : List ℕ) → length (filter_map (pair_of first second) order) ≤ length order
+pairs_few first second [] = omega arith
+pairs_few first second (r ∷ order) = one (pair_of first second r) (pairs_few first second order)
+  where
+    one : (o : Option Pair) → length (filter_map (pair_of first second) order) ≤ length order →
+        length (cons_option o (filter_map (pair_of first second) order)) ≤ length (r ∷ order)
+    one None l = omega arith
+    one (Some p) l = omega arith

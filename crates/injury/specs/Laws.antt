@@ -1,0 +1,44 @@
+-- Laws over the comparison of runs.
+use Rattle.std.specs.Prelude.{◌≡◌, ℕ, List, [], slice_get, slice_index, Some, ◌↔◌, Contains}
+use Rattle.water_model.specs.History.{IsPartialHistory, IsHistory}
+use Rattle.water_model.specs.Valid.{IsValidBasin}
+use Rattle.water_model.specs.declared.types.Basin.{Basin}
+use Rattle.water_model.specs.declared.types.Inflows.{Inflows}
+use Rattle.water_model.specs.declared.types.MonthRecord.{MonthRecord}
+use Rattle.water_model.specs.declared.types.Right.{Right}
+use Rattle.injury.specs.Common.{HaveOneName, common_rights}
+use Rattle.injury.specs.Injuries.{injuries, comparison_text}
+use Rattle.injury.specs.OneMore.{HasOneMore, GiveSame}
+
+-- Common rights are those of one name. The pairs are the rights of the first basin that the second has by name.
+abbrev pub CommonRightsHaveOneName : Type 0
+CommonRightsHaveOneName =
+    (first second : Basin) (r s : ℕ) → IsValidBasin second →
+    HaveOneName first second r s ↔ Contains (common_rights first second) (record { first = r; second = s })
+
+-- A comparison has one text. Which of several histories of the two basins are taken does not show in it.
+abbrev pub ComparisonsHaveOneText : Type 0
+ComparisonsHaveOneText =
+    (first second : Basin) (series other : Inflows) (records records' others others' : List MonthRecord) →
+    IsValidBasin first → IsValidBasin second →
+    IsHistory first series records → IsHistory first series records' →
+    IsHistory second other others → IsHistory second other others' →
+    comparison_text first second records others ≡ comparison_text first second records' others'
+
+-- A most junior right injures nobody. Where a basin gets one more diversion or instream right, junior to all others, each
+-- common right is delivered the same in every month of any history of the one and of the other.
+abbrev pub JuniorInjuresNobody : Type 0
+JuniorInjuresNobody =
+    (first second : Basin) (at : ℕ) (right : Right) (series other : Inflows) (records others : List MonthRecord) →
+    IsValidBasin first → IsValidBasin second → HasOneMore first second at right → GiveSame first at series other →
+    IsPartialHistory first series records → IsPartialHistory second other others →
+    (i : ℕ) (m n : MonthRecord) → slice_get records i ≡ Some m → slice_get others i ≡ Some n →
+    (r s : ℕ) → HaveOneName first second r s → slice_index m.delivered r ≡ slice_index n.delivered s
+
+-- so that a comparison has no injury
+abbrev pub JuniorLeavesNoInjury : Type 0
+JuniorLeavesNoInjury =
+    (first second : Basin) (at : ℕ) (right : Right) (series other : Inflows) (records others : List MonthRecord) →
+    IsValidBasin first → IsValidBasin second → HasOneMore first second at right → GiveSame first at series other →
+    IsPartialHistory first series records → IsPartialHistory second other others →
+    injuries first second records others ≡ []

@@ -1,0 +1,4 @@
+pub mod Common
+pub mod OneMore
+pub mod Injuries
+pub mod Laws

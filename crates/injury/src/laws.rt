@@ -1,0 +1,22 @@
+//! Laws over the comparison of runs. Each is the contract of a function that does nothing.
+ghost use Rattle.injury.specs.Laws.{CommonRightsHaveOneName, ComparisonsHaveOneText, JuniorInjuresNobody, JuniorLeavesNoInjury};
+
+/// The pairs of common rights are those of one name.
+pub fn common_rights_have_one_name()
+    ensures { CommonRightsHaveOneName }
+{}
+
+/// Two runs of two basins have one comparison.
+pub fn comparisons_have_one_text()
+    ensures { ComparisonsHaveOneText }
+{}
+
+/// A most junior right injures nobody.
+pub fn junior_injures_nobody()
+    ensures { JuniorInjuresNobody }
+{}
+
+/// With one more right, and that a most junior one, no comparison has an injury.
+pub fn junior_leaves_no_injury()
+    ensures { JuniorLeavesNoInjury }
+{}

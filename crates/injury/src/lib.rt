@@ -1,0 +1,12 @@
+//! Two runs compared: who is delivered less in the second.
+#![tactic(auto)]
+
+mod fields;
+mod injuries;
+pub mod laws;
+mod pair;
+mod pairing;
+
+pub use injuries::{Injury, put_compared};
+pub use pair::Pair;
+pub use pairing::Pairing;

@@ -1,0 +1,137 @@
+//! Scripts answered over a basin with a gauge and a return.
+ghost use Rattle.std.specs.Prelude.{◌≡◌, ◌<◌, ◌≤◌, length};
+
+use crate::basins::basin_of;
+use edit_script::{ScriptFault, ScriptRefused, read_script};
+use edit_shows::put_shows;
+use inflow_file::read_inflows;
+use std::alloc::Global;
+use std::marker::Brand;
+use std::sync::ledger::{Blank, Ledger};
+use std::test::Fail;
+use steps::Steps;
+use water_edge::MemorySink;
+
+const BASIN: &str = r#"
+format = 1
+first_month = "1900-01"
+months = 3
+node = [{ name = "head", inflow = "gauged" }, { name = "mouth", outlet = true }]
+link = [{ name = "a", from = "head", to = "mouth" }]
+diversion = [{ name = "farm", node = "head", date = "1900-01-01", want = 12 }]
+return = [{ diversion = "farm", node = "mouth", part = 5000, lag = 1 }]
+"#;
+
+const SERIES: &[u8] = b"month,node,amount\n1900-01,head,10\n1900-02,head,10\n1900-03,head,10\n";
+
+/// What a script is answered.
+fn answered<L: Ledger>(
+    alloc: Global,
+    blank: Blank,
+    script: &[u8],
+) -> Result<Result<MemorySink, ScriptRefused>, Fail>
+    requires name { blank.name ≡ L.name }
+    requires parts { blank.parts ≡ L.parts }
+    requires some { 0 < L.parts }
+    requires small { length script.now ≤ 67108864 }
+{
+    let basin = basin_of(alloc, BASIN)?;
+    let series = read_inflows(alloc, &basin, SERIES)?;
+    let edits = match read_script(alloc, &basin, &series, script) {
+        Ok(edits) => edits,
+        Err(refused) => return Ok(Err(refused)),
+    };
+    let mut searches = Steps::<L>::new(blank);
+    let mut out = MemorySink::new(alloc, 4096, Vec::new(alloc))?;
+    put_shows(alloc, &basin, &series, &edits, &mut out, &mut searches)?;
+    Ok(Ok(out))
+}
+
+const SCRIPT: &[u8] = b"river-edit 1
+show 1900-02
+inflow 1900-02 head 20
+show 1900-02
+show 1900-01
+show 1900-03
+done
+";
+
+const ANSWER: &str = "month 1900-02
+return mouth 5
+flow a 0
+deliver farm 10 12
+out mouth 5
+call farm
+in head
+end
+month 1900-02
+return mouth 5
+flow a 8
+deliver farm 12 12
+out mouth 13
+end
+month 1900-01
+return mouth 0
+flow a 0
+deliver farm 10 12
+out mouth 0
+call farm
+in head
+in mouth
+end
+month 1900-03
+return mouth 6
+flow a 0
+deliver farm 10 12
+out mouth 6
+call farm
+in head
+end
+done 4
+";
+
+#[test]
+fn shows_months_of_the_changed_series(rt: HostRuntime) -> Result<(), Fail> {
+    match answered::<Brand>(rt.alloc(), Blank::new(1), SCRIPT)? {
+        Ok(out) => assert_eq!(rt; out.bytes(), ANSWER.as_bytes()),
+        Err(_) => assert!(rt; false, "refused"),
+    }
+    Ok(())
+}
+
+static REFUSED: [(&[u8], ScriptFault, u64); 7] = [
+    (b"river-edit 1\nshow 1900-02\n", ScriptFault::EarlyEnd, 3),
+    (b"river-edit 1\ndone", ScriptFault::EarlyEnd, 2),
+    (b"river-edit 1\ndone\n\n", ScriptFault::AfterEnd, 3),
+    (
+        b"river-edit 1\nshow 1900-04\ndone\n",
+        ScriptFault::OutsideRun,
+        2,
+    ),
+    (
+        b"river-edit 1\ninflow 1900-01 mouth 5\ndone\n",
+        ScriptFault::NotSeries,
+        2,
+    ),
+    (
+        b"river-edit 1\ninflow 1900-01 sea 5\ndone\n",
+        ScriptFault::NoSuchName,
+        2,
+    ),
+    (
+        b"river-edit 1\nshow 1900-01\nriver-edit 1\n",
+        ScriptFault::BadLine,
+        3,
+    ),
+];
+
+#[test]
+fn refuses_the_first_line_at_fault(rt: HostRuntime) -> Result<(), Fail> {
+    for (script, fault, line) in REFUSED {
+        match answered::<Brand>(rt.alloc(), Blank::new(1), script)? {
+            Ok(_) => assert!(rt; false, "not refused"),
+            Err(refused) => assert_eq!(rt; refused, ScriptRefused::Refused { fault, line }),
+        }
+    }
+    Ok(())
+}

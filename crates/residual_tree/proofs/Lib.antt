@@ -1,0 +1,12 @@
+pub mod Turns
+pub mod Changes
+pub mod Frees
+pub mod Grows
+pub mod Overs
+pub mod Dry
+pub mod Ranks
+pub mod Walks
+pub mod Pushes
+pub mod Traces
+pub mod Rounds
+pub mod Reaches

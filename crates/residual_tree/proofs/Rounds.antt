@@ -1,0 +1,139 @@
+-- What a round and a hold leave.
+use Rattle.std.proofs.Common.{ℕ, max, ◌≡◌, ◌+◌, ◌-◌, ◌*◌, ◌<◌, ◌≤◌, List, length, slice_index, slice_set, refl, arith, ap, sym, subst, inl, inr, ◌∙◌}
+use Rattle.std.proofs.lemmas.Bool.{cases_eq}
+use Rattle.std.proofs.lemmas.List.{get_or-set_other, get_or-set_same}
+use Rattle.circulation.specs.Contents.{Contents, flow_of, arcs, step_of, held_contents, IsCirculation}
+use Rattle.circulation.specs.Residual.{arc_of, IsPushed}
+use Rattle.augment.proofs.Raises.{pushed_first}
+use Rattle.residual_tree.specs.Growth.{none, only, IsWornTree, IsLent}
+use Rattle.residual_tree.specs.Raised.{IsTraced, IsRaisedOver}
+use Rattle.residual_tree.proofs.Pushes.{but_over, pushed_worn, worn_written}
+
+-- nothing changed but scratch words
+pub raised_scratch : (c d : Contents) (r : ℕ) → d ≡ record c { scratch = d.scratch } → IsRaisedOver c d r
+raised_scratch c d r rest = record {
+  rest = subst (λ (x : Contents). x ≡ record c { lower = x.lower; flow = x.flow; scratch = x.scratch }) (sym rest) refl;
+  lowers = λ a ne. ap (λ (x : Contents). slice_index x.lower a) rest;
+}
+
+-- one raise after another
+pub raised_more : (c d e : Contents) (r : ℕ) → IsRaisedOver c d r → IsRaisedOver d e r → IsRaisedOver c e r
+raised_more c d e r first second = record {
+  rest = second.rest ∙ ap (λ (x : Contents). record x { lower = e.lower; flow = e.flow; scratch = e.scratch }) first.rest;
+  lowers = λ a ne. second.lowers a ne ∙ first.lowers a ne;
+}
+
+-- the contents after a walk was written, a push and a hold
+abbrev pub raised_contents : Contents → List ℕ → List ℕ → ℕ → ℕ → Contents
+raised_contents c scratch flow r amount =
+    record c { scratch = scratch; flow = flow; lower = slice_set c.lower r (max (slice_index c.lower r) amount) }
+
+raised_is : (c d e f : Contents) (r amount : ℕ) → d ≡ record c { scratch = d.scratch } → e ≡ record d { flow = e.flow } →
+    f ≡ held_contents e r amount → f ≡ raised_contents c d.scratch e.flow r amount
+raised_is c d e f r amount written pushed held =
+    held ∙ ap (λ (x : Contents). held_contents x r amount) pushed
+    ∙ ap (λ (x : Contents). held_contents (record x { flow = e.flow }) r amount) written
+
+-- the tree after a walk was written, a push, a hold, and the lent step in front of the walk
+pub record IsRoundTree (c g : Contents) (way : List ℕ) (first last : ℕ) : Type 0 where
+  pub worn : IsWornTree g way first last
+  pub arcs : (i : ℕ) → first ≤ i → i < last → arc_of (step_of g i) < arcs g
+
+pub round_worn : (c d e f g : Contents) (way : List ℕ) (r most first first' last last' amount flow : ℕ) → IsCirculation d →
+    (t : IsLent c way r) → arc_of t.step < arcs c → flow_of c r ≡ slice_index c.lower r →
+    IsTraced c d way r most first amount → 0 < amount → e ≡ record d { flow = e.flow } → last ≡ 4 * c.nodes + 8 →
+    IsPushed (flow_of d) (flow_of e) (step_of d) first last amount → f ≡ held_contents e r flow → first' + 1 ≡ first →
+    g ≡ record f { scratch = slice_set f.scratch (first - 1) t.step } → last' ≡ last → IsRoundTree c g way first' last'
+round_worn c d e f g way r most first first' last last' amount flow k t b held traced positive pushed is p made before written more =
+    let rest = traced.rest in
+    let kept = subst IsCirculation rest k in
+    let now = raised_is c d e f r flow rest pushed made in
+    let moved = subst (λ (x : Contents). IsPushed (flow_of x) (flow_of e) (step_of d) first last amount) rest p in
+    let whole = subst (λ (n : ℕ). IsPushed (flow_of c) (flow_of e) (step_of d) first n amount) is moved in
+    let walk = traced.walk positive in
+    let here = raised_contents c d.scratch e.flow r flow in
+    let after = written ∙ ap (λ (x : Contents). record x { scratch = slice_set x.scratch (first - 1) t.step }) now in
+    let over : IsLent (record c { scratch = d.scratch }) way r = record {
+      step = t.step;
+      enters = t.enters;
+      tree = but_over c way d.scratch (only t.step) none none none t.tree;
+    } in
+    let long : first ≤ length d.scratch = omega (arith, kept.shape.scratch, traced.some) in
+    subst (λ (x : Contents). IsRoundTree c x way first' last') (sym after)
+    (subst (λ (n : ℕ). IsRoundTree c (record here { scratch = slice_set d.scratch (first - 1) t.step }) way first' n) (sym (more ∙ is))
+    record {
+      worn = worn_written here way first first' (4 * c.nodes + 8) t.step before long (omega (arith, traced.some))
+          (pushed_worn (record c { scratch = d.scratch }) way (slice_set c.lower r (max (slice_index c.lower r) flow)) e.flow r
+          first (4 * c.nodes + 8) amount kept over walk whole traced.forward traced.ends
+          (omega (arith, held)) (λ a ne. get_or-set_other c.lower r a (max (slice_index c.lower r) flow) 0 ne));
+      arcs = λ i h j. elim (cases_eq i (first - 1)) [
+        | inl f ↦ omega (
+          arith,
+          ap (λ (n : ℕ). arc_of (slice_index (slice_set d.scratch (first - 1) t.step) n)) f,
+          ap arc_of (get_or-set_same d.scratch (first - 1) t.step 0 (omega (arith, before, long))),
+          b,
+        )
+        | inr ne ↦ omega (
+          arith,
+          ap arc_of (get_or-set_other d.scratch (first - 1) i t.step 0 ne),
+          walk.arc i (omega (arith, ne, h, before)) j,
+        )
+      ];
+    })
+
+-- what the round leaves of the contents
+pub record IsRound (c f : Contents) (r amount : ℕ) : Type 0 where
+  pub rest : IsRaisedOver c f r
+  pub raised : flow_of f r ≡ flow_of c r + amount
+  pub held : flow_of f r ≡ slice_index f.lower r
+
+pub round_is : (c d e f : Contents) (way : List ℕ) (r most first last amount flow : ℕ) → IsCirculation d → r < arcs c →
+    flow_of c r ≡ slice_index c.lower r → IsTraced c d way r most first amount → 0 < amount →
+    e ≡ record d { flow = e.flow } → last ≡ 4 * c.nodes + 8 → IsPushed (flow_of d) (flow_of e) (step_of d) first last amount →
+    flow ≡ flow_of e r → f ≡ held_contents e r flow → IsRound c f r amount
+round_is c d e f way r most first last amount flow k b held traced positive pushed is p seen made =
+    let rest = traced.rest in
+    let now = raised_is c d e f r flow rest pushed made in
+    let more = max (slice_index c.lower r) flow in
+    let kept = subst IsCirculation rest k in
+    let long : r < length c.lower = omega (arith, kept.shape.lower, b) in
+    let own = pushed_first (flow_of d) (flow_of e) (step_of d) first last amount r p (omega (arith, traced.some, is)) traced.forward in
+    let before = ap (λ (x : Contents). flow_of x r) rest in
+    let here = get_or-set_same c.lower r more 0 long in
+    subst (λ (x : Contents). IsRound c x r amount) (sym now) record {
+      rest = record {
+        rest = refl;
+        lowers = λ a ne. get_or-set_other c.lower r a more 0 ne;
+      };
+      raised = omega (arith, own, before);
+      held = omega (arith, here, own, before, seen, held);
+    }
+
+-- what a hold leaves of the contents
+pub hold_is : (c d : Contents) (r amount : ℕ) → IsCirculation c → r < arcs c → amount ≡ flow_of c r →
+    d ≡ record (held_contents c r amount) { scratch = d.scratch } → IsRound c d r 0
+hold_is c d r amount k b is made =
+    let more = max (slice_index c.lower r) amount in
+    let long : r < length c.lower = omega (arith, k.shape.lower, b) in
+    let here = get_or-set_same c.lower r more 0 long in
+    subst (λ (x : Contents). IsRound c x r 0) (sym made) record {
+      rest = record {
+        rest = refl;
+        lowers = λ a ne. get_or-set_other c.lower r a more 0 ne;
+      };
+      raised = omega arith;
+      held = omega (arith, here, is, k.flow.low r b);
+    }
+
+-- only scratch words changed
+pub scratch_is : (f g : Contents) (scratch : List ℕ) → g ≡ record f { scratch = scratch } → g ≡ record f { scratch = g.scratch }
+scratch_is f g scratch e = e ∙ ap (λ (xs : List ℕ). record f { scratch = xs }) (sym (ap (λ (x : Contents). x.scratch) e))
+
+-- a round after which scratch words were written
+pub round_written : (c f g : Contents) (r amount : ℕ) (scratch : List ℕ) → IsRound c f r amount →
+    g ≡ record f { scratch = scratch } → IsRound c g r amount
+round_written c f g r amount scratch round e = record {
+  rest = raised_more c f g r round.rest (raised_scratch f g r (scratch_is f g scratch e));
+  raised = ap (λ (x : Contents). flow_of x r) e ∙ round.raised;
+  held = ap (λ (x : Contents). flow_of x r) e ∙ round.held ∙ sym (ap (λ (x : Contents). slice_index x.lower r) e);
+}

@@ -1,0 +1,215 @@
+-- The walk is written down from its end.
+use Rattle.std.proofs.Common.{ℕ, min, ◌≡◌, ◌≢◌, ◌+◌, ◌-◌, ◌*◌, ◌<◌, ◌≤◌, List, length, slice_index, slice_set, refl, arith, ap, sym, subst, inl, inr, ◌∙◌}
+use Rattle.std.proofs.lemmas.Bool.{cases_eq, cases_lt}
+use Rattle.std.proofs.lemmas.List.{get_or-set_other, get_or-set_same}
+use Rattle.circulation.specs.Contents.{Contents, network, flow_of, arcs, step_of, IsCirculation}
+use Rattle.circulation.specs.Residual.{start_of, end_of, room_of}
+use Rattle.augment.specs.Search.{SameButScratch}
+use Rattle.augment.proofs.Trails.{IsTrail, IsWayBack, trail_start, trail_next, trail_closed}
+use Rattle.residual_tree.specs.Tree.{word_of, IsReached}
+use Rattle.residual_tree.specs.Raised.{IsExit, IsTraced}
+use Rattle.residual_tree.specs.Growth.{IsLent}
+use Rattle.residual_tree.proofs.Grows.{lent_closed, lent_marked}
+use Rattle.residual_tree.proofs.Overs.{over_forward}
+use Rattle.residual_tree.proofs.Ranks.{place_of, place_positive, place_most}
+use Rattle.residual_tree.proofs.Walks.{way_back, trail_exit}
+
+-- a step of the trail ends at a basin node that is reached, and not at the head of the arc r
+pub record IsPassed (c : Contents) (way : List ℕ) (r s : ℕ) : Type 0 where
+  pub reached : IsReached way (end_of (network c) s)
+  pub head : end_of (network c) s ≢ slice_index c.to r
+  pub basin : end_of (network c) s ≢ c.nodes
+
+-- the trail from the node to the tail of the arc r stands in the scratch words from `first` on
+pub record IsTracing (c d : Contents) (way : List ℕ) (r most first node amount : ℕ) : Type 0 where
+  pub rest : SameButScratch c d
+  pub kept : IsCirculation d
+  pub reached : IsReached way node
+  pub trail : (t : IsLent c way r) → IsTrail (network c) (flow_of c) r most (place_of c.nodes t.tree.rank) (step_of d) first
+      (4 * c.nodes + 8) node amount
+  pub passed : (i : ℕ) → first ≤ i → i < 4 * c.nodes + 8 → IsPassed c way r (step_of d i)
+
+-- at the tail
+pub tracing_start : (c : Contents) (way : List ℕ) (r most : ℕ) → IsCirculation c → r < arcs c → 0 < most →
+    IsReached way (slice_index c.from r) → IsTracing c c way r most (4 * c.nodes + 8) (slice_index c.from r) most
+tracing_start c way r most k b positive m =
+    let inside = k.ends.from_in r b in
+    record {
+      rest = refl;
+      kept = k;
+      reached = m;
+      trail = λ t. trail_start (network c) (flow_of c) r most (place_of c.nodes t.tree.rank) (step_of c) (4 * c.nodes + 8) inside
+          (place_positive c.nodes t.tree.rank (slice_index c.from r))
+          (omega (arith, place_most c.nodes t.tree.rank (slice_index c.from r) inside)) positive;
+      passed = λ i h j. absurd (omega arith);
+    }
+
+-- a word was written in front of the others
+pub record IsWritten (d e : Contents) (first first' s : ℕ) : Type 0 where
+  pub at : step_of e first' ≡ s
+  pub others : (i : ℕ) → first ≤ i → step_of e i ≡ step_of d i
+
+pub wrote : (d e : Contents) (first first' s : ℕ) → e ≡ record d { scratch = slice_set d.scratch (first - 1) s } →
+    first' + 1 ≡ first → first ≤ length d.scratch → IsWritten d e first first' s
+wrote d e first first' s is before long =
+    let scratch = ap (λ (x : Contents). x.scratch) is in
+    let place : first' ≡ first - 1 = omega arith in
+    record {
+      at = ap (λ (xs : List ℕ). slice_index xs first') scratch ∙ ap (slice_index (slice_set d.scratch (first - 1) s)) place
+          ∙ get_or-set_same d.scratch (first - 1) s 0 (omega arith);
+      others = λ i h. ap (λ (xs : List ℕ). slice_index xs i) scratch
+          ∙ get_or-set_other d.scratch (first - 1) i s 0 (λ e. absurd (omega arith));
+    }
+
+-- only the scratch words were written
+pub rest_more : (c d e : Contents) (scratch : List ℕ) → SameButScratch c d → e ≡ record d { scratch = scratch } →
+    SameButScratch c e
+rest_more c d e scratch rest is =
+    let own = ap (λ (x : Contents). x.scratch) is in
+    is ∙ ap (λ (x : Contents). record x { scratch = scratch }) rest ∙ ap (λ (xs : List ℕ). record c { scratch = xs }) (sym own)
+
+-- there are as many scratch words as before
+pub long_as : (c d : Contents) → SameButScratch c d → IsCirculation d → length d.scratch ≡ 4 * c.nodes + 8
+long_as c d rest k = k.shape.scratch ∙ ap (λ (x : Contents). 4 * x.nodes + 8) rest
+
+-- the step by which the node is reached
+pub tracing_back : (c d : Contents) (way : List ℕ) (r most first node amount s : ℕ) → IsCirculation c →
+    IsTracing c d way r most first node amount → (t : IsLent c way r) → flow_of c r ≡ slice_index c.lower r →
+    node ≢ slice_index c.to r → node ≢ c.nodes → s ≡ word_of way node - 1 →
+    IsWayBack (network c) (flow_of c) r 1 (place_of c.nodes t.tree.rank) node s
+tracing_back c d way r most first node amount s k p t held ne basin is =
+    let inside = (p.trail t).inside in
+    way_back c way r node s k t (omega (arith, held)) (omega (arith, inside, basin)) p.reached ne is
+
+-- one more step back
+pub tracing_next : (c d e : Contents) (way : List ℕ) (r most first first' node next amount more s : ℕ) → IsCirculation c →
+    IsTracing c d way r most first node amount → (t : IsLent c way r) → flow_of c r ≡ slice_index c.lower r →
+    node ≢ slice_index c.to r → node ≢ c.nodes → s ≡ word_of way node - 1 → next ≡ start_of (network d) s →
+    more ≡ min amount (room_of (network d) (flow_of d) s) → first' + 1 ≡ first →
+    e ≡ record d { scratch = slice_set d.scratch (first - 1) s } → IsCirculation e →
+    IsTracing c e way r most first' next more
+tracing_next c d e way r most first first' node next amount more s k p t held ne basin is is_next is_more before written kept =
+    let back = tracing_back c d way r most first node amount s k p t held ne basin is in
+    let trail = p.trail t in
+    let wr = wrote d e first first' s written before (omega (arith, long_as c d p.rest p.kept, trail.within)) in
+    let start = is_next ∙ ap (λ (x : Contents). start_of (network x) s) p.rest in
+    let room = is_more ∙ ap (λ (x : Contents). min amount (room_of (network x) (flow_of x) s)) p.rest in
+    let inside = (p.trail t).inside in
+    record {
+      rest = rest_more c d e (slice_set d.scratch (first - 1) s) p.rest written;
+      kept = kept;
+      reached = subst (λ (u : ℕ). IsReached way u) (sym start)
+          (subst (λ (x : ℕ). IsReached way (start_of (network c) x)) (sym is)
+          (lent_marked c way t.step node t.tree (omega (arith, inside, basin)) p.reached));
+      trail = λ t'.
+          let back' = tracing_back c d way r most first node amount s k p t' held ne basin is in
+          let moved = trail_next (network c) (flow_of c) r most (place_of c.nodes t'.tree.rank) (step_of d) (step_of e) first first'
+          (4 * c.nodes + 8) node amount s (sym before) (p.trail t') back' wr.at wr.others in
+          subst (λ (u : ℕ). IsTrail (network c) (flow_of c) r most (place_of c.nodes t'.tree.rank) (step_of e) first'
+          (4 * c.nodes + 8) u more) (sym start)
+          (subst (λ (x : ℕ). IsTrail (network c) (flow_of c) r most (place_of c.nodes t'.tree.rank) (step_of e) first'
+          (4 * c.nodes + 8) (start_of (network c) s) x) (sym room) moved);
+      passed = λ i h j. elim (cases_eq i first') [
+        | inl f ↦ subst (λ (x : ℕ). IsPassed c way r x) (sym (ap (step_of e) f ∙ wr.at)) record {
+          reached = subst (λ (u : ℕ). IsReached way u) (sym back.enters) p.reached;
+          head = λ g. ne (sym back.enters ∙ g);
+          basin = λ g. basin (sym back.enters ∙ g);
+        }
+        | inr other ↦ subst (λ (x : ℕ). IsPassed c way r x) (sym (wr.others i (omega arith))) (p.passed i (omega arith) j)
+      ];
+    }
+
+-- the head of an arc with room is reached where its tail is
+pub head_reached : (c : Contents) (way : List ℕ) (r most : ℕ) → IsLent c way r → r < arcs c → 0 < most →
+    flow_of c r + most ≤ slice_index c.upper r → IsReached way (slice_index c.from r) → IsReached way (slice_index c.to r)
+head_reached c way r most t b positive room m =
+    let o = over_forward (network c) (flow_of c) r in
+    subst (λ (u : ℕ). IsReached way u) o.enters
+    (lent_closed c way t.step (2 * r) t.tree (omega (arith, o.arc, b)) (omega (arith, o.room, positive, room))
+    (subst (λ (u : ℕ). IsReached way u) (sym o.starts) m))
+
+-- the tree comes by the head of the arc
+pub tracing_head : (c d e : Contents) (way : List ℕ) (r most first first' node amount s : ℕ) → IsCirculation c → r < arcs c →
+    IsTracing c d way r most first node amount → IsLent c way r → flow_of c r + most ≤ slice_index c.upper r →
+    node ≡ slice_index c.to r → s ≡ 2 * r → first' + 1 ≡ first →
+    e ≡ record d { scratch = slice_set d.scratch (first - 1) s } → IsTraced c e way r most first' amount
+tracing_head c d e way r most first first' node amount s k b p t room is step before written =
+    let trail = p.trail t in
+    let wr = wrote d e first first' s written before (omega (arith, long_as c d p.rest p.kept, trail.within)) in
+    let home = subst (λ (u : ℕ). IsTrail (network c) (flow_of c) r most (place_of c.nodes t.tree.rank) (step_of d) first
+    (4 * c.nodes + 8) u amount) is trail in
+    record {
+      rest = rest_more c d e (slice_set d.scratch (first - 1) s) p.rest written;
+      some = omega (arith, before, trail.within);
+      front = omega (arith, before, trail.space);
+      walk = λ positive. trail_closed (network c) (flow_of c) r most (place_of c.nodes t.tree.rank) (step_of d) (step_of e) first first'
+          (4 * c.nodes + 8) amount s k.ends b (sym before) home (omega (arith, room)) step wr.at wr.others;
+      limit = trail.limit;
+      forward = wr.at ∙ step;
+      ends = λ i h j. elim (cases_eq i first') [
+        | inl f ↦ subst (λ (u : ℕ). IsReached way u)
+            (is ∙ sym (ap (λ (x : ℕ). end_of (network c) (step_of e x)) f ∙ ap (end_of (network c)) (wr.at ∙ step)
+            ∙ (over_forward (network c) (flow_of c) r).enters)) p.reached
+        | inr other ↦ subst (λ (x : ℕ). IsReached way (end_of (network c) x)) (sym (wr.others i (omega arith)))
+            (p.passed i (omega arith) j).reached
+      ];
+    }
+
+-- the tree came from the outside, and the walk goes out by the exit
+pub tracing_exit : (c d d' e : Contents) (way : List ℕ) (r x most first first' first'' node amount more s s' : ℕ) →
+    IsCirculation c → r < arcs c → 0 < most → IsTracing c d way r most first node amount → IsLent c way r →
+    flow_of c r + most ≤ slice_index c.upper r → IsReached way (slice_index c.from r) → IsExit c r x →
+    node ≢ slice_index c.to r → node ≡ c.nodes → s ≡ 2 * x → s' ≡ 2 * r →
+    more ≡ min amount (room_of (network d) (flow_of d) s) → first' + 1 ≡ first → first'' + 1 ≡ first' →
+    d' ≡ record d { scratch = slice_set d.scratch (first - 1) s } → IsCirculation d' →
+    e ≡ record d' { scratch = slice_set d'.scratch (first' - 1) s' } → IsTraced c e way r most first'' more
+tracing_exit c d d' e way r x most first first' first'' node amount more s s' k b some p t room m exit ne is step_x step_r is_more
+    before before' written kept' written' =
+    let trail = p.trail t in
+    let apart : slice_index c.to r ≢ c.nodes = λ f. ne (is ∙ sym f) in
+    let ex = exit apart in
+    let head = head_reached c way r most t b some room m in
+    let rest' = rest_more c d d' (slice_set d.scratch (first - 1) s) p.rest written in
+    let wr = wrote d d' first first' s written before (omega (arith, long_as c d p.rest p.kept, trail.within)) in
+    let wr' = wrote d' e first' first'' s' written' before'
+    (omega (arith, long_as c d' rest' kept', trail.within, before)) in
+    let home = subst (λ (u : ℕ). IsTrail (network c) (flow_of c) r most (place_of c.nodes t.tree.rank) (step_of d) first
+    (4 * c.nodes + 8) u amount) is trail in
+    let second : step_of e (first'' + 1) ≡ 2 * x = ap (step_of e) before' ∙ wr'.others first' (omega arith) ∙ wr.at ∙ step_x in
+    let others = λ (i : ℕ) (h : first ≤ i). let same : step_of e i ≡ step_of d i = wr'.others i (omega (arith, h, before)) ∙ wr.others i h in same in
+    let over_exit = over_forward (network c) (flow_of c) x in
+    let room_exit : room_of (network d) (flow_of d) s ≡ slice_index c.upper x - flow_of c x =
+    ap (λ (y : Contents). room_of (network y) (flow_of y) s) p.rest ∙ ap (room_of (network c) (flow_of c)) step_x ∙ over_exit.room in
+    record {
+      rest = rest_more c d' e (slice_set d'.scratch (first' - 1) s') rest' written';
+      some = omega (arith, before, before', trail.within);
+      front = omega (arith, before, before', trail.space);
+      walk = λ positive. trail_exit (network c) (flow_of c) r x most (place_of c.nodes t.tree.rank) (step_of d) (step_of e) first first''
+          (4 * c.nodes + 8) amount more k.ends b ex.0 (omega (arith, before, before')) home (omega (arith, room)) (wr'.at ∙ step_r)
+          second others ex.1 ex.2 apart (λ i h j. ((p.passed i h j).head, (p.passed i h j).basin)) positive
+          (omega (arith, is_more)) (omega (arith, is_more, room_exit));
+      limit = omega (arith, is_more, trail.limit);
+      forward = wr'.at ∙ step_r;
+      ends = λ i h j. elim (cases_lt i first) [
+        | inl near ↦ elim (cases_eq i first'') [
+          | inl f ↦ subst (λ (u : ℕ). IsReached way u)
+              (sym (ap (λ (y : ℕ). end_of (network c) (step_of e y)) f ∙ ap (end_of (network c)) (wr'.at ∙ step_r)
+              ∙ (over_forward (network c) (flow_of c) r).enters)) head
+          | inr other ↦
+              let here : i ≡ first'' + 1 = omega (arith, h, near, before, before', other) in
+              subst (λ (u : ℕ). IsReached way u)
+              (is ∙ sym (ap (λ (y : ℕ). end_of (network c) (step_of e y)) here ∙ ap (end_of (network c)) second
+              ∙ over_exit.enters ∙ ex.2)) p.reached
+        ]
+        | inr far ↦ subst (λ (y : ℕ). IsReached way (end_of (network c) y)) (sym (others i far)) (p.passed i far j).reached
+      ];
+    }
+
+-- there is room for two more words in front
+pub tracing_space : (c d : Contents) (way : List ℕ) (r most first node amount : ℕ) → IsTracing c d way r most first node amount →
+    IsLent c way r → (2 ≤ first) × (first ≤ 4 * d.nodes + 8)
+tracing_space c d way r most first node amount p t =
+    let trail = p.trail t in (
+      omega (arith, trail.space),
+      omega (arith, trail.within, ap (λ (x : Contents). 4 * x.nodes + 8) p.rest),
+    )

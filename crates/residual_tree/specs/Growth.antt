@@ -1,0 +1,100 @@
+-- A tree that is repaired: subtrees are freed, and then what was freed grows on to what is left.
+use Rattle.std.specs.Prelude.{ℕ, ◌≡◌, ◌+◌, ◌-◌, ◌*◌, ◌<◌, ◌≤◌, ◌⊎◌, nat_lt, List, length, slice_index}
+use Rattle.residual_tree.specs.declared.TheConstants.{ROOT}
+use Rattle.place_sums.specs.Sums.{total, when}
+use Rattle.circulation.specs.Contents.{Contents, network, flow_of, arcs}
+use Rattle.circulation.specs.Residual.{arc_of, start_of, end_of, room_of}
+use Rattle.residual_tree.specs.Steps.{opposite}
+use Rattle.residual_tree.specs.Tree.{word_of, IsReached}
+
+-- x stands in the list at a place from `first` on and below `last`
+pub record Stands (xs : List ℕ) (first last x : ℕ) : Type 0 where
+  pub place : ℕ
+  pub from : first ≤ place
+  pub below : place < last
+  pub is : slice_index xs place ≡ x
+
+-- how many basin nodes are reached
+abbrev pub reached_count : ℕ → List ℕ → ℕ
+reached_count nodes way = total nodes (λ v. when (nat_lt 0 (word_of way v)) 1)
+
+-- the node v is reached by the step s from a node of lesser rank that is reached or an orphan
+pub record IsLooseBranch (c : Contents) (way : List ℕ) (orphan : ℕ → Type 0) (rank : ℕ → ℕ) (v s : ℕ) : Type 0 where
+  pub arc : arc_of s < arcs c
+  pub enters : end_of (network c) s ≡ v
+  pub before : rank (start_of (network c) s) < rank v
+  pub marked : IsReached way (start_of (network c) s) ⊎ orphan (start_of (network c) s)
+
+-- a tree but for worn steps, which may have no room; orphans, which are no longer reached while their children
+-- are; free nodes, which steps with room may enter although they are not reached; and raw nodes, whose own
+-- steps were not tried yet
+pub record IsTreeBut (c : Contents) (way : List ℕ) (worn orphan free raw : ℕ → Type 0) : Type 0 where
+  pub words : length way ≡ c.nodes + 1
+  pub root : word_of way c.nodes ≡ ROOT
+  pub rank : ℕ → ℕ
+  pub branch : (v : ℕ) → v < c.nodes → IsReached way v → IsLooseBranch c way orphan rank v (word_of way v - 1)
+  pub room : (v : ℕ) → v < c.nodes → IsReached way v →
+      (0 < room_of (network c) (flow_of c) (word_of way v - 1)) ⊎ worn (word_of way v - 1)
+  pub closed : (s : ℕ) → arc_of s < arcs c → 0 < room_of (network c) (flow_of c) s → IsReached way (start_of (network c) s) →
+      IsReached way (end_of (network c) s) ⊎ (free (end_of (network c) s) ⊎ raw (start_of (network c) s))
+
+-- none
+abbrev pub none : ℕ → Type 0
+none v = ⊥
+
+-- nodes are being freed: steps that the scratch words from `at` on name may have no room, `size` nodes were freed, and of
+-- those from number `done` on children may still be reached
+pub record IsFreeing (c : Contents) (way freed : List ℕ) (at last done size : ℕ) : Type 0 where
+  pub tree : IsTreeBut c way (Stands c.scratch at last) (Stands freed done size) (Stands freed 0 size) none
+  pub order : done ≤ size
+  pub places : length freed ≡ c.nodes
+  pub within : (k : ℕ) → k < size → slice_index freed k < c.nodes
+  pub few : size + reached_count c.nodes way ≤ c.nodes
+
+-- this step alone
+abbrev pub only : ℕ → ℕ → Type 0
+only x s = s ≡ x
+
+-- a number that no step has
+abbrev pub no_step : Contents → ℕ
+no_step c = 2 * arcs c
+
+-- the tree grows, over steps with room but for the step `lent`: freed nodes from number `next` on may still have a way
+-- in, and of those that were reached, from number `done` on, the steps were not tried yet
+pub record IsGrowing (c : Contents) (lent : ℕ) (way freed queue : List ℕ) (next count done size : ℕ) : Type 0 where
+  pub tree : IsTreeBut c way (only lent) none (Stands freed next count) (Stands queue done size)
+  pub order : done ≤ size
+  pub places : length queue ≡ c.nodes
+  pub within : (k : ℕ) → k < count → slice_index freed k < c.nodes
+  pub marked : (k : ℕ) → k < size → (slice_index queue k < c.nodes) × IsReached way (slice_index queue k)
+  pub few : size ≤ reached_count c.nodes way
+
+-- a step with room by which the outside reaches the node
+pub record IsWayIn (c : Contents) (way : List ℕ) (v s : ℕ) : Type 0 where
+  pub arc : arc_of s < arcs c
+  pub enters : end_of (network c) s ≡ v
+  pub marked : IsReached way (start_of (network c) s)
+  pub room : 0 < room_of (network c) (flow_of c) s
+
+-- the opposite of a step is no way into the node that the step leaves
+abbrev pub IsShut : Contents → List ℕ → ℕ → Type 0
+IsShut c way s = IsReached way (end_of (network c) s) → room_of (network c) (flow_of c) (opposite s) ≡ 0
+
+-- the word is one more than a way into the node, or 0 where there is none
+pub record IsFound (c : Contents) (way : List ℕ) (v word : ℕ) : Type 0 where
+  pub none : word ≡ 0 → (s : ℕ) → ¬ IsWayIn c way v s
+  pub some : (s : ℕ) → word ≡ s + 1 → IsWayIn c way v s
+
+-- a tree of the circulation in which the steps that the scratch words from `first` to below `last` name may have no room
+abbrev pub IsWornTree : Contents → List ℕ → ℕ → ℕ → Type 0
+IsWornTree c way first last = IsTreeBut c way (Stands c.scratch first last) none none none
+
+-- a tree of the circulation in which the step `lent` may have no room, as though it brought lent water
+abbrev pub IsLentTree : Contents → List ℕ → ℕ → Type 0
+IsLentTree c way lent = IsTreeBut c way (only lent) none none none
+
+-- a tree of the circulation in which a step to the head of the arc r may have no room
+pub record IsLent (c : Contents) (way : List ℕ) (r : ℕ) : Type 0 where
+  pub step : ℕ
+  pub enters : end_of (network c) step ≡ slice_index c.to r
+  pub tree : IsLentTree c way step

@@ -1,0 +1,13 @@
+-- What the fields of a tree mean, and what they keep.
+use Rattle.std.specs.Prelude.{ℕ, ◌≡◌, ◌+◌, List, length}
+use Rattle.residual_tree.specs.declared.ResidualTree.TheInside.{Inside}
+
+-- the word of each node
+abbrev pub words : Inside → List ℕ
+words i = i.way.items
+
+-- there is room for all basin nodes among those freed, those reached and the ways that were found
+pub record IsKept (i : Inside) : Type 0 where
+  pub freed : length i.way.items ≡ length i.freed.items + 1
+  pub queue : length i.way.items ≡ length i.queue.items + 1
+  pub found : length i.way.items ≡ length i.found.items + 1

@@ -1,0 +1,6 @@
+pub mod Steps
+pub mod Tree
+pub mod Growth
+pub mod Raised
+pub mod Kept
+pub mod Laws

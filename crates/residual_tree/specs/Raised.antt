@@ -1,0 +1,29 @@
+-- What a raise by the tree leaves.
+use Rattle.std.specs.Prelude.{ℕ, ◌≡◌, ◌≢◌, ◌+◌, ◌*◌, ◌<◌, ◌≤◌, List, slice_index}
+use Rattle.circulation.specs.Contents.{Contents, arcs, network, flow_of, step_of}
+use Rattle.circulation.specs.Residual.{end_of, room_of, IsClosedWalk}
+use Rattle.augment.specs.Search.{SameButScratch}
+use Rattle.residual_tree.specs.Tree.{IsReached}
+
+-- only the flow, scratch words and the lower bound of the arc r changed
+pub record IsRaisedOver (old new : Contents) (r : ℕ) : Type 0 where
+  pub rest : new ≡ record old { lower = new.lower; flow = new.flow; scratch = new.scratch }
+  pub lowers : (a : ℕ) → a ≢ r → slice_index new.lower a ≡ slice_index old.lower a
+
+-- where the head of the arc r is not the outside, x is an arc from there to the outside
+abbrev pub IsExit : Contents → ℕ → ℕ → Type 0
+IsExit c r x = slice_index c.to r ≢ c.nodes → (x < arcs c) × (slice_index c.from x ≡ slice_index c.to r) × (slice_index c.to x ≡ c.nodes)
+
+-- no more can go over the arc x
+abbrev pub IsFull : Contents → ℕ → Type 0
+IsFull c x = room_of (network c) (flow_of c) (2 * x) ≡ 0
+
+-- the scratch words from `first` on are a closed walk over the arc r and nodes that are reached, unless it has no room
+pub record IsTraced (c e : Contents) (way : List ℕ) (r most first amount : ℕ) : Type 0 where
+  pub rest : SameButScratch c e
+  pub some : first < 4 * c.nodes + 8
+  pub front : 0 < first
+  pub walk : 0 < amount → IsClosedWalk (network c) (flow_of c) (step_of e) first (4 * c.nodes + 8) amount
+  pub limit : amount ≤ most
+  pub forward : step_of e first ≡ 2 * r
+  pub ends : (i : ℕ) → first ≤ i → i < 4 * c.nodes + 8 → IsReached way (end_of (network c) (step_of e i))

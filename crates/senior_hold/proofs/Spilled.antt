@@ -1,0 +1,183 @@
+-- A basin with an outlet at each node.
+use Rattle.std.proofs.Common.{◌≡◌, ℕ, zero, suc, ◌+◌, ◌<◌, ◌≤◌, Bool, true, false, refl, sym, ◌∙◌, ap, subst, arith, List, [], ◌∷◌, length, map, replicate, ◌^◌}
+use Rattle.std.proofs.lemmas.List.{length-map, length-replicate, get_or-replicate}
+use Rattle.std.proofs.lemmas.Bool.{false≢true}
+use Rattle.std.specs.Prelude.{◌==◌, slice_index, Option, Some, None, if◌then◌else◌}
+use Rattle.place_sums.specs.Sums.{count_where, when}
+use Rattle.place_sums.proofs.Totals.{count_more, total_where_start, total_zero}
+use Rattle.water_model.specs.Basin.{is_outlet, tail_of, head_of, takes_at}
+use Rattle.water_model.specs.Network.{is_outlet_in}
+use Rattle.water_model.specs.declared.types.Basin.{Basin}
+use Rattle.water_model.specs.declared.types.Node.{Node}
+use Rattle.circulation.specs.Contents.{Contents, network, month_contents}
+use Rattle.senior_hold.specs.MonthNetwork.{taker_count, arc_count, out_arc, HasBasinEnds}
+use Rattle.senior_hold.specs.Arcs.{AreEndsOf, AreAmountsOf}
+use Rattle.senior_hold.specs.Spilled.{let_out, spilled, spill_arc, HasSpills}
+use Rattle.senior_hold.proofs.Laid.{end_at}
+use Rattle.senior_hold.proofs.MonthArcs.{IsKind, on_link, at_node, AreKinds}
+use Rattle.water_model.specs.declared.types.Plan.{Plan}
+use Rattle.water_model.specs.Plans.{IsPlan}
+use Rattle.water_text.specs.declared.month.Month.{Month}
+use Rattle.senior_hold.proofs.Rivers.{made}
+use Rattle.senior_hold.proofs.Begins.{begun_net, begun_flow, plan_same}
+use Rattle.senior_hold.specs.Solved.{AreWants, FitsPlan}
+use Rattle.senior_hold.specs.Arcs.{AreBounds, AreAmounts}
+use Rattle.senior_hold.specs.Spilled.{IsSpilledStart}
+use Rattle.water_model.specs.Lookups.{of_entry}
+use Rattle.water_model.specs.CutSets.{CutSets, set_of, without_sets}
+use Rattle.senior_hold.specs.Solved.{IsGiven, FitsCuts}
+use Rattle.senior_hold.proofs.Solves.{IsStanding, standing_first}
+use Rattle.senior_hold.proofs.Turns.{IsTurn}
+use Rattle.circulation.specs.declared.Ends.{Ends}
+
+pub spilled_count : (b : Basin) → length (spilled b).nodes ≡ length b.nodes
+spilled_count b = length-map b.nodes let_out
+
+pub spilled_outlet : (b : Basin) (n : ℕ) → n < length b.nodes → is_outlet (spilled b) n ≡ true
+spilled_outlet b n l = each b.nodes n l
+  where
+    each : (xs : List Node) (n : ℕ) → n < length xs → is_outlet_in (map let_out xs) n ≡ true
+    each [] n l = absurd (omega arith)
+    each (x ∷ xs) zero l = refl
+    each (x ∷ xs) (suc n) l = each xs n (omega arith)
+
+-- all nodes before one are outlets
+pub spilled_before : (b : Basin) (n : ℕ) → n ≤ length b.nodes → count_where n (λ v. is_outlet (spilled b) v) ≡ n
+spilled_before b zero l = total_where_start (λ v. is_outlet (spilled b) v) (λ k. 1)
+spilled_before b (suc n) l =
+    let one : (if is_outlet (spilled b) n then 1 else 0) ≡ 0 + 1 = ap (λ t. if t then 1 else 0) (spilled_outlet b n (omega arith)) in
+    omega (arith, count_more n (λ v. is_outlet (spilled b) v), spilled_before b n (omega arith), one)
+
+-- the arc of a node's spill
+pub spill_is : (b : Basin) (n : ℕ) → n ≤ length b.nodes → out_arc (spilled b) n ≡ spill_arc b n
+spill_is b n l = ap (λ k. length b.links + (taker_count b + k)) (spilled_before b n l)
+
+pub spilled_arcs : (b : Basin) → arc_count (spilled b) ≡ spill_arc b (length b.nodes)
+spilled_arcs b = ap (λ k. length b.links + (taker_count b + count_where k (λ v. is_outlet (spilled b) v))) (spilled_count b) ∙ spill_is b (length b.nodes) (omega arith)
+
+pub spilled_kinds : (b : Basin) → AreKinds b → AreKinds (spilled b)
+spilled_kinds b kinds r l = of_kind (kinds r l)
+  where
+    of_kind : IsKind b r → IsKind (spilled b) r
+    of_kind (on_link e k i t) = on_link e k i t
+    of_kind (at_node v k i t) = at_node v (omega (arith, spilled_count b)) i t
+
+-- the spills of a circulation
+pub has_spills : (b : Basin) (c : Contents) (first : ℕ) → first ≡ spill_arc b 0 → HasBasinEnds (spilled b) (network c) → HasSpills c first
+has_spills b c first is ends = record {
+  arc = λ n l. omega (arith, is, inside n l, spilled_arcs b, ends.arcs);
+  from = λ n l. ap (slice_index c.from) (place n l) ∙ ends.out_from n (below n l) (spilled_outlet b n (inside n l));
+  to = λ n l. ap (slice_index c.to) (place n l) ∙ (ends.out_to n (below n l) (spilled_outlet b n (inside n l)) ∙ sym ends.nodes);
+}
+  where
+    below : (n : ℕ) → n < c.nodes → n < length (spilled b).nodes
+    below n l = let e = ends.nodes in omega arith
+
+    inside : (n : ℕ) → n < c.nodes → n < length b.nodes
+    inside n l = let e = ends.nodes in omega (arith, spilled_count b)
+
+    place : (n : ℕ) → n < c.nodes → first + n ≡ out_arc (spilled b) n
+    place n l = let k = inside n l in omega (arith, is, spill_is b n (omega arith))
+
+-- before any spill is laid
+pub spilled_ends : (b : Basin) (es : List Ends) → AreEndsOf b es (length b.links) (length b.rights) 0 →
+    AreEndsOf (spilled b) es (length b.links) (length b.rights) 0
+spilled_ends b es laid = record {
+  count = omega (arith, laid.count, total_where_start (λ n. is_outlet b n) (λ k. 1), total_where_start (λ n. is_outlet (spilled b) n) (λ k. 1));
+  link = laid.link;
+  take = λ r v l h. laid.take r v l h ∙ ap (λ n. Some (end_at v n)) (sym (spilled_count b));
+  out = λ n l h. absurd (omega arith);
+}
+
+pub spilled_amounts : (b : Basin) (p : Plan) (g : ℕ → ℕ) → AreAmountsOf b p g (length b.links) (length b.rights) 0 →
+    AreAmountsOf (spilled b) p g (length b.links) (length b.rights) 0
+spilled_amounts b p g laid = record { on_links = laid.on_links; on_takes = laid.on_takes; on_outs = λ n l h. absurd (omega arith) }
+
+-- what a node spills
+pub spill_read : (b : Basin) (g : ℕ → ℕ) (n : ℕ) → n < length b.nodes →
+    when (is_outlet (spilled b) n) (g (out_arc (spilled b) n)) ≡ g (spill_arc b n)
+spill_read b g n l = ap (λ t. when t (g (out_arc (spilled b) n))) (spilled_outlet b n l) ∙ ap g (spill_is b n (omega arith))
+
+-- all supply may be spilled where it comes in
+pub spilled_plan : (b : Basin) (month : Month) (supply want f t o : List ℕ) (n m : ℕ) → f ≡ replicate n 0 → n ≡ length b.links →
+    t ≡ replicate m 0 → m ≡ length b.rights → o ≡ supply → length supply ≡ length b.nodes → IsPlan (spilled b) month supply want (made f t o)
+spilled_plan b month supply want f t o n m fs fn ts tn os count = record {
+  flow_len = ap length fs ∙ (length-replicate {A = ℕ} n 0 ∙ fn);
+  take_len = ap length ts ∙ (length-replicate {A = ℕ} m 0 ∙ tn);
+  out_len = ap length os ∙ (count ∙ sym (spilled_count b));
+  carries = λ e l. omega (arith, no_flow e l);
+  wants = λ r l. omega (arith, no_take r l);
+  instream = λ r l h. no_take r l;
+  outlets = λ v l h. absurd (let yes = spilled_outlet b v (omega (arith, spilled_count b)) in false≢true (sym h ∙ yes));
+  balance = λ v l. omega (
+    arith,
+    ap (λ (xs : List ℕ). slice_index xs v) os,
+    total_zero (length b.links) (λ e. if head_of b e == v then slice_index f e else 0) (λ e k. none (head_of b e == v) (slice_index f e) (no_flow e k)),
+    total_zero (length b.links) (λ e. if tail_of b e == v then slice_index f e else 0) (λ e k. none (tail_of b e == v) (slice_index f e) (no_flow e k)),
+    total_zero (length b.rights) (λ r. if takes_at b r v then slice_index t r else 0) (λ r k. none (takes_at b r v) (slice_index t r) (no_take r k)),
+  );
+}
+  where
+    no_flow : (e : ℕ) → e < length b.links → slice_index f e ≡ 0
+    no_flow e l = ap (λ (xs : List ℕ). slice_index xs e) fs ∙ get_or-replicate {A = ℕ} n e 0 0 (omega arith)
+
+    no_take : (r : ℕ) → r < length b.rights → slice_index t r ≡ 0
+    no_take r l = ap (λ (xs : List ℕ). slice_index xs r) ts ∙ get_or-replicate {A = ℕ} m r 0 0 (omega arith)
+
+    none : (p : Bool) (x : ℕ) → x ≡ 0 → (if p then x else 0) ≡ 0
+    none true x h = h
+    none false x h = refl
+
+-- the wants are wants of it as well
+pub spilled_wants : (b : Basin) (month : Month) (want : List ℕ) → AreWants b month want → AreWants (spilled b) month want
+spilled_wants b month want w = record { count = w.count; small = w.small; instream = w.instream }
+
+-- a month that begins with all supply spilled
+pub spilled_start : (b : Basin) (month : Month) (supply want upper start : List ℕ) (c new : Contents) (p : Plan) → HasBasinEnds (spilled b) (network c) →
+    AreBounds (spilled b) month want (λ a. slice_index upper a) → FitsPlan b p → IsPlan (spilled b) month supply want p →
+    AreAmounts (spilled b) p (λ a. slice_index start a) → ((n : ℕ) → n < length b.nodes → slice_index p.out n ≤ 10 ^ 15) →
+    ((e : ℕ) → e < length b.links → slice_index p.flow e ≡ 0) → p.out ≡ supply → new ≡ month_contents c supply upper start →
+    IsSpilledStart b month supply want new
+spilled_start b month supply want upper start c new p ends are fits plan laid small still all is =
+    subst (λ (x : Contents). IsSpilledStart b month supply want x) (sym is) record {
+      net = begun_net (spilled b) month supply want upper start c ends are;
+      is_flow = begun_flow (spilled b) month supply want upper start c p ends are plan laid (λ n l. small n (omega (arith, spilled_count b)));
+      size = length-replicate {A = ℕ} (length c.from) 0 ∙ ends.arcs;
+      free = λ a l. get_or-replicate {A = ℕ} (length c.from) a 0 0 (let n = ends.arcs in omega arith);
+      still = λ e l. laid.on_links e l ∙ still e l;
+      all = ap (λ (q : Plan). q.out) (plan_same (spilled b) month supply want p (λ a. slice_index start a)
+          (record { flow = fits.flow; take = fits.take; out = fits.out ∙ sym (spilled_count b) }) plan laid) ∙ all;
+    }
+
+-- a turn is one of it as well
+pub spilled_turn : (b : Basin) (order : List ℕ) (k r arc : ℕ) → IsTurn b order k r arc → IsTurn (spilled b) order k r arc
+spilled_turn b order k r arc t = record { below = t.below; is = t.is; in_range = t.in_range; arc_is = t.arc_is }
+
+-- a month stands so before any right is served
+pub spilled_standing : (b : Basin) (month : Month) (supply want order : List ℕ) (c : Contents) (p : Plan) (cuts : CutSets) → IsSpilledStart b month supply want c →
+    IsGiven b month supply want p cuts → IsStanding (spilled b) month supply want order 0 c cuts
+spilled_standing b month supply want order c p cuts start given =
+    standing_first (spilled b) month supply want order c cuts start.net start.is_flow start.size start.free
+    (record { nodes = given.fits_cuts.nodes ∙ sym (spilled_count b); rights = given.fits_cuts.rights }) given.no_sets
+
+-- a month may be given again after a sweep gave up, once its sets are given up
+pub given_again : (b : Basin) (month : Month) (supply want : List ℕ) (p q : Plan) (cuts swept cleared : CutSets) → IsGiven b month supply want p cuts →
+    FitsPlan b q → FitsCuts b swept → cleared ≡ without_sets swept → IsGiven b month supply want q cleared
+given_again b month supply want p q cuts swept cleared given fits_plan fits_cuts is = record {
+  supplies = given.supplies;
+  wants = given.wants;
+  fits_plan = fits_plan;
+  fits_cuts = record {
+    nodes = ap (λ (d : CutSets). d.nodes) is ∙ fits_cuts.nodes;
+    rights = ap (λ (d : CutSets). length d.sets) is ∙ (length-map swept.sets (λ _. nothing) ∙ fits_cuts.rights);
+  };
+  no_sets = λ r l. ap (λ (d : CutSets). set_of d r) is ∙ no_set swept.sets r;
+}
+  where
+    nothing : Option (List Bool)
+    nothing = None
+
+    no_set : (xs : List (Option (List Bool))) (r : ℕ) → of_entry (map (λ _. nothing) xs) r (λ set. set) None ≡ None
+    no_set [] r = refl
+    no_set (x ∷ xs) zero = refl
+    no_set (x ∷ xs) (suc r) = no_set xs r

@@ -1,0 +1,140 @@
+-- What a turn by the residual tree leaves.
+use Rattle.std.proofs.Common.{◌≡◌, ◌≢◌, ℕ, ◌+◌, ◌<◌, ◌≤◌, Bool, false, refl, sym, ◌∙◌, ap, subst, arith, List, length, inl, inr, get_or-set_same, get_or-set_other}
+use Rattle.std.proofs.lemmas.Bool.{cases_eq}
+use Rattle.std.proofs.lemmas.Bool.Decides.{nat_tests}
+use Rattle.std.proofs.lemmas.List.{length-set}
+use Rattle.std.proofs.lemmas.Grind.{same_number_lists}
+use Rattle.std.specs.Prelude.{slice_index, slice_set, max, min, nat_lt, ◌==◌, ◌&&◌, not, if◌then◌else◌, Some}
+use mathlib.Core.Path.{fun_ext}
+use Rattle.place_sums.proofs.Totals.{total_same}
+use Rattle.water_model.specs.CutSets.{CutSets, with_set, with_room}
+use Rattle.water_model.specs.Lookups.{has}
+use Rattle.circulation.specs.Contents.{Contents, network, flow_of, arcs, IsCirculation}
+use Rattle.circulation.specs.Network.{Network, IsTight, cut_out, leaves}
+use Rattle.augment.specs.Raised.{IsGreatestCut}
+use Rattle.augment.specs.Search.{SameButScratch}
+use Rattle.residual_tree.specs.Raised.{IsRaisedOver}
+use Rattle.residual_tree.specs.Tree.{word_of, dry}
+use Rattle.senior_hold.specs.MonthNetwork.{list_of}
+use Rattle.senior_hold.specs.Serving.{IsServed}
+use Rattle.senior_hold.proofs.Bridge.{has_list}
+use Rattle.senior_hold.proofs.Marks.{with_twice, list_size}
+use Rattle.senior_hold.proofs.Solves.{changed}
+
+abbrev with_lower : Network → (ℕ → ℕ) → Network
+with_lower w lower = record w { lower = lower }
+
+-- the lower bound of an arc says nothing of its cuts
+cut_out_moved : (w : Network) (lower : ℕ → ℕ) (r : ℕ) (y : ℕ → Bool) → ((a : ℕ) → a ≢ r → lower a ≡ w.lower a) →
+    cut_out (with_lower w lower) r y ≡ cut_out w r y
+cut_out_moved w lower r y same =
+    total_same w.arcs (λ a. if leaves w y a && not (a == r) then lower a else 0) (λ a. if leaves w y a && not (a == r) then w.lower a else 0)
+    (λ a l. elim (cases_eq a r) [
+      | inl e ↦ own (leaves w y a) a r (lower a) (w.lower a) e
+      | inr ne ↦ ap (λ x. if leaves w y a && not (a == r) then x else 0) (same a ne)
+    ])
+  where
+    own : (t : Bool) (a r x z : ℕ) → a ≡ r → (if t && not (a == r) then x else 0) ≡ (if t && not (a == r) then z else 0)
+    own t a r x z e = grind (arith, nat_tests)
+
+tight_moved : (w : Network) (lower : ℕ → ℕ) (g : ℕ → ℕ) (r : ℕ) (y : ℕ → Bool) → ((a : ℕ) → a ≢ r → lower a ≡ w.lower a) →
+    IsTight (with_lower w lower) g r y → IsTight w g r y
+tight_moved w lower g r y same tight = record {
+  cut = record { basin = tight.cut.basin; tail = tight.cut.tail; head = tight.cut.head };
+  equal = (let e = tight.equal in e ∙ ap (λ x. g r + x) (cut_out_moved w lower r y same));
+}
+
+tight_back : (w : Network) (lower : ℕ → ℕ) (g : ℕ → ℕ) (r : ℕ) (y : ℕ → Bool) → ((a : ℕ) → a ≢ r → lower a ≡ w.lower a) →
+    IsTight w g r y → IsTight (with_lower w lower) g r y
+tight_back w lower g r y same tight = record {
+  cut = record { basin = tight.cut.basin; tail = tight.cut.tail; head = tight.cut.head };
+  equal = (let e = tight.equal in e ∙ sym (ap (λ x. g r + x) (cut_out_moved w lower r y same)));
+}
+
+cut_moved : (w : Network) (lower : ℕ → ℕ) (g : ℕ → ℕ) (r : ℕ) (y : ℕ → Bool) → ((a : ℕ) → a ≢ r → lower a ≡ w.lower a) →
+    IsGreatestCut (with_lower w lower) g r y → IsGreatestCut w g r y
+cut_moved w lower g r y same greatest = record {
+  tight = tight_moved w lower g r y same greatest.tight;
+  greatest = λ z tight v h. greatest.greatest z (tight_back w lower g r z same tight) v h;
+}
+
+-- a raise leaves the cuts of its arc as they are
+pub raised_cut : (old mid : Contents) (g : ℕ → ℕ) (r : ℕ) (y : ℕ → Bool) → IsRaisedOver old mid r →
+    IsGreatestCut (network mid) g r y → IsGreatestCut (network old) g r y
+raised_cut old mid g r y raised greatest =
+    cut_moved (network old) (λ a. slice_index mid.lower a) g r y raised.lowers
+    (subst (λ (x : Contents). IsGreatestCut (network x) g r y) raised.rest greatest)
+
+-- a raise holds what the arc has then
+pub raised_lower : (old mid : Contents) (arc want : ℕ) → IsCirculation old → IsCirculation mid → IsRaisedOver old mid arc → arc < arcs old →
+    flow_of mid arc ≡ slice_index mid.lower arc → flow_of old arc ≤ flow_of mid arc → flow_of mid arc ≤ want →
+    mid.lower ≡ slice_set old.lower arc (max (slice_index old.lower arc) (min want (flow_of mid arc)))
+raised_lower old mid arc want kept_old kept_mid raised l held rises limit =
+    same_number_lists mid.lower (slice_set old.lower arc x) (size ∙ sym (length-set old.lower arc x)) (λ a m. elim (cases_eq a arc) [
+      | inl e ↦ ap (slice_index mid.lower) e ∙ (here ∙ (sym (get_or-set_same old.lower arc x 0 inside) ∙ sym (ap (slice_index (slice_set old.lower arc x)) e)))
+      | inr ne ↦ raised.lowers a ne ∙ sym (get_or-set_other old.lower arc a x 0 ne)
+    ])
+  where
+    x : ℕ
+    x = max (slice_index old.lower arc) (min want (flow_of mid arc))
+
+    inside : arc < length old.lower
+    inside = let n = kept_old.shape.lower in omega arith
+
+    size : length mid.lower ≡ length old.lower
+    size = kept_mid.shape.lower ∙ (ap (λ (x : Contents). length x.from) raised.rest ∙ sym kept_old.shape.lower)
+
+    here : slice_index mid.lower arc ≡ x
+    here = let low = kept_old.flow.low arc l in omega arith
+
+-- the contents after a raise, and after scratch words changed
+pub raised_held : (old mid new : Contents) (arc want : ℕ) → IsCirculation old → IsCirculation mid → IsRaisedOver old mid arc → arc < arcs old →
+    flow_of mid arc ≡ slice_index mid.lower arc → flow_of old arc ≤ flow_of mid arc → flow_of mid arc ≤ want → SameButScratch mid new →
+    new ≡ changed old new.flow new.scratch (slice_set old.lower arc (max (slice_index old.lower arc) (min want (flow_of new arc))))
+raised_held old mid new arc want kept_old kept_mid raised l held rises limit scratch =
+    scratch ∙ (ap (λ (x : Contents). let y : Contents = record x { scratch = new.scratch } in y) raised.rest
+    ∙ (ap (λ (xs : List ℕ). changed old mid.flow new.scratch xs) (raised_lower old mid arc want kept_old kept_mid raised l held rises limit)
+    ∙ ap (λ (f : List ℕ). changed old f new.scratch (slice_set old.lower arc (max (slice_index old.lower arc) (min want (slice_index f arc))))) flow))
+  where
+    flow : mid.flow ≡ new.flow
+    flow = sym (ap (λ (x : Contents). x.flow) scratch)
+
+pub served_full : (old mid : Contents) (arc want : ℕ) (cuts : CutSets) (right : ℕ) → IsCirculation old → IsCirculation mid → IsRaisedOver old mid arc → arc < arcs old →
+    flow_of mid arc ≡ slice_index mid.lower arc → flow_of old arc ≤ flow_of mid arc → flow_of mid arc ≡ want →
+    IsServed old mid arc want cuts cuts right
+served_full old mid arc want cuts right kept_old kept_mid raised l held rises met = record {
+  held = raised_held old mid mid arc want kept_old kept_mid raised l held rises (omega arith) refl;
+  outcome = inl (omega arith, refl);
+}
+
+dry_list : (c : Contents) (way : List ℕ) → has (list_of c.nodes (dry c way)) ≡ dry c way
+dry_list c way = fun_ext (has_list c.nodes (dry c way) (λ v l. outside v c.nodes (word_of way v) l))
+  where
+    outside : (v n p : ℕ) → n ≤ v → nat_lt v n && (p == 0) ≡ false
+    outside v n p l = grind (arith, nat_tests)
+
+pub served_dry : (old mid new : Contents) (way : List ℕ) (arc want : ℕ) (cuts begun after : CutSets) (right : ℕ) (empty : List Bool) → IsCirculation old → IsCirculation mid →
+    IsRaisedOver old mid arc → arc < arcs old → flow_of mid arc ≡ slice_index mid.lower arc → flow_of old arc ≤ flow_of mid arc → flow_of mid arc ≤ want →
+    flow_of mid arc ≢ want → SameButScratch mid new → IsGreatestCut (network mid) (flow_of mid) arc (dry mid way) →
+    begun ≡ with_room (with_set cuts right (Some empty)) right → after ≡ with_set begun right (Some (list_of mid.nodes (dry mid way))) →
+    IsServed old new arc want cuts after right
+served_dry old mid new way arc want cuts begun after right empty kept_old kept_mid raised l held rises limit short scratch greatest begin done = record {
+  held = raised_held old mid new arc want kept_old kept_mid raised l held rises limit scratch;
+  outcome = inr (
+    let e = ap (λ (f : ℕ → ℕ). f arc) flow in omega arith,
+    (
+      list_of mid.nodes (dry mid way),
+      (
+        done ∙ (ap (λ (d : CutSets). with_set d right (Some (list_of mid.nodes (dry mid way)))) begin ∙ ap (λ (d : CutSets). with_room d right) (with_twice cuts right (Some empty) (Some (list_of mid.nodes (dry mid way))))),
+        (
+          list_size mid.nodes (dry mid way) ∙ ap (λ (x : Contents). x.nodes) raised.rest,
+          subst (λ (g : ℕ → ℕ). IsGreatestCut (network old) g arc (has (list_of mid.nodes (dry mid way)))) (sym flow)
+              (subst (λ (y : ℕ → Bool). IsGreatestCut (network old) (flow_of mid) arc y) (sym (dry_list mid way)) (raised_cut old mid (flow_of mid) arc (dry mid way) raised greatest)),
+        ),
+      ),
+    ),
+  );
+}
+  where
+    flow : flow_of new ≡ flow_of mid
+    flow = ap (λ (x : Contents). flow_of x) scratch

@@ -1,0 +1,57 @@
+-- A month's network with a spill at each node: what it is to the network of a basin, and how its flows become plans.
+use Rattle.std.specs.Prelude.{◌≡◌, ℕ, ◌+◌, ◌<◌, true, List, map, length, slice_index}
+use Rattle.water_model.specs.RunOfRiver.{RunsNaturally}
+use Rattle.water_model.specs.declared.types.Basin.{Basin}
+use Rattle.water_model.specs.declared.types.Node.{Node}
+use Rattle.water_model.specs.declared.types.Plan.{Plan}
+use Rattle.water_text.specs.declared.month.Month.{Month}
+use Rattle.circulation.specs.Contents.{Contents, arcs, network, flow_of}
+use Rattle.circulation.specs.Network.{IsFlow}
+use Rattle.senior_hold.specs.MonthNetwork.{taker_count, plan_of, arc_count, IsMonthNetwork}
+use Rattle.senior_hold.specs.Solved.{FitsPlan}
+use Rattle.senior_hold.specs.declared.solver.Room.{Room}
+
+-- the node lets water out
+abbrev pub let_out : Node → Node
+let_out n = record n { outlet = true }
+
+-- the basin with an outlet at each node
+abbrev pub spilled : Basin → Basin
+spilled b = record b { nodes = map let_out b.nodes }
+
+-- the arc of a node's spill: after the links and the takes
+abbrev pub spill_arc : Basin → ℕ → ℕ
+spill_arc b node = length b.links + (taker_count b + node)
+
+-- what a flow spills at each node
+abbrev pub spills_of : Basin → (ℕ → ℕ) → List ℕ
+spills_of b g = (plan_of (spilled b) g).out
+
+-- what a flow spills runs down the rivers beside it
+pub record IsSettledPlan (b : Basin) (g : ℕ → ℕ) (p : Plan) : Type 0 where
+  pub run : List ℕ
+  pub natural : RunsNaturally b.nodes b.links (spills_of b g) run p.out
+  pub flow_len : length p.flow ≡ length b.links
+  pub flow : (e : ℕ) → e < length b.links → slice_index p.flow e ≡ g e + slice_index run e
+  pub take : p.take ≡ (plan_of b g).take
+
+-- the spills are arcs from the nodes to the outside, in the order of the nodes
+pub record HasSpills (c : Contents) (first : ℕ) : Type 0 where
+  pub arc : (n : ℕ) → n < c.nodes → first + n < arcs c
+  pub from : (n : ℕ) → n < c.nodes → slice_index c.from (first + n) ≡ n
+  pub to : (n : ℕ) → n < c.nodes → slice_index c.to (first + n) ≡ c.nodes
+
+-- room for a month's bounds, and for the flow that it starts from
+pub record FitsSpilledRoom (b : Basin) (r : Room) : Type 0 where
+  pub fits_most : FitsPlan b r.most
+  pub uppers : length r.upper.items ≡ arc_count (spilled b)
+  pub starts : length r.start.items ≡ arc_count (spilled b)
+
+-- a month that starts with all supply spilled where it comes in, with no arc held
+pub record IsSpilledStart (b : Basin) (month : Month) (supply want : List ℕ) (c : Contents) : Type 0 where
+  pub net : IsMonthNetwork (spilled b) month supply want (network c)
+  pub is_flow : IsFlow (network c) (flow_of c)
+  pub size : length c.lower ≡ arc_count (spilled b)
+  pub free : (a : ℕ) → a < arc_count (spilled b) → slice_index c.lower a ≡ 0
+  pub still : (e : ℕ) → e < length b.links → flow_of c e ≡ 0
+  pub all : spills_of b (flow_of c) ≡ supply

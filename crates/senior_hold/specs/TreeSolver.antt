@@ -1,0 +1,21 @@
+-- What a solver by the tree is to its callers, and what it keeps.
+use Rattle.std.specs.Prelude.{◌≡◌, ◌+◌, length}
+use Rattle.water_model.specs.Valid.{IsValidBasin}
+use Rattle.water_model.specs.declared.types.Basin.{Basin}
+use Rattle.circulation.specs.Contents.{network}
+use Rattle.senior_hold.specs.MonthNetwork.{HasBasinEnds}
+use Rattle.senior_hold.specs.Layouts.{IsLayout}
+use Rattle.senior_hold.specs.Spilled.{spilled, spill_arc, FitsSpilledRoom}
+use Rattle.senior_hold.specs.declared.tree_solver.TreeSolver.TheInside.{Inside}
+
+-- its basin
+abbrev pub basin_of : Inside → Basin
+basin_of i = i.basin.now
+
+pub record IsReady (i : Inside) : Type 0 where
+  pub valid : IsValidBasin i.basin.now
+  pub is_layout : IsLayout i.basin.now i.layout
+  pub fits_room : FitsSpilledRoom i.basin.now i.room
+  pub ends : HasBasinEnds (spilled i.basin.now) (network i.circ)
+  pub first : i.first ≡ spill_arc i.basin.now 0
+  pub tree : length i.tree ≡ length i.basin.now.nodes + 1

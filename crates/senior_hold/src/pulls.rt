@@ -1,0 +1,170 @@
+//! One right's turn by the residual tree.
+ghost use Rattle.std.specs.Prelude.{◌≡◌, ◌≢◌, ◌↔◌, ◌+◌, ◌*◌, ◌<◌, ◌≤◌, length, slice_index, replicate, false, Some, None, IfOk, OnErr};
+ghost use Rattle.water_model.specs.CutSets.{set_of, with_set, has_room};
+ghost use Rattle.circulation.specs.Contents.{network, flow_of, arcs, IsCirculation};
+ghost use Rattle.augment.specs.Raised.{IsGreatestCut};
+ghost use Rattle.residual_tree.specs.Tree.{IsResidualTree, dry};
+ghost use Rattle.residual_tree.specs.Growth.{IsLentTree};
+ghost use Rattle.residual_tree.specs.Raised.{IsExit, IsRaisedOver};
+ghost use Rattle.senior_hold.specs.MonthNetwork.{list_of};
+ghost use Rattle.senior_hold.specs.Serving.{IsServed, SameEnds, KeepsShape};
+
+use circulation::Circulation;
+use residual_tree::{Pulled, ResidualTree, raise_by_tree, raise_within_dry};
+use std::alloc::AllocError;
+use std::sync::ledger::Ledger;
+use steps::Steps;
+use water_model::cut_list::CutList;
+
+/// At most one push over an arc: along the tree, or within the dry nodes where both its ends are dry. Unfinished says that
+/// there may be more to push.
+fn pull_once<L: Ledger>(
+    circ: &mut Circulation,
+    tree: &mut ResidualTree,
+    arc: u32,
+    exit: u32,
+    want: u64,
+    searches: &mut Steps<L>,
+) -> Pulled
+    requires arc { arc < arcs circ.old }
+    requires want { want ≤ slice_index circ.old.upper arc }
+    requires less { flow_of circ.old arc ≤ want }
+    requires held { flow_of circ.old arc ≡ slice_index circ.old.lower arc }
+    requires exit_arc { exit < arcs circ.old }
+    requires exit { IsExit circ.old arc exit }
+    requires tree { IsResidualTree circ.old tree.old }
+    ensures kept { IsCirculation circ.new }
+    ensures rest { IsRaisedOver circ.old circ.new arc }
+    ensures held { flow_of circ.new arc ≡ slice_index circ.new.lower arc }
+    ensures rises { flow_of circ.old arc ≤ flow_of circ.new arc }
+    ensures limit { flow_of circ.new arc ≤ want }
+    ensures met { (result ≡ Pulled.Met) ↔ (flow_of circ.new arc ≡ want) }
+    ensures tree { result ≢ Pulled.Dry → IsResidualTree circ.new tree.new }
+    ensures lent { result ≡ Pulled.Dry → IsLentTree circ.new tree.new (2 * exit + 1) }
+    ensures cut { result ≡ Pulled.Dry →
+        IsGreatestCut (network circ.new) (flow_of circ.new) arc (dry circ.new tree.new) }
+    ensures cost { searches.new ≤ searches.old + 1 }
+{
+    let ends = circ.ends(arc);
+    if tree.is_dry(ends.from) && tree.is_dry(ends.to) {
+        return raise_within_dry(circ, tree, arc, exit, want, 1, searches);
+    }
+    let pulled = raise_by_tree(circ, tree, arc, exit, want, 1, searches);
+    if pulled == Pulled::Dry && tree.is_dry(ends.to) {
+        Pulled::Unfinished
+    } else {
+        pulled
+    }
+}
+
+/// Raises the flow on an arc to its want, or as far as it can be, by at most `left` pushes, and takes from `left` what it
+/// used, with one for the end. Unfinished says that they were used up.
+fn pull_up<L: Ledger>(
+    circ: &mut Circulation,
+    tree: &mut ResidualTree,
+    arc: u32,
+    exit: u32,
+    want: u64,
+    left: &mut u32,
+    searches: &mut Steps<L>,
+) -> Pulled
+    requires arc { arc < arcs circ.old }
+    requires want { want ≤ slice_index circ.old.upper arc }
+    requires less { flow_of circ.old arc ≤ want }
+    requires exit_arc { exit < arcs circ.old }
+    requires exit { IsExit circ.old arc exit }
+    requires tree { IsResidualTree circ.old tree.old }
+    ensures kept { IsCirculation circ.new }
+    ensures rest { IsRaisedOver circ.old circ.new arc }
+    ensures held { flow_of circ.new arc ≡ slice_index circ.new.lower arc }
+    ensures rises { flow_of circ.old arc ≤ flow_of circ.new arc }
+    ensures limit { flow_of circ.new arc ≤ want }
+    ensures met { result ≢ Pulled.Unfinished → (result ≡ Pulled.Met) ↔ (flow_of circ.new arc ≡ want) }
+    ensures tree { result ≢ Pulled.Dry → IsResidualTree circ.new tree.new }
+    ensures lent { result ≡ Pulled.Dry → IsLentTree circ.new tree.new (2 * exit + 1) }
+    ensures cut { result ≡ Pulled.Dry →
+        IsGreatestCut (network circ.new) (flow_of circ.new) arc (dry circ.new tree.new) }
+    ensures cost { searches.new + left.new ≤ searches.old + left.old }
+{
+    let flow = circ.flow(arc);
+    tree.hold(circ, arc, flow);
+    let most = *left;
+    for _pushes in 0..most {
+        *left -= 1;
+        let pulled = pull_once(circ, tree, arc, exit, want, searches);
+        if pulled != Pulled::Unfinished {
+            return pulled;
+        }
+    }
+    Pulled::Unfinished
+}
+
+/// Adds to a right's empty set the dry nodes.
+fn mark_dry(circ: &Circulation, tree: &ResidualTree, right: u32, cuts: &mut CutList)
+    requires right { right < length cuts.old.sets }
+    requires nodes { cuts.old.nodes ≡ circ.now.nodes }
+    requires tree { length tree.now ≡ circ.now.nodes + 1 }
+    requires empty { set_of cuts.old right ≡ Some (replicate cuts.old.nodes false) }
+    ensures { cuts.new ≡ with_set cuts.old right (Some (list_of circ.now.nodes (dry circ.now tree.now))) }
+{
+    for node in 0..circ.nodes() {
+        if tree.is_dry(node) {
+            cuts.add(right, node);
+        }
+    }
+}
+
+/// What a turn came to.
+#[derive(Clone, Copy, Debug, PartialEq, Eq)]
+pub enum Turn {
+    /// The right is served.
+    Served,
+    /// The pushes were used up.
+    GaveUp,
+}
+
+/// Serves a right as `serve` does, by at most `left` pushes, and takes from `left` what it used. `exit` is an arc from the head of the right's arc to the outside, unless
+/// the head is the outside.
+pub fn serve_by_tree<L: Ledger>(
+    circ: &mut Circulation,
+    tree: &mut ResidualTree,
+    arc: u32,
+    exit: u32,
+    want: u64,
+    right: u32,
+    cuts: &mut CutList,
+    left: &mut u32,
+    searches: &mut Steps<L>,
+) -> Result<Turn, AllocError>
+    requires arc { arc < arcs circ.old }
+    requires want { want ≤ slice_index circ.old.upper arc }
+    requires exit_arc { exit < arcs circ.old }
+    requires exit { IsExit circ.old arc exit }
+    requires tree { IsResidualTree circ.old tree.old }
+    requires right { right < length cuts.old.sets }
+    requires nodes { cuts.old.nodes ≡ circ.old.nodes }
+    requires free { set_of cuts.old right ≡ None }
+    ensures served { IfOk result (λ t. t ≡ Turn.Served → IsServed circ.old circ.new arc want cuts.old cuts.new right) }
+    ensures tree { IfOk result (λ t. t ≡ Turn.Served → IsResidualTree circ.new tree.new) }
+    ensures words { length tree.new ≡ circ.old.nodes + 1 }
+    ensures kept { IsCirculation circ.new }
+    ensures ends { SameEnds circ.old circ.new }
+    ensures shape { KeepsShape cuts.old cuts.new }
+    ensures room { OnErr result (has_room cuts.old right ≡ false) }
+    ensures cost { searches.new + left.new ≤ searches.old + left.old }
+{
+    if want <= circ.flow(arc) {
+        tree.hold(circ, arc, want);
+        return Ok(Turn::Served);
+    }
+    match pull_up(circ, tree, arc, exit, want, left, searches) {
+        Pulled::Met => Ok(Turn::Served),
+        Pulled::Unfinished => Ok(Turn::GaveUp),
+        Pulled::Dry => {
+            cuts.begin(right)?;
+            mark_dry(circ, tree, right, cuts);
+            tree.settle(circ, exit);
+            Ok(Turn::Served)
+        }
+    }
+}
