@@ -7,3 +7,6 @@ pub mod Judged
 pub mod Outcomes
 pub mod Answering
 pub mod Compared
+pub mod Comparisons
+pub mod Stops
+pub mod Injured

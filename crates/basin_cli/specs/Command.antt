@@ -12,12 +12,14 @@ pub record Files : Type 0 where
   pub series : Option (List ℕ)
 
 -- a command with the names of its files, or with its numbers: `run` and `report` have the files of a basin and its series,
--- `check` the file of a result besides, and `trial` the number and the size of a generated basin
+-- `check` the file of a result besides, `compare` the file of a second basin, and `trial` the number and the size of a
+-- generated basin
 pub data Command : Type 0 where
   run : Files → Command
   check : Files → List ℕ → Command
   report : Files → Command
   trial : ℕ → ℕ → Command
+  compare : Files → List ℕ → Command
 
 -- the word `-` names no file
 abbrev pub series_named : List ℕ → Option (List ℕ)
@@ -38,8 +40,9 @@ command_of (word ∷ one ∷ other ∷ []) =
     if bytes_eq word (codes "run") then Some (run (record { basin = one; series = series_named other }))
     else (if bytes_eq word (codes "report") then Some (report (record { basin = one; series = series_named other }))
     else (if bytes_eq word (codes "trial") then trial_of (read_amount one 4294967295) (read_amount other 2000) else None))
-command_of (word ∷ basin ∷ series ∷ result ∷ []) =
-    if bytes_eq word (codes "check") then Some (check (record { basin = basin; series = series_named series }) result) else None
+command_of (word ∷ basin ∷ one ∷ other ∷ []) =
+    if bytes_eq word (codes "check") then Some (check (record { basin = basin; series = series_named one }) other)
+    else (if bytes_eq word (codes "compare") then Some (compare (record { basin = basin; series = series_named other }) one) else None)
 command_of _ = None
 
 -- the command that words give, as the program keeps it
@@ -51,6 +54,7 @@ command_named (words.Run inputs) = run (named inputs)
 command_named (words.Check inputs result) = check (named inputs) result.now
 command_named (words.Report inputs) = report (named inputs)
 command_named (words.Trial number size) = trial number size
+command_named (words.Compare inputs second) = compare (named inputs) second.now
 
 -- the size of a trial is from 2 to 2,000
 abbrev pub IsSized : Words → Type 0
@@ -68,3 +72,4 @@ ServesFiles serves (Some (run files)) = serves files.basin × ServesSeries serve
 ServesFiles serves (Some (check files result)) = serves files.basin × ServesSeries serves files.series × serves result
 ServesFiles serves (Some (report files)) = serves files.basin × ServesSeries serves files.series
 ServesFiles serves (Some (trial number size)) = ⊤
+ServesFiles serves (Some (compare files second)) = serves files.basin × ServesSeries serves files.series × serves second

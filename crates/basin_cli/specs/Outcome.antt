@@ -2,15 +2,12 @@
 use Rattle.std.specs.Prelude.{◌≡◌, ℕ, ◌+◌, ◌<◌, ◌≤◌, ◌++◌, List, length, take, codes, Option, Some, None, Result, Ok, Err, ⊤, IfSome, ◌⊎◌}
 use Rattle.std.specs.Fmt.{decimal}
 use Rattle.std.specs.Io.KnownBytes.{Appends}
-use Rattle.std.specs.Option.{option_and_then}
 use Rattle.water_edge.specs.Edge.{Rose}
-use Rattle.basin_tree.specs.declared.walk.Finding.{Finding}
-use Rattle.basin_file.specs.BasinFaults.{Spells, file_fault}
+use Rattle.basin_file.specs.BasinFaults.{Spells}
 use Rattle.basin_gen.specs.Generator.{generated}
 use Rattle.cert_check.specs.KindNames.{kind_name}
 use Rattle.cert_check.specs.Whole.{text_verdict}
 use Rattle.cert_check.specs.declared.refuted.Refuted.{Refuted}
-use Rattle.inflow_file.specs.SeriesFaults.{series_fault, SpellsSeries}
 use Rattle.reports.specs.Ends.{IsRun}
 use Rattle.reports.specs.Reports.{report_text, trial_text}
 use Rattle.water_model.specs.History.{IsHistory}
@@ -21,53 +18,17 @@ use Rattle.water_model.specs.declared.types.Basin.{Basin}
 use Rattle.water_model.specs.declared.types.Inflows.{Inflows}
 use Rattle.water_model.specs.declared.types.MonthRecord.{MonthRecord}
 use Rattle.basin_cli.specs.declared.status.Status.{Status}
-use Rattle.basin_cli.specs.declared.status.Status.TheVariants.{Done, No, WriteFault, OutOfMemory}
+use Rattle.basin_cli.specs.declared.status.Status.TheVariants.{Done, No, OutOfMemory}
 use Rattle.basin_cli.specs.declared.ending.Ending.{Ending}
 use Rattle.basin_cli.specs.declared.ending.Ending.TheVariants as ending
 use Rattle.basin_cli.specs.declared.ending.File.TheVariants as file
-use Rattle.basin_cli.specs.declared.ending.SeriesFinding.{SeriesFinding}
-use Rattle.basin_cli.specs.Command.{Command, Files, run, check, report, trial}
-use Rattle.basin_cli.specs.Ending.{status_of, line_of, finding_of}
-use Rattle.basin_cli.specs.Headline.{KeepsPriority, HasGreatestPlans}
-use Rattle.basin_cli.specs.Header.{header}
+use Rattle.basin_cli.specs.Command.{Command, Files, run, check, report, trial, compare}
+use Rattle.basin_cli.specs.Ending.{status_of, line_of}
+use Rattle.basin_cli.specs.Headline.{HasGreatestPlans}
+pub use Rattle.basin_cli.specs.Bytes.{AreSpelled, IsGoodBasin, IsGoodSeries, IsRefusedFor, IsRunOf, IsSeriesRefusedFor, IsTooLong, Told, file_limit, series_told}
+pub use Rattle.basin_cli.specs.Out.{Leaves, MayWrite}
+use Rattle.basin_cli.specs.Comparison.{HasComparingCause, ComparesBehind, ComparisonWrites, ComparisonPushes}
 use Rattle.month_fold.specs.Runs.{run_pushes}
-
--- the most bytes of a file
-abbrev pub file_limit : ℕ
-file_limit = 67108864
-
-pub record IsTooLong (bytes : List ℕ) : Type 0 where
-  pub beyond : file_limit < length bytes
-
--- the bytes of a basin file are within the limit and nothing in them is at fault
-pub record IsGoodBasin (bytes : List ℕ) : Type 0 where
-  pub within : length bytes ≤ file_limit
-  pub sound : file_fault bytes ≡ None
-
--- the bytes are within the limit and this is the first fault in them
-pub record IsRefusedFor (finding : Finding) (bytes : List ℕ) : Type 0 where
-  pub within : length bytes ≤ file_limit
-  pub first : file_fault bytes ≡ Some finding
-
--- the bytes of a series file are within the limit and nothing in them is at fault, for the basin that other bytes spell
-pub record IsGoodSeries (basin_bytes bytes : List ℕ) : Type 0 where
-  pub basin : Basin
-  pub spelled : Spells basin_bytes basin
-  pub within : length bytes ≤ file_limit
-  pub sound : series_fault basin bytes ≡ None
-
--- the bytes are within the limit and this is the first fault in them
-pub record IsSeriesRefusedFor (finding : SeriesFinding) (basin_bytes bytes : List ℕ) : Type 0 where
-  pub basin : Basin
-  pub spelled : Spells basin_bytes basin
-  pub within : length bytes ≤ file_limit
-  pub first : option_and_then (finding_of basin) (series_fault basin bytes) ≡ Some finding
-
--- the basin and the series that bytes spell
-pub record AreSpelled (bytes series_bytes : List ℕ) (basin : Basin) (series : Inflows) : Type 0 where
-  pub basin_spelled : Spells bytes basin
-  pub series_spelled : SpellsSeries basin series_bytes series
-  pub fits : IsSeriesOf basin series
 
 -- A result's bytes are the text of a history of the basin and series that other bytes spell, whoever wrote it. So the
 -- deliveries of each of its months, in order of seniority, are lexicographically greatest among all plans of the month.
@@ -93,15 +54,6 @@ pub record IsRefuted (refuted : Refuted) (bytes series_bytes result : List ℕ) 
   pub spelled : AreSpelled bytes series_bytes basin series
   pub verdict : text_verdict basin series result ≡ Err refuted
   pub no_text : IsHistoryText bytes series_bytes result → ⊥
-
--- what a shelf tells under a name
-abbrev pub Told : Type 0
-Told = List ℕ → Option (List ℕ)
-
--- the bytes of a series. Without a file they are the header of the table alone
-abbrev pub series_told : Told → Option (List ℕ) → Option (List ℕ)
-series_told told None = Some header
-series_told told (Some name) = told name
 
 -- the basin file is good, and this holds of its bytes and those of the series, as far as they are told
 abbrev pub BehindBasin : Told → Files → (List ℕ → List ℕ → Type 0) → Type 0
@@ -153,6 +105,7 @@ HasCauseFor (run files) e told read write = HasSolvingCause files e told read wr
 HasCauseFor (check files result) e told read write = HasCheckingCause files result e told read write
 HasCauseFor (report files) e told read write = HasSolvingCause files e told read write
 HasCauseFor (trial number size) e told read write = HasTrialCause e write
+HasCauseFor (compare files second) e told read write = HasComparingCause files second e told read write
 
 abbrev pub EndingHasCause : Option Command → Ending → Told → Type 0 → Type 0 → Type 0
 EndingHasCause None e told read write = e ≡ ending.Usage
@@ -194,24 +147,7 @@ Completes (Some (trial number size)) status told read write = (write → ⊥) �
 Completes (Some (check files result)) status told read write =
     CompletesBehind told files (λ bytes series. IfSome (told result) (λ text. length text ≤ file_limit →
     (read → ⊥) → (write → ⊥) → IsJudged status (IsHistoryText bytes series text)))
-
--- only these statuses may leave bytes on out
-abbrev pub MayWrite : Status → Type 0
-MayWrite Done = ⊤
-MayWrite No = ⊤
-MayWrite WriteFault = ⊤
-MayWrite status = ⊥
-
--- the text is appended to out, or after a fault of out a front of it
-abbrev pub Leaves : Status → List ℕ → Option (List ℕ) → Option (List ℕ) → Type 0
-Leaves WriteFault text old new = (count : ℕ) × Appends old new (take count text)
-Leaves status text old new = Appends old new text
-
--- the basin and series that bytes spell, and records of a run of them
-pub record IsRunOf (bytes series_bytes : List ℕ) (basin : Basin) (records : List MonthRecord) : Type 0 where
-  pub series : Inflows
-  pub spelled : AreSpelled bytes series_bytes basin series
-  pub keeps : KeepsPriority basin series records
+Completes (Some (compare files second)) status told read write = ComparesBehind told files second status read write
 
 -- what `run` leaves on out: the text of a run of what the bytes spell
 pub record WritesRun (status : Status) (bytes series_bytes : List ℕ) (old new : Option (List ℕ)) : Type 0 where
@@ -260,6 +196,7 @@ WritesFor (Some (check files result)) status told old new =
     OfBoth told files (λ bytes series. IfSome (told result) (λ text. MayWrite status → WritesAnswer status bytes series text old new))
 WritesFor (Some (report files)) status told old new = OfBoth told files (λ bytes series. MayWrite status → WritesReport status bytes series old new)
 WritesFor (Some (trial number size)) status told old new = MayWrite status → WritesTrial status number size old new
+WritesFor (Some (compare files second)) status told old new = ComparisonWrites told files second status old new
 
 -- searches push at most so often as the bound of a month allows, for each month of the basin that the bytes spell
 abbrev pub PushesOf : Told → Files → ℕ → ℕ → Type 0
@@ -272,6 +209,7 @@ PushesFor (Some (run files)) told before now = PushesOf told files before now
 PushesFor (Some (check files result)) told before now = now ≡ before
 PushesFor (Some (report files)) told before now = PushesOf told files before now
 PushesFor (Some (trial number size)) told before now = now ≤ before + run_pushes (generated number size)
+PushesFor (Some (compare files second)) told before now = ComparisonPushes told files second before now
 
 -- the statuses that leave err alone
 abbrev pub IsQuiet : Status → Type 0

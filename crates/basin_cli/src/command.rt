@@ -23,6 +23,8 @@ pub enum Words<'a> {
     Report(Inputs<'a>),
     /// Make a basin from a number and a size, solve its months and sum them up.
     Trial { number: u32, size: u32 },
+    /// Solve the months of two basins and list who is delivered less in the second.
+    Compare { inputs: Inputs<'a>, second: &'a str },
 }
 
 /// The name of SERIES, unless the word is `-`.
@@ -87,11 +89,16 @@ pub fn command(words: &[String]) -> Option<Words<'_>>
                 None
             }
         }
-        [word, basin, series, result] => {
+        [word, basin, one, other] => {
             if word.as_str() == "check" {
                 Some(Words::Check {
-                    inputs: files_named(basin.as_str(), series.as_str()),
-                    result: result.as_str(),
+                    inputs: files_named(basin.as_str(), one.as_str()),
+                    result: other.as_str(),
+                })
+            } else if word.as_str() == "compare" {
+                Some(Words::Compare {
+                    inputs: files_named(basin.as_str(), other.as_str()),
+                    second: one.as_str(),
                 })
             } else {
                 None

@@ -4,10 +4,12 @@
 
 mod actions;
 mod command;
+mod compare;
 mod comparing;
 mod draft;
 mod ending;
 mod files;
+mod pairs;
 mod status;
 mod top;
 mod writing;
