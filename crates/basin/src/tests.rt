@@ -3,6 +3,7 @@ ghost use Rattle.std.specs.Prelude.{◌≡◌, ◌<◌};
 mod canals;
 mod checks;
 mod comparing;
+mod explaining;
 mod lakes;
 mod ordinary;
 mod reporting;

@@ -134,3 +134,5 @@ module _ (files : Files) (second : List ℕ) (told : Told) (read write : Type 0)
       always (told files.basin) (told second) (series_told told files.series) (Answered ending.OutOfMemory read write) (λ _ _ _ _ _. inl refl)
   comparing ending.Usage h = absurd h
   comparing (ending.Refuted refuted) h = absurd h
+  comparing ending.Met h = absurd h
+  comparing (ending.ScriptRefused fault line) h = absurd h

@@ -27,7 +27,7 @@ use Rattle.month_fold.specs.Reaches.{HaveReaches}
 use Rattle.std.specs.List.{flat_map}
 use Rattle.senior_hold.specs.MonthNetwork.{month_pushes}
 
-last_is : {X : Type 0} (xs : List X) (y : X) → slice_get (xs ++ y ∷ []) (length xs) ≡ Some y
+pub last_is : {X : Type 0} (xs : List X) (y : X) → slice_get (xs ++ y ∷ []) (length xs) ≡ Some y
 last_is [] y = refl
 last_is (x ∷ xs) y = last_is xs y
 

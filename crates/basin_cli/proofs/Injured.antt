@@ -177,7 +177,11 @@ module _ (told : Told) (files : Files) (second : List ℕ) (pair : Pair) (paired
   cause (ending.Refuted refuted) read write old new compares memory =
       let all = compares tt in
       absurd (ends_not (ending.Refuted refuted) (length (injuries pair.first.basin pair.second.basin all.records all.others)) all.ends (λ e. cc) (λ e. cc))
+  cause ending.Met read write old new compares memory =
+      let all = compares tt in
+      absurd (ends_not ending.Met (length (injuries pair.first.basin pair.second.basin all.records all.others)) all.ends (λ e. cc) (λ e. cc))
   cause ending.Usage read write old new compares memory = let e = memory (λ may. may) in cc
+  cause (ending.ScriptRefused fault line) read write old new compares memory = let e = memory (λ may. may) in cc
   cause (ending.BasinRefused finding) read write old new compares memory = let e = memory (λ may. may) in cc
   cause (ending.SeriesRefused finding) read write old new compares memory = let e = memory (λ may. may) in cc
   cause (ending.SecondRefused (of_second.Basin finding)) read write old new compares memory = let e = memory (λ may. may) in cc

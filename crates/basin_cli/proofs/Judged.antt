@@ -53,11 +53,11 @@ is_no_text bytes s text b series refuted valid spelled bad is =
 
 -- Behind the files of a command.
 
-spelled_by : (bytes s : List ℕ) (b : Basin) (series : Inflows) → IsSeriesOf b series → IsBasinText b bytes → IsSeriesText b series s → AreSpelled bytes s b series
+pub spelled_by : (bytes s : List ℕ) (b : Basin) (series : Inflows) → IsSeriesOf b series → IsBasinText b bytes → IsSeriesText b series s → AreSpelled bytes s b series
 spelled_by bytes s b series fits basin_text series_text =
     record { basin_spelled = basin_text.spelled; series_spelled = series_text.spelled; fits = fits }
 
-good_series : (bytes s : List ℕ) (b : Basin) (series : Inflows) → IsBasinText b bytes → IsSeriesText b series s → IsGoodSeries bytes s
+pub good_series : (bytes s : List ℕ) (b : Basin) (series : Inflows) → IsBasinText b bytes → IsSeriesText b series s → IsGoodSeries bytes s
 good_series bytes s b series basin_text series_text =
     record { basin = b; spelled = basin_text.spelled; within = series_text.within; sound = series_text.sound }
 
@@ -96,6 +96,8 @@ checking_cause told files result text b series (ending.Refuted refuted) read wri
       verdict = ends;
       no_text = is_no_text bytes s text b series refuted valid spelled ends;
     })
+checking_cause told files result text b series ending.Met read write valid fits loaded within is ends = absurd ends
+checking_cause told files result text b series (ending.ScriptRefused fault line) read write valid fits loaded within is ends = absurd ends
 checking_cause told files result text b series ending.Injured read write valid fits loaded within is ends = absurd ends
 checking_cause told files result text b series ending.Usage read write valid fits loaded within is ends = absurd ends
 checking_cause told files result text b series (ending.BasinRefused finding) read write valid fits loaded within is ends = absurd ends

@@ -10,3 +10,6 @@ pub mod Compared
 pub mod Comparisons
 pub mod Stops
 pub mod Injured
+pub mod Asked
+pub mod Explained
+pub mod Accounts

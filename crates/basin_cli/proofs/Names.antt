@@ -3,12 +3,14 @@ use Rattle.std.proofs.Common.{◌≡◌, ℕ, ◌+◌, ◌≤◌, List, ◌++◌
 use Rattle.cert_check.specs.KindNames.{kind_name}
 use Rattle.cert_check.specs.declared.refuted.RefutedKind.{RefutedKind}
 use Rattle.cert_check.specs.declared.refuted.RefutedKind.TheVariants as kind
+use Rattle.edit_script.specs.declared.refused.ScriptFault.{ScriptFault}
+use Rattle.edit_script.specs.declared.refused.ScriptFault.TheVariants as script
 use Rattle.inflow_file.specs.FaultNames as series
 use Rattle.inflow_file.specs.declared.refused.SeriesFault.{SeriesFault}
 use Rattle.inflow_file.specs.declared.refused.SeriesFault.TheVariants as fault_of
 use Rattle.basin_cli.specs.declared.ending.File.{File}
 use Rattle.basin_cli.specs.declared.ending.File.TheVariants as file
-use Rattle.basin_cli.specs.Ending.{file_name}
+use Rattle.basin_cli.specs.Ending.{file_name, script_fault_name}
 use Rattle.basin_tree.specs.Faults.{fault_name}
 use Rattle.basin_tree.specs.Tables.{table_name}
 use Rattle.basin_tree.specs.declared.fault.BasinFault.{BasinFault}
@@ -90,3 +92,12 @@ kind_name_short kind.Delivery = omega arith
 kind_name_short kind.Balance = omega arith
 kind_name_short kind.Closing = omega arith
 kind_name_short kind.EarlyEnd = omega arith
+
+pub script_fault_short : (f : ScriptFault) → length (script_fault_name f) ≤ 16
+unfolding script_fault_name
+script_fault_short script.AfterEnd = omega arith
+script_fault_short script.BadLine = omega arith
+script_fault_short script.OutsideRun = omega arith
+script_fault_short script.NoSuchName = omega arith
+script_fault_short script.NotSeries = omega arith
+script_fault_short script.EarlyEnd = omega arith

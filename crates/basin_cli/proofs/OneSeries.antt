@@ -6,7 +6,7 @@ use Rattle.basin_file.specs.BasinFaults.{Spells}
 use Rattle.basin_file.specs.Spelled.{basin_of}
 use Rattle.inflow_file.specs.SeriesFaults.{SpellsSeries}
 use Rattle.month_terms.proofs.Amounts.{want_is}
-use Rattle.water_model.specs.History.{Follows, IsHistory}
+use Rattle.water_model.specs.History.{Follows, IsHistory, IsPartialHistory}
 use Rattle.water_model.specs.Hydrology.{inflow_at, inflow_of_kind, stored_at}
 use Rattle.water_model.specs.Valid.{IsValidBasin, is_gauged, is_gauged_kind}
 use Rattle.water_model.specs.declared.types.Basin.{Basin}
@@ -69,16 +69,19 @@ same_follows b series other before m valid same l f = record {
     get_used : ℕ → ℕ
     get_used r = slice_index m.used r
 
--- a history with one series is one with the other
-pub same_history : (b : Basin) (series other : Inflows) (records : List MonthRecord) → IsValidBasin b → GiveSame b series other →
-    IsHistory b series records → IsHistory b other records
-same_history b series other records valid same history = record {
-  partial = record {
-    within = history.partial.within;
-    each = λ i m at. (let f = history.partial.each i m at in same_follows b series other (take i records) m valid same (in_run i m at f) f);
-  };
-  whole = history.whole;
+-- a partial history with one series is one with the other
+pub same_partial : (b : Basin) (series other : Inflows) (records : List MonthRecord) → IsValidBasin b → GiveSame b series other →
+    IsPartialHistory b series records → IsPartialHistory b other records
+same_partial b series other records valid same partial = record {
+  within = partial.within;
+  each = λ i m at. (let f = partial.each i m at in same_follows b series other (take i records) m valid same (in_run i m at f) f);
 }
   where
     in_run : (i : ℕ) (m : MonthRecord) → slice_get records i ≡ Some m → Follows b series (take i records) m → m.index < b.months
-    in_run i m at f = omega (arith, f.index, length-take i records, slice_get_within records i m at, history.partial.within)
+    in_run i m at f = omega (arith, f.index, length-take i records, slice_get_within records i m at, partial.within)
+
+-- a history with one series is one with the other
+pub same_history : (b : Basin) (series other : Inflows) (records : List MonthRecord) → IsValidBasin b → GiveSame b series other →
+    IsHistory b series records → IsHistory b other records
+same_history b series other records valid same history =
+    record { partial = same_partial b series other records valid same history.partial; whole = history.whole }

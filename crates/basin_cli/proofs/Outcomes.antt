@@ -3,7 +3,9 @@ use Rattle.std.proofs.Common.{◌≡◌, inl, inr, refl, ℕ, ◌≤◌, List, [
 use Rattle.std.specs.Prelude.{IfSome, IsTrue, Bool, true, false}
 use Rattle.std.specs.Option.{option_and_then}
 use Rattle.std.specs.Io.KnownBytes.{Appends}
+use Rattle.edit_script.specs.declared.refused.ScriptFault.TheVariants as script
 use Rattle.inflow_file.specs.SeriesFaults.{series_fault}
+use Rattle.water_text.specs.declared.month.Month.{Month}
 use Rattle.basin_tree.specs.declared.walk.Finding.{Finding}
 use Rattle.basin_cli.specs.declared.status.Status.{Status}
 use Rattle.basin_cli.specs.declared.status.Status.TheVariants as its
@@ -13,9 +15,10 @@ use Rattle.basin_cli.specs.declared.ending.File.TheVariants as file
 use Rattle.basin_cli.specs.declared.ending.SeriesFinding.{SeriesFinding}
 use Rattle.basin_cli.specs.declared.ending.SecondFinding.{SecondFinding}
 use Rattle.basin_cli.specs.declared.ending.SecondFinding.TheVariants as of_second
-use Rattle.basin_cli.specs.Command.{Command, Files, run, check, report, trial, compare}
+use Rattle.basin_cli.specs.Command.{Command, Files, run, check, report, trial, why, compare}
 use Rattle.basin_cli.specs.Ending.{line_of, status_of, status_of_second, finding_of}
-use Rattle.basin_cli.specs.Outcome.{IsGoodBasin, IsGoodSeries, IsHistoryText, IsAccepted, IsRefuted, IsRefusedFor, IsSeriesRefusedFor, IsTooLong, IsDone, IsJudged, Told, StopsReading, HasSolvingCause, HasCheckingCause, HasTrialCause, EndingHasCause, Completes, CompletesBehind, IsQuiet, Tells, file_limit, series_told}
+use Rattle.basin_cli.specs.Explained.{HasMonth, HasRight}
+use Rattle.basin_cli.specs.Outcome.{IsGoodBasin, IsGoodSeries, IsHistoryText, IsAccepted, IsRefuted, IsRefusedFor, IsSeriesRefusedFor, IsTooLong, IsDone, IsJudged, Told, StopsReading, HasSolvingCause, HasCheckingCause, HasTrialCause, HasExplainingCause, IsAsked, IsOutsideRun, IsUnknownRight, IsShortIn, EndingHasCause, Completes, CompletesBehind, IsQuiet, Tells, file_limit, series_told}
 use Rattle.basin_cli.proofs.OneSeries.{one_basin}
 use Rattle.basin_cli.proofs.Comparisons.{comparing}
 
@@ -89,6 +92,8 @@ stopped files ending.OutOfMemory told read P by_read by_memory h = always (told 
 stopped files ending.Done told read P by_read by_memory h = absurd h
 stopped files (ending.Refuted refuted) told read P by_read by_memory h = absurd h
 stopped files ending.Injured told read P by_read by_memory h = absurd h
+stopped files ending.Met told read P by_read by_memory h = absurd h
+stopped files (ending.ScriptRefused fault line) told read P by_read by_memory h = absurd h
 stopped files ending.Usage told read P by_read by_memory h = absurd h
 stopped files (ending.SecondRefused finding) told read P by_read by_memory h = absurd h
 stopped files ending.WriteFault told read P by_read by_memory h = absurd h
@@ -115,6 +120,8 @@ solving files (ending.InputTooLong file) told read write h =
 solving files ending.OutOfMemory told read write h = always (told files.basin) _ (Solved its.OutOfMemory read write) (λ _ _ _ _. inr refl)
 solving files (ending.Refuted refuted) told read write h = absurd h
 solving files ending.Injured told read write h = absurd h
+solving files ending.Met told read write h = absurd h
+solving files (ending.ScriptRefused fault line) told read write h = absurd h
 solving files ending.Usage told read write h = absurd h
 solving files (ending.SecondRefused finding) told read write h = absurd h
 
@@ -184,6 +191,65 @@ checking files result (ending.SecondRefused finding) told read write h = absurd 
 checking files result (ending.ReadFault file.SecondBasin) told read write h = absurd h
 checking files result (ending.InputTooLong file.SecondBasin) told read write h = absurd h
 checking files result ending.Injured told read write h = absurd h
+checking files result ending.Met told read write h = absurd h
+checking files result (ending.ScriptRefused fault line) told read write h = absurd h
+
+-- a question why a right got no more
+abbrev Explained : Status → Month → List ℕ → Type 0 → Type 0 → List ℕ → List ℕ → Type 0
+Explained status month name read write bytes s = IsAsked month name bytes → (read → ⊥) → (write → ⊥) → IsJudged status (IsShortIn month name bytes s)
+
+-- what holds behind both files shows it
+behind_both : (told series : Option (List ℕ)) (P Q : List ℕ → List ℕ → Type 0) → ((bytes s : List ℕ) → P bytes s → Q bytes s) →
+    IfSome told (λ bytes. IsGoodBasin bytes × IfSome series (λ s. IsGoodSeries bytes s × P bytes s)) → Shown told series Q
+behind_both None series P Q shows h = tt
+behind_both (Some bytes) None P Q shows h = λ _. tt
+behind_both (Some bytes) (Some s) P Q shows h = λ _ _. shows bytes s h.1.1
+
+-- where the month or the right is refused, it isn't one that may be asked for
+outside : (month : Month) (name bytes : List ℕ) → IsOutsideRun month bytes → IsAsked month name bytes → ⊥
+outside month name bytes is asked =
+    let same = one_basin bytes asked.basin is.basin asked.spelled is.spelled in
+    is.outside (subst (λ c. HasMonth c month) same asked.has_month)
+
+unknown : (month : Month) (name bytes : List ℕ) → IsUnknownRight month name bytes → IsAsked month name bytes → ⊥
+unknown month name bytes is asked =
+    let same = one_basin bytes asked.basin is.basin asked.spelled is.spelled in
+    is.unknown (subst (λ c. HasRight c name) same asked.has_right)
+
+explained_by_stop : (files : Files) (month : Month) (name : List ℕ) (how : Ending) (told : Told) (read write : Type 0) → StopsReading files how told read →
+    CompletesBehind told files (Explained (status_of how) month name read write)
+explained_by_stop files month name how told read write h =
+    stopped files how told read (Explained (status_of how) month name read write) (λ is bytes s _ no_read _. absurd (no_read is))
+    (λ e bytes s _ _ _. inl (ap status_of e)) h
+
+explaining : (files : Files) (month : Month) (name : List ℕ) (how : Ending) (told : Told) (read write : Type 0) →
+    HasExplainingCause files month name how told read write → CompletesBehind told files (Explained (status_of how) month name read write)
+explaining files month name ending.Done told read write h =
+    behind_both (told files.basin) _ (IsShortIn month name) (Explained its.Done month name read write) (λ _ _ is _ _ _. inr (inl (refl, is))) h
+explaining files month name ending.Met told read write h =
+    behind_both (told files.basin) _ (λ bytes s. IsAsked month name bytes × (IsShortIn month name bytes s → ⊥)) (Explained its.No month name read write)
+    (λ _ _ is _ _ _. inr (inr (refl, is.1))) h
+explaining files month name ending.WriteFault told read write h =
+    always (told files.basin) _ (Explained its.WriteFault month name read write) (λ _ _ _ _ no_write. absurd (no_write h.0))
+explaining files month name (ending.ScriptRefused script.OutsideRun line) told read write h =
+    behind_both (told files.basin) _ (λ bytes _. IsOutsideRun month bytes) (Explained its.ScriptRefused month name read write)
+    (λ bytes _ is asked _ _. absurd (outside month name bytes is asked)) h.1
+explaining files month name (ending.ScriptRefused script.NoSuchName line) told read write h =
+    behind_both (told files.basin) _ (λ bytes _. IsUnknownRight month name bytes) (Explained its.ScriptRefused month name read write)
+    (λ bytes _ is asked _ _. absurd (unknown month name bytes is asked)) h.1
+explaining files month name (ending.ScriptRefused script.AfterEnd line) told read write h = absurd h
+explaining files month name (ending.ScriptRefused script.BadLine line) told read write h = absurd h
+explaining files month name (ending.ScriptRefused script.NotSeries line) told read write h = absurd h
+explaining files month name (ending.ScriptRefused script.EarlyEnd line) told read write h = absurd h
+explaining files month name (ending.BasinRefused finding) told read write h = explained_by_stop files month name (ending.BasinRefused finding) told read write h
+explaining files month name (ending.SeriesRefused finding) told read write h = explained_by_stop files month name (ending.SeriesRefused finding) told read write h
+explaining files month name (ending.ReadFault file) told read write h = explained_by_stop files month name (ending.ReadFault file) told read write h
+explaining files month name (ending.InputTooLong file) told read write h = explained_by_stop files month name (ending.InputTooLong file) told read write h
+explaining files month name ending.OutOfMemory told read write h = explained_by_stop files month name ending.OutOfMemory told read write h
+explaining files month name ending.Usage told read write h = absurd h
+explaining files month name (ending.SecondRefused finding) told read write h = absurd h
+explaining files month name ending.Injured told read write h = absurd h
+explaining files month name (ending.Refuted refuted) told read write h = absurd h
 
 trying : (how : Ending) (write : Type 0) → HasTrialCause how write → (write → ⊥) → IsDone (status_of how)
 trying ending.Done write h no_write = inl refl
@@ -193,6 +259,8 @@ trying ending.Usage write h no_write = absurd h
 trying (ending.SecondRefused finding) write h no_write = absurd h
 trying (ending.Refuted refuted) write h no_write = absurd h
 trying ending.Injured write h no_write = absurd h
+trying ending.Met write h no_write = absurd h
+trying (ending.ScriptRefused fault line) write h no_write = absurd h
 trying (ending.BasinRefused finding) write h no_write = absurd h
 trying (ending.SeriesRefused finding) write h no_write = absurd h
 trying (ending.ReadFault file) write h no_write = absurd h
@@ -206,6 +274,7 @@ completes (Some (check files result)) how told read write h = checking files res
 completes (Some (report files)) how told read write h = solving files how told read write h
 completes (Some (trial number size)) how told read write h = trying how write h
 completes (Some (compare files second)) how told read write h = comparing files second told read write how h
+completes (Some (why files month name)) how told read write h = explaining files month name how told read write h
 
 -- nothing was told
 pub tells_nothing : (old : Option (List ℕ)) (before : ℕ) → Tells old old before before []
@@ -227,6 +296,7 @@ unfolding line_of
 quiet ending.Done old before h = tells_nothing old before
 quiet (ending.Refuted refuted) old before h = tells_nothing old before
 quiet ending.Injured old before h = tells_nothing old before
+quiet ending.Met old before h = tells_nothing old before
 quiet ending.Usage old before h = absurd (h (λ q. q))
 quiet (ending.BasinRefused finding) old before h = absurd (h (λ q. q))
 quiet (ending.SeriesRefused finding) old before h = absurd (h (λ q. q))
@@ -235,6 +305,7 @@ quiet (ending.ReadFault file) old before h = absurd (h (λ q. q))
 quiet ending.WriteFault old before h = absurd (h (λ q. q))
 quiet ending.OutOfMemory old before h = absurd (h (λ q. q))
 quiet (ending.InputTooLong file) old before h = absurd (h (λ q. q))
+quiet (ending.ScriptRefused fault line) old before h = absurd (h (λ q. q))
 
 pub told_not : {told : Bool} → told ≡ false → IsTrue told → ⊥
 told_not e h = let clash : false ≡ true = sym e ∙ h in cc

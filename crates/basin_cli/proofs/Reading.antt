@@ -4,7 +4,7 @@ use Rattle.std.specs.Prelude.{IfErr, Result, Ok, Err}
 use Rattle.water_model.specs.declared.types.Basin.{Basin}
 use Rattle.water_model.specs.declared.types.Inflows.{Inflows}
 use Rattle.basin_cli.specs.declared.ending.Ending.{Ending}
-use Rattle.basin_cli.specs.declared.ending.Ending.TheVariants.{Done, Refuted, Injured, Usage, BasinRefused, SeriesRefused, SecondRefused, ReadFault, WriteFault, OutOfMemory, InputTooLong}
+use Rattle.basin_cli.specs.declared.ending.Ending.TheVariants.{Done, Refuted, Injured, Usage, BasinRefused, SeriesRefused, SecondRefused, ReadFault, WriteFault, OutOfMemory, InputTooLong, Met, ScriptRefused}
 use Rattle.basin_cli.specs.Header.{header}
 use Rattle.basin_cli.specs.Outcome.{file_limit}
 use Rattle.basin_cli.specs.Series.{SeriesEnds, SeriesReadEnds}
@@ -14,6 +14,8 @@ pub refused_read : (b : Basin) (bytes : List â„•) (read : Type 0) (e : Ending) â
 refused_read b bytes read Done within h = absurd h
 refused_read b bytes read (Refuted refuted) within h = absurd h
 refused_read b bytes read Injured within h = absurd h
+refused_read b bytes read Met within h = absurd h
+refused_read b bytes read (ScriptRefused fault line) within h = absurd h
 refused_read b bytes read Usage within h = absurd h
 refused_read b bytes read (BasinRefused finding) within h = absurd h
 refused_read b bytes read (SeriesRefused finding) within h = (within, h)

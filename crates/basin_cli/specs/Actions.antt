@@ -1,12 +1,17 @@
 -- How the actions of commands may end, behind their files.
-use Rattle.std.specs.Prelude.{◌≡◌, ℕ, List, ⊤, IsOk, Err, Option}
+use Rattle.std.specs.Prelude.{◌≡◌, ℕ, ◌≤◌, List, ⊤, IsOk, Err, Option, slice_index}
 use Rattle.cert_check.specs.Whole.{text_verdict}
+use Rattle.edit_script.specs.declared.refused.ScriptFault.TheVariants as script
+use Rattle.water_model.specs.History.{IsShort}
+use Rattle.water_model.specs.Hydrology.{run_month}
 use Rattle.water_model.specs.declared.types.Basin.{Basin}
 use Rattle.water_model.specs.declared.types.Inflows.{Inflows}
 use Rattle.water_model.specs.declared.types.MonthRecord.{MonthRecord}
+use Rattle.water_text.specs.declared.month.Month.{Month}
 use Rattle.basin_cli.specs.declared.ending.Ending.{Ending}
 use Rattle.basin_cli.specs.declared.ending.Ending.TheVariants as ending
 use Rattle.basin_cli.specs.Ending.{status_of}
+use Rattle.basin_cli.specs.Explained.{EndsExplaining, Explains, HasMonth, HasRight, IsAbout, IsRecordOf}
 use Rattle.basin_cli.specs.Outcome.{Leaves, MayWrite}
 
 -- out was left with the text of some records of which this holds, or with a front of it
@@ -21,3 +26,32 @@ EndsChecking b series text (ending.Refuted refuted) write = text_verdict b serie
 EndsChecking b series text ending.WriteFault write = write
 EndsChecking b series text ending.OutOfMemory write = ⊤
 EndsChecking b series text other write = ⊥
+
+-- how the answer about a right in the month of this index ends, and what it leaves on out: its text, or a front of it
+pub record AnswersAt (b : Basin) (series : Inflows) (index right : ℕ) (how : Ending) (write : Type 0) (old new : Option (List ℕ)) : Type 0 where
+  pub last : MonthRecord
+  pub of_month : IsRecordOf b series (run_month b index) last
+  pub ends : EndsExplaining last right how write
+  pub text : List ℕ
+  pub explains : Explains b last right text
+  pub written : Leaves (status_of how) text old new
+
+-- how the answer to a month and a name may end
+abbrev pub EndsAsking : Basin → Inflows → Month → List ℕ → Ending → Type 0 → Type 0
+EndsAsking b series month name ending.Done write = (right : ℕ) × (m : MonthRecord) × IsAbout b series month name right m × IsShort m right
+EndsAsking b series month name ending.Met write =
+    (right : ℕ) × (m : MonthRecord) × IsAbout b series month name right m × (slice_index m.want right ≤ slice_index m.delivered right)
+EndsAsking b series month name ending.WriteFault write = write × HasMonth b month × HasRight b name
+EndsAsking b series month name (ending.ScriptRefused script.OutsideRun line) write = (line ≡ 0) × (HasMonth b month → ⊥)
+EndsAsking b series month name (ending.ScriptRefused script.NoSuchName line) write = (line ≡ 0) × HasMonth b month × (HasRight b name → ⊥)
+EndsAsking b series month name ending.OutOfMemory write = ⊤
+EndsAsking b series month name other write = ⊥
+
+-- out was left with the answer about a right and a record of the month, or with a front of it
+pub record IsAnswered (b : Basin) (series : Inflows) (month : Month) (name : List ℕ) (how : Ending) (old new : Option (List ℕ)) : Type 0 where
+  pub right : ℕ
+  pub last : MonthRecord
+  pub about : IsAbout b series month name right last
+  pub text : List ℕ
+  pub explains : Explains b last right text
+  pub written : Leaves (status_of how) text old new

@@ -2,6 +2,9 @@
 use Rattle.std.specs.Prelude.{ℕ, ◌≤◌, List, [], ◌∷◌, codes, nat_le, if◌then◌else◌, Option, Some, None, ⊤, option_map}
 use Rattle.std.specs.Str.{bytes_eq}
 use Rattle.water_text.specs.Amounts.{read_amount}
+use Rattle.water_text.specs.Months.{IsMonth, read_month}
+use Rattle.water_text.specs.Names.{is_name}
+use Rattle.water_text.specs.declared.month.Month.{Month}
 use Rattle.basin_cli.specs.declared.command.Inputs as input
 use Rattle.basin_cli.specs.declared.command.Words.{Words}
 use Rattle.basin_cli.specs.declared.command.Words.TheVariants as words
@@ -12,14 +15,15 @@ pub record Files : Type 0 where
   pub series : Option (List ℕ)
 
 -- a command with the names of its files, or with its numbers: `run` and `report` have the files of a basin and its series,
--- `check` the file of a result besides, `compare` the file of a second basin, and `trial` the number and the size of a
--- generated basin
+-- `check` the file of a result besides, `compare` the file of a second basin, `trial` the number and the size of a generated
+-- basin, and `why` a month and the name of a right beside the files
 pub data Command : Type 0 where
   run : Files → Command
   check : Files → List ℕ → Command
   report : Files → Command
   trial : ℕ → ℕ → Command
   compare : Files → List ℕ → Command
+  why : Files → Month → List ℕ → Command
 
 -- the word `-` names no file
 abbrev pub series_named : List ℕ → Option (List ℕ)
@@ -34,6 +38,11 @@ abbrev pub trial_of : Option ℕ → Option ℕ → Option Command
 trial_of None size = None
 trial_of (Some number) size = sized number size
 
+-- a month from 1800-01 to 2999-12, and a name
+abbrev pub why_of : Files → Option Month → List ℕ → Option Command
+why_of files None right = None
+why_of files (Some month) right = if is_name right then Some (why files month right) else None
+
 abbrev pub command_of : List (List ℕ) → Option Command
 command_of (word ∷ basin ∷ []) = if bytes_eq word (codes "run") then Some (run (record { basin = basin; series = None })) else None
 command_of (word ∷ one ∷ other ∷ []) =
@@ -43,6 +52,8 @@ command_of (word ∷ one ∷ other ∷ []) =
 command_of (word ∷ basin ∷ one ∷ other ∷ []) =
     if bytes_eq word (codes "check") then Some (check (record { basin = basin; series = series_named one }) other)
     else (if bytes_eq word (codes "compare") then Some (compare (record { basin = basin; series = series_named other }) one) else None)
+command_of (word ∷ basin ∷ series ∷ month ∷ right ∷ []) =
+    if bytes_eq word (codes "why") then why_of (record { basin = basin; series = series_named series }) (read_month month) right else None
 command_of _ = None
 
 -- the command that words give, as the program keeps it
@@ -55,11 +66,13 @@ command_named (words.Check inputs result) = check (named inputs) result.now
 command_named (words.Report inputs) = report (named inputs)
 command_named (words.Trial number size) = trial number size
 command_named (words.Compare inputs second) = compare (named inputs) second.now
+command_named (words.Why inputs month right) = why (named inputs) month right.now
 
--- the size of a trial is from 2 to 2,000
-abbrev pub IsSized : Words → Type 0
-IsSized (words.Trial number size) = (2 ≤ size) × (size ≤ 2000)
-IsSized other = ⊤
+-- the size of a trial is from 2 to 2,000, and the month of a `why` is one of the calendar
+abbrev pub IsInForm : Words → Type 0
+IsInForm (words.Trial number size) = (2 ≤ size) × (size ≤ 2000)
+IsInForm (words.Why inputs month right) = IsMonth month
+IsInForm other = ⊤
 
 abbrev pub ServesSeries : (List ℕ → Type 0) → Option (List ℕ) → Type 0
 ServesSeries serves None = ⊤
@@ -73,3 +86,4 @@ ServesFiles serves (Some (check files result)) = serves files.basin × ServesSer
 ServesFiles serves (Some (report files)) = serves files.basin × ServesSeries serves files.series
 ServesFiles serves (Some (trial number size)) = ⊤
 ServesFiles serves (Some (compare files second)) = serves files.basin × ServesSeries serves files.series × serves second
+ServesFiles serves (Some (why files month right)) = serves files.basin × ServesSeries serves files.series

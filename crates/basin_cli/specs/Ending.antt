@@ -4,6 +4,8 @@ use Rattle.std.specs.Fmt.{decimal}
 use Rattle.basin_tree.specs.declared.walk.Finding.{Finding}
 use Rattle.basin_tree.specs.Faults.{fault_name}
 use Rattle.basin_tree.specs.Tables.{table_name}
+use Rattle.edit_script.specs.declared.refused.ScriptFault.{ScriptFault}
+use Rattle.edit_script.specs.declared.refused.ScriptFault.TheVariants as script
 use Rattle.inflow_file.specs.FaultNames as series_fault
 use Rattle.inflow_file.specs.declared.refused.SeriesRefused.{SeriesRefused}
 use Rattle.inflow_file.specs.declared.refused.SeriesRefused.TheVariants as refused
@@ -30,6 +32,7 @@ abbrev pub status_of : Ending → Status
 status_of ending.Done = status.Done
 status_of (ending.Refuted refuted) = status.No
 status_of ending.Injured = status.No
+status_of ending.Met = status.No
 status_of ending.Usage = status.Usage
 status_of (ending.BasinRefused finding) = status.BasinRefused
 status_of (ending.SeriesRefused finding) = status.SeriesRefused
@@ -38,6 +41,7 @@ status_of (ending.ReadFault file) = status.ReadFault
 status_of ending.WriteFault = status.WriteFault
 status_of ending.OutOfMemory = status.OutOfMemory
 status_of (ending.InputTooLong file) = status.InputTooLong
+status_of (ending.ScriptRefused fault line) = status.ScriptRefused
 
 -- the ending of a call that refused the second basin or its series, from how it refuses a basin or a series
 abbrev pub second_of : Ending → Ending
@@ -72,10 +76,23 @@ second_line (of_second.Basin finding) = refusal_line (codes "basin2: ") finding
 second_line of_second.OtherRun = codes "basin2: OtherRun top 0\n"
 second_line (of_second.Series finding) = series_line (codes "series2: ") finding
 
+unfoldable pub script_fault_name : ScriptFault → List ℕ
+script_fault_name script.AfterEnd = codes "AfterEnd"
+script_fault_name script.BadLine = codes "BadLine"
+script_fault_name script.OutsideRun = codes "OutsideRun"
+script_fault_name script.NoSuchName = codes "NoSuchName"
+script_fault_name script.NotSeries = codes "NotSeries"
+script_fault_name script.EarlyEnd = codes "EarlyEnd"
+
+-- FAULT LINE
+unfoldable pub script_line : ScriptFault → ℕ → List ℕ
+script_line fault line = codes "script: " ++ script_fault_name fault ++ codes " " ++ decimal line ++ codes "\n"
+
 unfoldable pub line_of : Ending → List ℕ
 line_of ending.Done = []
 line_of (ending.Refuted refuted) = []
 line_of ending.Injured = []
+line_of ending.Met = []
 line_of ending.Usage = codes "usage: basin_cli COMMAND WORDS\n"
 line_of (ending.BasinRefused finding) = refusal_line (codes "basin: ") finding
 line_of (ending.SeriesRefused finding) = series_line (codes "series: ") finding
@@ -84,6 +101,7 @@ line_of (ending.ReadFault file) = codes "read: " ++ file_name file ++ codes "\n"
 line_of ending.WriteFault = codes "write: failed\n"
 line_of ending.OutOfMemory = codes "out of memory\n"
 line_of (ending.InputTooLong file) = codes "too long: " ++ file_name file ++ codes "\n"
+line_of (ending.ScriptRefused fault line) = script_line fault line
 
 -- the month of a missing amount is one of the calendar, and the node's name has room in a line
 abbrev pub CanBeSpelled : SeriesFinding → Type 0

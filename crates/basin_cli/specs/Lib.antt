@@ -13,3 +13,4 @@ pub mod Pairs
 pub mod Actions
 pub mod Answer
 pub mod Compared
+pub mod Explained

@@ -8,22 +8,25 @@ use Rattle.basin_gen.specs.Generator.{generated}
 use Rattle.cert_check.specs.KindNames.{kind_name}
 use Rattle.cert_check.specs.Whole.{text_verdict}
 use Rattle.cert_check.specs.declared.refuted.Refuted.{Refuted}
+use Rattle.edit_script.specs.declared.refused.ScriptFault.TheVariants as script
 use Rattle.reports.specs.Ends.{IsRun}
 use Rattle.reports.specs.Reports.{report_text, trial_text}
-use Rattle.water_model.specs.History.{IsHistory}
+use Rattle.water_model.specs.History.{IsHistory, IsShort}
 use Rattle.water_model.specs.Text.{text_bytes}
 use Rattle.water_model.specs.Valid.{IsSeriesOf}
 use Rattle.water_model.specs.declared.item.Item.{Item}
 use Rattle.water_model.specs.declared.types.Basin.{Basin}
 use Rattle.water_model.specs.declared.types.Inflows.{Inflows}
 use Rattle.water_model.specs.declared.types.MonthRecord.{MonthRecord}
+use Rattle.water_text.specs.declared.month.Month.{Month}
 use Rattle.basin_cli.specs.declared.status.Status.{Status}
 use Rattle.basin_cli.specs.declared.status.Status.TheVariants.{Done, No, OutOfMemory}
 use Rattle.basin_cli.specs.declared.ending.Ending.{Ending}
 use Rattle.basin_cli.specs.declared.ending.Ending.TheVariants as ending
 use Rattle.basin_cli.specs.declared.ending.File.TheVariants as file
-use Rattle.basin_cli.specs.Command.{Command, Files, run, check, report, trial, compare}
+use Rattle.basin_cli.specs.Command.{Command, Files, run, check, report, trial, why, compare}
 use Rattle.basin_cli.specs.Ending.{status_of, line_of}
+use Rattle.basin_cli.specs.Explained.{Explains, HasMonth, HasRight, IsAbout, PushesUpTo}
 use Rattle.basin_cli.specs.Headline.{HasGreatestPlans}
 pub use Rattle.basin_cli.specs.Bytes.{AreSpelled, IsGoodBasin, IsGoodSeries, IsRefusedFor, IsRunOf, IsSeriesRefusedFor, IsTooLong, Told, file_limit, series_told}
 pub use Rattle.basin_cli.specs.Out.{Leaves, MayWrite}
@@ -55,12 +58,47 @@ pub record IsRefuted (refuted : Refuted) (bytes series_bytes result : List ℕ) 
   pub verdict : text_verdict basin series result ≡ Err refuted
   pub no_text : IsHistoryText bytes series_bytes result → ⊥
 
+-- the run of the basin that bytes spell hasn't the month
+pub record IsOutsideRun (month : Month) (bytes : List ℕ) : Type 0 where
+  pub basin : Basin
+  pub spelled : Spells bytes basin
+  pub outside : HasMonth basin month → ⊥
+
+-- the run of the basin that bytes spell has the month, and no right of it has the name
+pub record IsUnknownRight (month : Month) (name bytes : List ℕ) : Type 0 where
+  pub basin : Basin
+  pub spelled : Spells bytes basin
+  pub has_month : HasMonth basin month
+  pub unknown : HasRight basin name → ⊥
+
+-- the run of the basin that bytes spell has the month, and a right of it has the name
+pub record IsAsked (month : Month) (name bytes : List ℕ) : Type 0 where
+  pub basin : Basin
+  pub spelled : Spells bytes basin
+  pub has_month : HasMonth basin month
+  pub has_right : HasRight basin name
+
+-- the right of the name is short in the month, in a run of the basin and series that bytes spell. If so it is short in every
+-- such run, because all have one outcome
+pub record IsShortIn (month : Month) (name bytes series_bytes : List ℕ) : Type 0 where
+  pub basin : Basin
+  pub series : Inflows
+  pub spelled : AreSpelled bytes series_bytes basin series
+  pub right : ℕ
+  pub last : MonthRecord
+  pub about : IsAbout basin series month name right last
+  pub short : IsShort last right
+
 -- the basin file is good, and this holds of its bytes and those of the series, as far as they are told
 abbrev pub BehindBasin : Told → Files → (List ℕ → List ℕ → Type 0) → Type 0
 BehindBasin told files P = IfSome (told files.basin) (λ bytes. IsGoodBasin bytes × IfSome (series_told told files.series) (P bytes))
 
 abbrev pub AreAccepted : Told → Files → Type 0
 AreAccepted told files = BehindBasin told files IsGoodSeries
+
+-- both files are good, and this holds of their bytes
+abbrev pub BehindBoth : Told → Files → (List ℕ → List ℕ → Type 0) → Type 0
+BehindBoth told files P = BehindBasin told files (λ bytes series. IsGoodSeries bytes series × P bytes series)
 
 -- both files are good, and this holds of their bytes and those of the result
 abbrev pub BehindSeries : Told → Files → List ℕ → (List ℕ → List ℕ → List ℕ → Type 0) → Type 0
@@ -100,12 +138,25 @@ HasTrialCause ending.WriteFault write = write
 HasTrialCause ending.OutOfMemory write = ⊤
 HasTrialCause other write = ⊥
 
+-- the cause of an ending of `why`
+abbrev pub HasExplainingCause : Files → Month → List ℕ → Ending → Told → Type 0 → Type 0 → Type 0
+HasExplainingCause files month name ending.Done told read write = BehindBoth told files (IsShortIn month name)
+HasExplainingCause files month name ending.Met told read write =
+    BehindBoth told files (λ bytes series. IsAsked month name bytes × (IsShortIn month name bytes series → ⊥))
+HasExplainingCause files month name ending.WriteFault told read write = write × BehindBoth told files (λ bytes _. IsAsked month name bytes)
+HasExplainingCause files month name (ending.ScriptRefused script.OutsideRun line) told read write =
+    (line ≡ 0) × BehindBoth told files (λ bytes _. IsOutsideRun month bytes)
+HasExplainingCause files month name (ending.ScriptRefused script.NoSuchName line) told read write =
+    (line ≡ 0) × BehindBoth told files (λ bytes _. IsUnknownRight month name bytes)
+HasExplainingCause files month name other told read write = StopsReading files other told read
+
 abbrev pub HasCauseFor : Command → Ending → Told → Type 0 → Type 0 → Type 0
 HasCauseFor (run files) e told read write = HasSolvingCause files e told read write
 HasCauseFor (check files result) e told read write = HasCheckingCause files result e told read write
 HasCauseFor (report files) e told read write = HasSolvingCause files e told read write
 HasCauseFor (trial number size) e told read write = HasTrialCause e write
 HasCauseFor (compare files second) e told read write = HasComparingCause files second e told read write
+HasCauseFor (why files month name) e told read write = HasExplainingCause files month name e told read write
 
 abbrev pub EndingHasCause : Option Command → Ending → Told → Type 0 → Type 0 → Type 0
 EndingHasCause None e told read write = e ≡ ending.Usage
@@ -129,9 +180,9 @@ pub record Ends (command : Option Command) (status : Status) (told : Told) (read
 abbrev pub IsDone : Status → Type 0
 IsDone status = (status ≡ Done) ⊎ (status ≡ OutOfMemory)
 
--- a result is judged as what it is: the text of a history, or not
+-- what is asked is answered as it is: done where this holds, else no
 abbrev pub IsJudged : Status → Type 0 → Type 0
-IsJudged status is_text = (status ≡ OutOfMemory) ⊎ (((status ≡ Done) × is_text) ⊎ ((status ≡ No) × (is_text → ⊥)))
+IsJudged status asked = (status ≡ OutOfMemory) ⊎ (((status ≡ Done) × asked) ⊎ ((status ≡ No) × (asked → ⊥)))
 
 -- right words, told bytes that are accepted, and no fault of the shelf or of out: the call is done, unless memory ran out
 abbrev pub CompletesBehind : Told → Files → (List ℕ → List ℕ → Type 0) → Type 0
@@ -148,6 +199,9 @@ Completes (Some (check files result)) status told read write =
     CompletesBehind told files (λ bytes series. IfSome (told result) (λ text. length text ≤ file_limit →
     (read → ⊥) → (write → ⊥) → IsJudged status (IsHistoryText bytes series text)))
 Completes (Some (compare files second)) status told read write = ComparesBehind told files second status read write
+Completes (Some (why files month name)) status told read write =
+    CompletesBehind told files (λ bytes series. IsAsked month name bytes →
+    (read → ⊥) → (write → ⊥) → IsJudged status (IsShortIn month name bytes series))
 
 -- what `run` leaves on out: the text of a run of what the bytes spell
 pub record WritesRun (status : Status) (bytes series_bytes : List ℕ) (old new : Option (List ℕ)) : Type 0 where
@@ -185,6 +239,19 @@ pub record WritesTrial (status : Status) (number size : ℕ) (old new : Option (
   pub is_run : IsRun (generated number size) series records
   pub written : Leaves status (trial_text number size (generated number size) series records) old new
 
+-- what `why` leaves on out: the book of the right's reach in the month where it is short, and else that it is met, by a run of
+-- what the bytes spell up to that month
+pub record WritesAccount (status : Status) (month : Month) (name bytes series_bytes : List ℕ) (old new : Option (List ℕ)) : Type 0 where
+  pub basin : Basin
+  pub series : Inflows
+  pub spelled : AreSpelled bytes series_bytes basin series
+  pub right : ℕ
+  pub last : MonthRecord
+  pub about : IsAbout basin series month name right last
+  pub text : List ℕ
+  pub explains : Explains basin last right text
+  pub written : Leaves status text old new
+
 -- this holds of what is told of both files
 abbrev pub OfBoth : Told → Files → (List ℕ → List ℕ → Type 0) → Type 0
 OfBoth told files P = IfSome (told files.basin) (λ bytes. IfSome (series_told told files.series) (λ series. P bytes series))
@@ -197,6 +264,8 @@ WritesFor (Some (check files result)) status told old new =
 WritesFor (Some (report files)) status told old new = OfBoth told files (λ bytes series. MayWrite status → WritesReport status bytes series old new)
 WritesFor (Some (trial number size)) status told old new = MayWrite status → WritesTrial status number size old new
 WritesFor (Some (compare files second)) status told old new = ComparisonWrites told files second status old new
+WritesFor (Some (why files month name)) status told old new =
+    OfBoth told files (λ bytes series. MayWrite status → WritesAccount status month name bytes series old new)
 
 -- searches push at most so often as the bound of a month allows, for each month of the basin that the bytes spell
 abbrev pub PushesOf : Told → Files → ℕ → ℕ → Type 0
@@ -210,6 +279,8 @@ PushesFor (Some (check files result)) told before now = now ≡ before
 PushesFor (Some (report files)) told before now = PushesOf told files before now
 PushesFor (Some (trial number size)) told before now = now ≤ before + run_pushes (generated number size)
 PushesFor (Some (compare files second)) told before now = ComparisonPushes told files second before now
+PushesFor (Some (why files month name)) told before now =
+    IfSome (told files.basin) (λ bytes. (basin : Basin) → Spells bytes basin → PushesUpTo basin month before now)
 
 -- the statuses that leave err alone
 abbrev pub IsQuiet : Status → Type 0

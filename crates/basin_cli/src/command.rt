@@ -1,9 +1,12 @@
 //! The words of the command line.
 ghost use Rattle.std.specs.Prelude.{◌≡◌, option_map, map, string_bytes, IfSome};
-ghost use Rattle.basin_cli.specs.Command.{IsSized, command_named, command_of, series_named, trial_of};
+ghost use Rattle.basin_cli.specs.Command.{IsInForm, command_named, command_of, named, series_named, trial_of, why_of};
 ghost use Rattle.water_text.specs.Amounts.{read_amount};
+ghost use Rattle.water_text.specs.Months.{read_month};
 
 use water_text::amount::read_amount;
+use water_text::month::Month;
+use water_text::name::is_name;
 
 /// The names of BASIN and SERIES. Without SERIES the table of gauged inflows is its header alone.
 #[derive(Clone, Copy)]
@@ -18,13 +21,28 @@ pub enum Words<'a> {
     /// Solve the months and write their result.
     Run(Inputs<'a>),
     /// Check the result in a file.
-    Check { inputs: Inputs<'a>, result: &'a str },
+    Check {
+        inputs: Inputs<'a>,
+        result: &'a str,
+    },
     /// Solve the months and report on them.
     Report(Inputs<'a>),
     /// Make a basin from a number and a size, solve its months and sum them up.
-    Trial { number: u32, size: u32 },
+    Trial {
+        number: u32,
+        size: u32,
+    },
     /// Solve the months of two basins and list who is delivered less in the second.
-    Compare { inputs: Inputs<'a>, second: &'a str },
+    Compare {
+        inputs: Inputs<'a>,
+        second: &'a str,
+    },
+    /// Tell why the right of this name got no more in a month.
+    Why {
+        inputs: Inputs<'a>,
+        month: Month,
+        right: &'a str,
+    },
 }
 
 /// The name of SERIES, unless the word is `-`.
@@ -48,7 +66,7 @@ fn files_named<'a>(basin: &'a str, series: &'a str) -> Inputs<'a>
 /// A trial, where the words are a number of 32 bits and a size from 2 to 2,000.
 fn trial_words<'a>(number: &str, size: &str) -> Option<Words<'a>>
     ensures words { option_map command_named result ≡ trial_of (read_amount number.now 4294967295) (read_amount size.now 2000) }
-    ensures sized { IfSome result IsSized }
+    ensures form { IfSome result IsInForm }
 {
     let number = read_amount(number.as_bytes(), 4_294_967_295)?;
     let size = read_amount(size.as_bytes(), 2_000)?;
@@ -62,10 +80,27 @@ fn trial_words<'a>(number: &str, size: &str) -> Option<Words<'a>>
     }
 }
 
+/// A question why a right got no more, where the words are a month and a name.
+fn why_words<'a>(inputs: Inputs<'a>, month: &str, right: &'a str) -> Option<Words<'a>>
+    ensures words { option_map command_named result ≡ why_of (named inputs.entry) (read_month month.now) right.entry.now }
+    ensures form { IfSome result IsInForm }
+{
+    let month = Month::read(month.as_bytes())?;
+    if is_name(right.as_bytes()) {
+        Some(Words::Why {
+            inputs,
+            month,
+            right,
+        })
+    } else {
+        None
+    }
+}
+
 /// The command that the words are.
 pub fn command(words: &[String]) -> Option<Words<'_>>
     ensures words { option_map command_named result ≡ command_of (map string_bytes words.now) }
-    ensures sized { IfSome result IsSized }
+    ensures form { IfSome result IsInForm }
 {
     match words {
         [word, basin] => {
@@ -100,6 +135,14 @@ pub fn command(words: &[String]) -> Option<Words<'_>>
                     inputs: files_named(basin.as_str(), other.as_str()),
                     second: one.as_str(),
                 })
+            } else {
+                None
+            }
+        }
+        [word, basin, series, month, right] => {
+            if word.as_str() == "why" {
+                let inputs = files_named(basin.as_str(), series.as_str());
+                why_words(inputs, month.as_str(), right.as_str())
             } else {
                 None
             }

@@ -3,12 +3,13 @@ ghost use Rattle.std.specs.Prelude.{◌≡◌, ◌↔◌, ◌≤◌, ◌++◌, I
 ghost use Rattle.std.specs.Fmt.{decimal};
 ghost use Rattle.water_text.specs.Months.{IsMonth, month_digits};
 ghost use Rattle.inflow_file.specs.FaultNames.{fault_name};
-ghost use Rattle.basin_cli.specs.Ending.{status_of, status_of_second, line_of, refusal_line, second_line, second_of, series_line, file_name, CanBeTold, CanBeSpelled, CanBeSpelledOfSecond};
+ghost use Rattle.basin_cli.specs.Ending.{status_of, status_of_second, line_of, refusal_line, second_line, second_of, series_line, file_name, script_fault_name, script_line, CanBeTold, CanBeSpelled, CanBeSpelledOfSecond};
 ghost use Rattle.basin_cli.specs.Outcome.{IsQuiet, Tells};
 
 use crate::status::Status;
 use basin_tree::walk::Finding;
 use cert_check::Refuted;
+use edit_script::ScriptFault;
 use inflow_file::SeriesFault;
 use water_edge::Sink;
 use water_text::line::Line;
@@ -77,6 +78,8 @@ pub enum Ending {
     Refuted(Refuted),
     /// Somebody is injured in a comparison, which out was told.
     Injured,
+    /// The right that was asked for is not short, which out was told.
+    Met,
     Usage,
     BasinRefused(Finding),
     SeriesRefused(SeriesFinding),
@@ -85,6 +88,8 @@ pub enum Ending {
     WriteFault,
     OutOfMemory,
     InputTooLong(File),
+    /// A script, or what was asked for on the command line, is refused. Lines count from 1; the command line is line 0.
+    ScriptRefused { fault: ScriptFault, line: u64 },
 }
 
 impl Ending {
@@ -92,7 +97,10 @@ impl Ending {
     pub fn is_told(&self) -> bool
         ensures { IsTrue result ↔ (IsQuiet (status_of self.now) → ⊥) }
     {
-        !matches!(self, Ending::Done | Ending::Refuted(_) | Ending::Injured)
+        !matches!(
+            self,
+            Ending::Done | Ending::Refuted(_) | Ending::Injured | Ending::Met
+        )
     }
 
     /// The status of the call.
@@ -101,7 +109,7 @@ impl Ending {
     {
         match self {
             Ending::Done => Status::Done,
-            Ending::Refuted(_) | Ending::Injured => Status::No,
+            Ending::Refuted(_) | Ending::Injured | Ending::Met => Status::No,
             Ending::Usage => Status::Usage,
             Ending::BasinRefused(_) => Status::BasinRefused,
             Ending::SeriesRefused(_) => Status::SeriesRefused,
@@ -110,6 +118,7 @@ impl Ending {
             Ending::WriteFault => Status::WriteFault,
             Ending::OutOfMemory => Status::OutOfMemory,
             Ending::InputTooLong(_) => Status::InputTooLong,
+            Ending::ScriptRefused { .. } => Status::ScriptRefused,
         }
     }
 }
@@ -209,6 +218,34 @@ fn put_file(line: &mut Line, word: &[u8], file: File)
     line.word(b"\n");
 }
 
+/// The word for a fault of a script.
+#[tactic(auto, unfolding(crate::specs::Ending::script_fault_name))]
+fn script_fault_name(fault: ScriptFault) -> &'static str
+    ensures { result.now ≡ script_fault_name fault }
+{
+    match fault {
+        ScriptFault::AfterEnd => "AfterEnd",
+        ScriptFault::BadLine => "BadLine",
+        ScriptFault::OutsideRun => "OutsideRun",
+        ScriptFault::NoSuchName => "NoSuchName",
+        ScriptFault::NotSeries => "NotSeries",
+        ScriptFault::EarlyEnd => "EarlyEnd",
+    }
+}
+
+/// Makes the line of a refused script.
+#[tactic(auto, unfolding(crate::specs::Ending::script_line))]
+fn put_script_refusal(line: &mut Line, fault: ScriptFault, number: u64)
+    requires { line.old ≡ [] }
+    ensures { line.new ≡ script_line fault number }
+{
+    line.word(b"script: ");
+    line.word(script_fault_name(fault).as_bytes());
+    line.word(b" ");
+    line.amount(number);
+    line.word(b"\n");
+}
+
 /// Makes the line of an ending.
 #[tactic(auto, unfolding(crate::specs::Ending::line_of))]
 fn put_line(line: &mut Line, ending: &Ending)
@@ -217,7 +254,7 @@ fn put_line(line: &mut Line, ending: &Ending)
     ensures { line.new ≡ line_of ending.now }
 {
     match ending {
-        Ending::Done | Ending::Refuted(_) | Ending::Injured => {}
+        Ending::Done | Ending::Refuted(_) | Ending::Injured | Ending::Met => {}
         Ending::Usage => line.word(b"usage: basin_cli COMMAND WORDS\n"),
         Ending::BasinRefused(finding) => put_refusal(line, b"basin: ", finding),
         Ending::SeriesRefused(finding) => put_series_refusal(line, b"series: ", finding),
@@ -226,6 +263,10 @@ fn put_line(line: &mut Line, ending: &Ending)
         Ending::WriteFault => line.word(b"write: failed\n"),
         Ending::OutOfMemory => line.word(b"out of memory\n"),
         Ending::InputTooLong(file) => put_file(line, b"too long: ", *file),
+        Ending::ScriptRefused {
+            fault,
+            line: number,
+        } => put_script_refusal(line, *fault, *number),
     }
 }
 

@@ -8,6 +8,7 @@ mod compare;
 mod comparing;
 mod draft;
 mod ending;
+mod explaining;
 mod files;
 mod pairs;
 mod status;

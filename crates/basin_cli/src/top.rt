@@ -1,7 +1,8 @@
 //! All that the program does.
 ghost use Rattle.std.specs.Prelude.{◌≡◌, ◌+◌, ◌*◌, ◌≤◌, Some, map, option_map, string_bytes};
 ghost use Rattle.water_edge.specs.Edge.{Rose};
-ghost use Rattle.basin_cli.specs.Command.{IsSized, ServesFiles, ServesSeries, check, command_named, command_of, named, report, run};
+ghost use Rattle.water_text.specs.Months.{IsMonth};
+ghost use Rattle.basin_cli.specs.Command.{IsInForm, ServesFiles, ServesSeries, check, command_named, command_of, named, report, run, why};
 ghost use Rattle.basin_cli.specs.Ending.{status_of, CanBeTold};
 ghost use Rattle.basin_cli.specs.Outcome.{EndingHasCause, Ends, Completes, WritesFor, PushesFor, MayWrite, IsQuiet};
 
@@ -9,12 +10,14 @@ use crate::actions::{check_bytes, report_basin, run_basin, try_basin};
 use crate::command::{Inputs, Words, command};
 use crate::compare::do_compare;
 use crate::ending::{Ending, File, tell};
+use crate::explaining::explain_right;
 use crate::files::{read_file, read_inputs};
 use crate::status::Status;
 use std::alloc::Global;
 use std::sync::ledger::Ledger;
 use steps::Steps;
 use water_edge::{Shelf, Sink};
+use water_text::month::Month;
 
 /// `run`: solves the months of a basin with its series and puts their result.
 fn do_run<S: Shelf, K: Sink, L: Ledger>(
@@ -88,6 +91,40 @@ fn do_check<S: Shelf, K: Sink>(
     check_bytes(alloc, &files.basin, &files.series, &text, out)
 }
 
+/// `why`: solves the months of a basin with its series up to one month, and puts why the right of this name got no more in it.
+fn do_why<S: Shelf, K: Sink, L: Ledger>(
+    alloc: Global,
+    inputs: Inputs,
+    month: Month,
+    right: &str,
+    shelf: &mut S,
+    out: &mut K,
+    searches: &mut Steps<L>,
+) -> Ending
+    requires files { ServesFiles (S.serves shelf.old) (Some (why (named inputs) month right.now)) }
+    requires month { IsMonth month }
+    ensures cause { EndingHasCause (Some (why (named inputs.entry) month right.now)) result (S.told shelf.old)
+        (Rose (S.faults shelf.old) (S.faults shelf.new)) (Rose (K.faults out.old) (K.faults out.new)) }
+    ensures writes { WritesFor (Some (why (named inputs.entry) month right.now)) (status_of result) (S.told shelf.old) (K.taken out.old) (K.taken out.new) }
+    ensures out_stays { (MayWrite (status_of result) → ⊥) → out.new ≡ out.old }
+    ensures pushes { PushesFor (Some (why (named inputs.entry) month right.now)) (S.told shelf.old) searches.old searches.new }
+    ensures told { CanBeTold result }
+{
+    let files = match read_inputs(alloc, shelf, inputs) {
+        Ok(files) => files,
+        Err(ending) => return ending,
+    };
+    explain_right(
+        alloc,
+        &files.basin,
+        &files.series,
+        month,
+        right.as_bytes(),
+        out,
+        searches,
+    )
+}
+
 /// Does what the words say, and leaves err alone.
 fn decide<S: Shelf, K: Sink, L: Ledger>(
     alloc: Global,
@@ -113,6 +150,13 @@ fn decide<S: Shelf, K: Sink, L: Ledger>(
         Some(Words::Compare { inputs, second }) => {
             do_compare(alloc, inputs, second, shelf, out, searches)
         }
+        Some(
+            Words::Why {
+                inputs,
+                month,
+                right,
+            },
+        ) => do_why(alloc, inputs, month, right, shelf, out, searches),
     }
 }
 

@@ -18,10 +18,7 @@ pub struct NodeNames<'b> {
 }
 
 /// The place of the first node of each name.
-fn places_of<'b>(
-    alloc: Global,
-    nodes: &'b [Node],
-) -> Result<IndexMap<&'b [u8], u32>, AllocError>
+fn places_of<'b>(alloc: Global, nodes: &'b [Node]) -> Result<IndexMap<&'b [u8], u32>, AllocError>
     requires { length nodes.now ≤ 2000 }
     ensures { IfOk result (HasNodePlaces nodes.now) }
 {

@@ -18,10 +18,7 @@ pub struct RightNames<'b> {
 }
 
 /// The place of the first right of each name.
-fn places_of<'b>(
-    alloc: Global,
-    rights: &'b [Right],
-) -> Result<IndexMap<&'b [u8], u32>, AllocError>
+fn places_of<'b>(alloc: Global, rights: &'b [Right]) -> Result<IndexMap<&'b [u8], u32>, AllocError>
     requires { length rights.now ≤ 2000 }
     ensures { IfOk result (HasRightPlaces rights.now) }
 {

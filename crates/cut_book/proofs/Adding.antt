@@ -1,13 +1,13 @@
 -- What the lines of an account book add up to.
-use Rattle.std.proofs.Common.{◌≡◌, ℕ, zero, suc, ◌+◌, ◌-◌, ◌<◌, ◌≤◌, Bool, true, false, refl, sym, ap, ◌∙◌, arith, List, [], ◌∷◌, ◌++◌, length, inl, inr}
-use Rattle.std.specs.Prelude.{slice_index, Option, Some, None, max, pos, ◌-ℤ◌, if◌then◌else◌, ◌&&◌, ◌⊎◌, not, nat_lt, ◌==◌, find, filter, sum_by}
+use Rattle.std.proofs.Common.{◌≡◌, ℕ, zero, suc, ◌+◌, ◌<◌, ◌≤◌, Bool, true, false, refl, sym, ap, ◌∙◌, arith, List, [], ◌∷◌, ◌++◌, length, inl, inr}
+use Rattle.std.specs.Prelude.{slice_index, Option, Some, None, max, pos, ◌-ℤ◌, if◌then◌else◌, ◌&&◌, ◌⊎◌, not, nat_lt, ◌==◌, filter, sum_by}
 use Rattle.std.specs.List.{flat_map}
 use Rattle.std.proofs.lemmas.Bool.Decides.{nat_tests}
 use Rattle.std.proofs.lemmas.List.Sums.{sum_by-cons, sum_by-append}
 use Rattle.place_sums.specs.Sums.{total, total_where, greatest_where}
 use Rattle.place_sums.proofs.Totals.{total_first, total_same}
 use Rattle.water_model.specs.Basin.{is_on_link, is_senior}
-use Rattle.water_model.specs.Cuts.{enters, leaves, takes_within, kept_on, cut_capacity, cut_kept, cut_bound, IsTight}
+use Rattle.water_model.specs.Cuts.{enters, leaves, takes_within, kept_on, cut_capacity, cut_kept}
 use Rattle.water_model.specs.Lookups.{has}
 use Rattle.water_model.specs.Places.{numbers_from, places_of, put_right, sort_rights, by_seniority, seniors_first}
 use Rattle.water_model.specs.Plans.{carry_of}
@@ -16,7 +16,7 @@ use Rattle.water_model.specs.declared.types.MonthRecord.{MonthRecord}
 use Rattle.water_model.specs.declared.types.Right.{Right}
 use Rattle.water_model.proofs.Order.{seniors_have, find-none}
 use Rattle.cut_book.specs.Book.{counts, terms_at, keep_terms, lines_at, lines_in, places_in, terms}
-use Rattle.cut_book.specs.Entries.{brought, kept, amount_of, has_amount, balance_of}
+use Rattle.cut_book.specs.Entries.{brought, kept, amount_of, has_amount}
 use Rattle.cut_book.specs.Holders.{holder_of, holds_amount}
 use Rattle.cut_book.specs.Laws.{LinesMakeBound, TightBooksSumToDelivery}
 use Rattle.cut_book.specs.declared.entry.Entry.{Entry}

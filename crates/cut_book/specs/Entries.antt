@@ -1,5 +1,5 @@
 -- The lines of an account book: what they add, and how they are spelled.
-use Rattle.std.specs.Prelude.{◌≡◌, ℕ, ◌-◌, ◌<◌, Bool, List, [], ◌∷◌, ◌++◌, codes, length, nat_lt, sum_by}
+use Rattle.std.specs.Prelude.{ℕ, ◌-◌, ◌<◌, Bool, List, [], ◌∷◌, ◌++◌, codes, length, nat_lt, sum_by}
 use Rattle.std.specs.Fmt.{decimal}
 use Rattle.std.specs.List.{join_with_byte}
 use Rattle.water_text.specs.Months.{IsMonth, month_digits}

@@ -91,6 +91,7 @@ fn with(alloc: Global, text: &str, old: &str, new: &str) -> Result<String, Fail>
 }
 
 const PLAIN: [&str; 4] = ["compare", "BASIN", "BASIN2", "-"];
+
 const GAUGES: [&str; 4] = ["compare", "BASIN", "BASIN2", "SERIES"];
 
 /// A basin without one of its rights and with it, and with that right as the senior one.

@@ -1,6 +1,6 @@
 use Rattle.std.proofs.Common.{◌+◌, Some}
 use Rattle.rights_roll.specs.Rolls.{IsNextOn}
-use Rattle.cut_book.proofs.Holding.{IsHeldSoFar, held_start, held_more, held_within, held_all}
+use Rattle.cut_book.proofs.Holding.{IsHeldSoFar, held_start, held_more, held_all}
 use Rattle.cut_book.proofs.holder.holder_of.Goals as goal
 
 pub loop-next-init : goal.loop-next-init

@@ -1,0 +1,291 @@
+//! Why a right got no more in a month: the account book of its reach, or that it is met.
+ghost use Rattle.std.specs.Prelude.{ℕ, List, [], ◌∷◌, ◌≡◌, ◌+◌, ◌*◌, ◌<◌, ◌≤◌, ◌++◌, ◌↔◌, length, IsTrue, IsErr, IfNone, IfSome, OnOk};
+ghost use Rattle.water_text.specs.Months.{IsMonth};
+ghost use Rattle.water_model.specs.History.{IsShort};
+ghost use Rattle.water_model.specs.Valid.{IsValidBasin, IsSeriesOf};
+ghost use Rattle.basin_names.specs.Named.{right_named};
+ghost use Rattle.rights_roll.specs.Rolls.{IsRollOf};
+ghost use Rattle.month_fold.specs.Reaches.{HasReaches};
+ghost use Rattle.month_fold.specs.Runs.{HasMonths, StandsFor};
+ghost use Rattle.result_text.specs.Range.{FitsText};
+ghost use Rattle.senior_hold.specs.MonthNetwork.{month_pushes};
+ghost use Rattle.water_edge.specs.Edge.{HasCause, Puts, Rose};
+ghost use Rattle.basin_cli.specs.Actions.{AnswersAt, EndsAsking, IsAnswered};
+ghost use Rattle.basin_cli.specs.Ending.{status_of};
+ghost use Rattle.basin_cli.specs.Explained.{EndsExplaining, Explains, HasLast, HasMonth, HasRight, IsMonthAt, IsRightNamed, PushesUpTo, met_line};
+ghost use Rattle.basin_cli.specs.Outcome.{Leaves, MayWrite};
+ghost use Rattle.basin_cli.specs.declared.ending.Ending.TheVariants.{OutOfMemory};
+
+use crate::ending::Ending;
+use cut_book::put_book;
+use edit_script::{ScriptFault, index_in_run};
+use month_fold::run::Run;
+use result_text::spelling::name_of_right;
+use rights_roll::roll::Roll;
+use std::alloc::{AllocError, Global};
+use std::sync::ledger::Ledger;
+use steps::Steps;
+use water_edge::{Sink, SinkFailed};
+use water_model::types::{Basin, Inflows, MonthRecord};
+use water_text::line::Line;
+use water_text::month::Month;
+
+/// The index of a month in the run, or `None` where the run hasn't it.
+fn index_of(basin: &Basin, month: Month) -> Option<u32>
+    requires basin { IsValidBasin basin.now }
+    requires month { IsMonth month }
+    ensures some { IfSome result (IsMonthAt basin.now month) }
+    ensures none { IfNone result (HasMonth basin.now month → ⊥) }
+{
+    index_in_run(basin, month)
+}
+
+/// The place of the first right with this name.
+fn place_named(basin: &Basin, name: &[u8]) -> Option<usize>
+    ensures { result ≡ right_named basin.now name.now }
+{
+    basin
+        .rights
+        .as_slice()
+        .iter()
+        .position(|right| name == right.name.bytes())
+}
+
+/// The right with this name, or `None` where no right has it. The cost is linear in the rights.
+fn right_named(basin: &Basin, name: &[u8]) -> Option<u32>
+    requires { IsValidBasin basin.now }
+    ensures some { IfSome result (IsRightNamed basin.now name.now) }
+    ensures none { IfNone result (HasRight basin.now name.now → ⊥) }
+{
+    match place_named(basin, name) {
+        Some(at) => Some(at as u32),
+        None => None,
+    }
+}
+
+/// Solves so many months of a run that had none yet.
+fn solve_months<L: Ledger>(
+    run: &mut Run,
+    count: u32,
+    searches: &mut Steps<L>,
+) -> Result<(), AllocError>
+    requires first { StandsFor run.old [] }
+    requires within { count ≤ run.old.basin.months }
+    ensures basin { run.new.basin ≡ run.old.basin }
+    ensures series { run.new.series ≡ run.old.series }
+    ensures done { OnOk result (run.new.done ≡ count) }
+    ensures months { OnOk result (HasMonths run.new) }
+    ensures pushes { searches.new ≤ searches.old + count * month_pushes run.old.basin }
+{
+    for _month in 0..count {
+        run.step(searches)?;
+    }
+    Ok(())
+}
+
+/// Solves the months of a run up to the one of this index, whose record `month` then gives.
+fn solve_up_to<L: Ledger>(
+    run: &mut Run,
+    index: u32,
+    searches: &mut Steps<L>,
+) -> Result<(), AllocError>
+    requires first { StandsFor run.old [] }
+    requires within { index < run.old.basin.months }
+    ensures basin { run.new.basin ≡ run.old.basin }
+    ensures series { run.new.series ≡ run.old.series }
+    ensures done { OnOk result (run.new.done ≡ index + 1) }
+    ensures last { OnOk result (HasLast run.new) }
+    ensures pushes { searches.new ≤ searches.old + (index + 1) * month_pushes run.old.basin }
+{
+    solve_months(run, index, searches)?;
+    run.step(searches)
+}
+
+/// Makes the line of a right that is met.
+#[tactic(auto, unfolding(crate::specs::Explained::met_line))]
+fn put_met(line: &mut Line, month: Month, name: &[u8])
+    requires empty { line.old ≡ [] }
+    requires month { IsMonth month }
+    requires short { length name.now ≤ 32 }
+    ensures { line.new ≡ met_line month name.now }
+{
+    line.word(b"met ");
+    month.put_into(line);
+    line.word(b" ");
+    line.word(name);
+    line.word(b"\n");
+}
+
+/// Puts that a right is met, by one `put`. It takes no memory.
+fn tell_met<K: Sink>(sink: &mut K, month: Month, name: &[u8]) -> Result<(), SinkFailed>
+    requires month { IsMonth month }
+    requires short { length name.now ≤ 32 }
+    ensures text { Puts (K.taken sink.old) (K.taken sink.new) result (met_line month name.now) }
+    ensures cause { HasCause (K.faults sink.old) (K.faults sink.new) (IsErr result) }
+{
+    let mut line = Line::new();
+    put_met(&mut line, month, name);
+    sink.put(line.bytes())
+}
+
+/// Whether a right was delivered less than its want.
+fn is_short(month: &MonthRecord, right: u32) -> bool
+    requires delivered { right < length month.now.delivered }
+    requires want { right < length month.now.want }
+    ensures { IsTrue result ↔ IsShort month.now right }
+{
+    month.delivered[right as usize] < month.want[right as usize]
+}
+
+/// Puts why a right got no more in a month whose sets are the reaches: the book of its reach, or that it is met. It takes no
+/// memory.
+fn put_answer<K: Sink>(
+    sink: &mut K,
+    basin: &Basin,
+    roll: &Roll,
+    month: &MonthRecord,
+    right: u32,
+) -> Result<(), SinkFailed>
+    requires basin { IsValidBasin basin.now }
+    requires roll { IsRollOf basin.now.rights roll.now }
+    requires month { FitsText basin.now month.now }
+    requires reaches { HasReaches basin.now month.now }
+    requires right { right < length basin.now.rights }
+    ensures text { (text : List ℕ) × Explains basin.now month.now right text × Puts (K.taken sink.old) (K.taken sink.new) result text }
+    ensures cause { HasCause (K.faults sink.old) (K.faults sink.new) (IsErr result) }
+{
+    if is_short(month, right) {
+        put_book(sink, basin, roll, month, right)
+    } else {
+        tell_met(sink, month.month, name_of_right(basin, right).bytes())
+    }
+}
+
+/// How the answer about a right ends that is put.
+fn ending_for(month: &MonthRecord, right: u32) -> Ending
+    requires delivered { right < length month.now.delivered }
+    requires want { right < length month.now.want }
+    ensures { EndsExplaining month.now right result ⊥ }
+{
+    if is_short(month, right) {
+        Ending::Done
+    } else {
+        Ending::Met
+    }
+}
+
+/// Puts why a right got no more in a month, and tells how the call ends.
+fn answer<K: Sink>(
+    out: &mut K,
+    basin: &Basin,
+    roll: &Roll,
+    month: &MonthRecord,
+    right: u32,
+) -> Ending
+    requires basin { IsValidBasin basin.now }
+    requires roll { IsRollOf basin.now.rights roll.now }
+    requires month { FitsText basin.now month.now }
+    requires reaches { HasReaches basin.now month.now }
+    requires right { right < length basin.now.rights }
+    ensures ends { EndsExplaining month.now right result (Rose (K.faults out.old) (K.faults out.new)) }
+    ensures leaves { (text : List ℕ) × Explains basin.now month.now right text × Leaves (status_of result) text (K.taken out.old) (K.taken out.new) }
+{
+    match put_answer(out, basin, roll, month, right) {
+        Ok(()) => ending_for(month, right),
+        Err(_) => Ending::WriteFault,
+    }
+}
+
+/// Solves the months of a run up to the one of this index, and puts why a right got no more in it.
+fn explain_in<K: Sink, L: Ledger>(
+    run: &mut Run,
+    basin: &Basin,
+    roll: &Roll,
+    index: u32,
+    right: u32,
+    out: &mut K,
+    searches: &mut Steps<L>,
+) -> Ending
+    requires basin { IsValidBasin basin.now }
+    requires roll { IsRollOf basin.now.rights roll.now }
+    requires run { run.old.basin ≡ basin.now }
+    requires first { StandsFor run.old [] }
+    requires index { index < basin.now.months }
+    requires right { right < length basin.now.rights }
+    ensures answers { MayWrite (status_of result) →
+        AnswersAt basin.now run.old.series index right result (Rose (K.faults out.old) (K.faults out.new)) (K.taken out.old) (K.taken out.new) }
+    ensures memory { (MayWrite (status_of result) → ⊥) → result ≡ OutOfMemory }
+    ensures out_stays { (MayWrite (status_of result) → ⊥) → out.new ≡ out.old }
+    ensures pushes { searches.new ≤ searches.old + (index + 1) * month_pushes basin.now }
+{
+    match solve_up_to(run, index, searches) {
+        Ok(()) => answer(out, basin, roll, run.month(), right),
+        Err(_) => Ending::OutOfMemory,
+    }
+}
+
+/// Solves the months of a basin with its series up to the one of this index, and puts why a right got no more in it.
+fn explain_at<K: Sink, L: Ledger>(
+    alloc: Global,
+    basin: &Basin,
+    series: &Inflows,
+    index: u32,
+    right: u32,
+    out: &mut K,
+    searches: &mut Steps<L>,
+) -> Ending
+    requires basin { IsValidBasin basin.now }
+    requires series { IsSeriesOf basin.now series.now }
+    requires index { index < basin.now.months }
+    requires right { right < length basin.now.rights }
+    ensures answers { MayWrite (status_of result) →
+        AnswersAt basin.now series.now index right result (Rose (K.faults out.old) (K.faults out.new)) (K.taken out.old) (K.taken out.new) }
+    ensures memory { (MayWrite (status_of result) → ⊥) → result ≡ OutOfMemory }
+    ensures out_stays { (MayWrite (status_of result) → ⊥) → out.new ≡ out.old }
+    ensures pushes { searches.new ≤ searches.old + (index + 1) * month_pushes basin.now }
+{
+    let roll = match Roll::of_basin(alloc, basin) {
+        Ok(roll) => roll,
+        Err(_) => return Ending::OutOfMemory,
+    };
+    let mut run = match Run::open(alloc, basin, series) {
+        Ok(run) => run,
+        Err(_) => return Ending::OutOfMemory,
+    };
+    explain_in(&mut run, basin, &roll, index, right, out, searches)
+}
+
+/// Puts why the right of this name got no more in a month: the account book of its reach where it is short, and else that it
+/// is met. Months are solved up to this one and no further, and nothing is put before it is solved.
+pub fn explain_right<K: Sink, L: Ledger>(
+    alloc: Global,
+    basin: &Basin,
+    series: &Inflows,
+    month: Month,
+    name: &[u8],
+    out: &mut K,
+    searches: &mut Steps<L>,
+) -> Ending
+    requires basin { IsValidBasin basin.now }
+    requires series { IsSeriesOf basin.now series.now }
+    requires month { IsMonth month }
+    ensures ends { EndsAsking basin.now series.now month name.now result (Rose (K.faults out.old) (K.faults out.new)) }
+    ensures answers { MayWrite (status_of result) →
+        IsAnswered basin.now series.now month name.now result (K.taken out.old) (K.taken out.new) }
+    ensures out_stays { (MayWrite (status_of result) → ⊥) → out.new ≡ out.old }
+    ensures pushes { PushesUpTo basin.now month searches.old searches.new }
+{
+    let Some(index) = index_of(basin, month) else {
+        return Ending::ScriptRefused {
+            fault: ScriptFault::OutsideRun,
+            line: 0,
+        };
+    };
+    let Some(right) = right_named(basin, name) else {
+        return Ending::ScriptRefused {
+            fault: ScriptFault::NoSuchName,
+            line: 0,
+        };
+    };
+    explain_at(alloc, basin, series, index, right, out, searches)
+}
