@@ -2,6 +2,7 @@ ghost use Rattle.std.specs.Prelude.{◌≡◌, ◌<◌};
 
 mod canals;
 mod checks;
+mod comparing;
 mod explaining;
 mod gathering;
 mod lakes;

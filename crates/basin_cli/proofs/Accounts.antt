@@ -13,6 +13,7 @@ use Rattle.water_model.specs.declared.types.Inflows.{Inflows}
 use Rattle.water_model.specs.declared.types.MonthRecord.{MonthRecord}
 use Rattle.basin_cli.specs.declared.ending.Ending.{Ending}
 use Rattle.basin_cli.specs.declared.ending.Ending.TheVariants as ending
+use Rattle.basin_cli.specs.declared.ending.SecondFinding.TheVariants as of_second
 use Rattle.basin_cli.specs.Actions.{AnswersAt, EndsAsking, IsAnswered}
 use Rattle.basin_cli.specs.Command.{Files}
 use Rattle.basin_cli.specs.Ending.{status_of}
@@ -58,6 +59,9 @@ asked_ends b series month name index right ending.PartYear write old new at name
 asked_ends b series month name index right ending.Usage write old new at named answers memory = let clash = memory (λ h. h) in cc
 asked_ends b series month name index right (ending.BasinRefused finding) write old new at named answers memory = let clash = memory (λ h. h) in cc
 asked_ends b series month name index right (ending.SeriesRefused finding) write old new at named answers memory = let clash = memory (λ h. h) in cc
+asked_ends b series month name index right (ending.SecondRefused (of_second.Basin finding)) write old new at named answers memory = let clash = memory (λ h. h) in cc
+asked_ends b series month name index right (ending.SecondRefused of_second.OtherRun) write old new at named answers memory = let clash = memory (λ h. h) in cc
+asked_ends b series month name index right (ending.SecondRefused (of_second.Series finding)) write old new at named answers memory = let clash = memory (λ h. h) in cc
 asked_ends b series month name index right (ending.ReadFault file) write old new at named answers memory = let clash = memory (λ h. h) in cc
 asked_ends b series month name index right (ending.InputTooLong file) write old new at named answers memory = let clash = memory (λ h. h) in cc
 asked_ends b series month name index right (ending.ScriptRefused fault line) write old new at named answers memory = let clash = memory (λ h. h) in cc
@@ -160,6 +164,7 @@ asking_cause told files month name b series (ending.ScriptRefused script.AfterEn
 asking_cause told files month name b series (ending.ScriptRefused script.BadLine line) read write valid fits loaded ends = absurd ends
 asking_cause told files month name b series (ending.ScriptRefused script.NotSeries line) read write valid fits loaded ends = absurd ends
 asking_cause told files month name b series (ending.ScriptRefused script.EarlyEnd line) read write valid fits loaded ends = absurd ends
+asking_cause told files month name b series (ending.SecondRefused finding) read write valid fits loaded ends = absurd ends
 
 -- what is left on out
 pub asking_writes : (told : Told) (files : Files) (month : Month) (name : List ℕ) (b : Basin) (series : Inflows) (how : Ending) (old new : Option (List ℕ)) →

@@ -7,7 +7,8 @@ use Rattle.std.proofs.lemmas.Bool.{cases_order}
 use Rattle.std.proofs.lemmas.Bool.Decides.{nat_tests}
 use Rattle.std.proofs.lemmas.List.Quantifiers.{position-Some}
 use Rattle.std.proofs.lemmas.Option.{get_or_from_slice_get}
-use Rattle.edit_script.specs.Names.{index_in_run, right_named}
+use Rattle.basin_names.specs.Named.{right_named}
+use Rattle.edit_script.specs.Names.{index_in_run}
 use Rattle.edit_script.proofs.Months.{months_have_their_index, number_after}
 use Rattle.rights_roll.proofs.Places.{bytes_same, position_or_len-at_most, same_bytes}
 use Rattle.water_text.specs.Months.{IsMonth}

@@ -39,6 +39,7 @@ gathering_cause told files b series ending.OutOfMemory read write whole loaded e
 gathering_cause told files b series ending.PartYear read write whole loaded ends = absurd ends
 gathering_cause told files b series (ending.Refuted refuted) read write whole loaded ends = absurd ends
 gathering_cause told files b series ending.Injured read write whole loaded ends = absurd ends
+gathering_cause told files b series (ending.SecondRefused finding) read write whole loaded ends = absurd ends
 gathering_cause told files b series ending.Met read write whole loaded ends = absurd ends
 gathering_cause told files b series ending.Usage read write whole loaded ends = absurd ends
 gathering_cause told files b series (ending.BasinRefused finding) read write whole loaded ends = absurd ends

@@ -103,6 +103,7 @@ checking_cause told files result text b series ending.Injured read write valid f
 checking_cause told files result text b series ending.Usage read write valid fits loaded within is ends = absurd ends
 checking_cause told files result text b series (ending.BasinRefused finding) read write valid fits loaded within is ends = absurd ends
 checking_cause told files result text b series (ending.SeriesRefused finding) read write valid fits loaded within is ends = absurd ends
+checking_cause told files result text b series (ending.SecondRefused finding) read write valid fits loaded within is ends = absurd ends
 checking_cause told files result text b series (ending.ReadFault file) read write valid fits loaded within is ends = absurd ends
 checking_cause told files result text b series ending.WriteFault read write valid fits loaded within is ends =
     (ends, accepted (told files.basin) (series_told told files.series) b series loaded.from_basin loaded.from_series)

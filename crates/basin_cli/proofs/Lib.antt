@@ -7,6 +7,9 @@ pub mod Judged
 pub mod Outcomes
 pub mod Answering
 pub mod Compared
+pub mod Comparisons
+pub mod Stops
+pub mod Injured
 pub mod Asked
 pub mod Explained
 pub mod Accounts

@@ -14,11 +14,14 @@ use Rattle.basin_cli.specs.declared.ending.Ending.{Ending}
 use Rattle.basin_cli.specs.declared.ending.Ending.TheVariants as ending
 use Rattle.basin_cli.specs.declared.ending.File.TheVariants as file
 use Rattle.basin_cli.specs.declared.ending.SeriesFinding.{SeriesFinding}
-use Rattle.basin_cli.specs.Command.{Command, Files, run, check, report, trial, why, ensemble}
-use Rattle.basin_cli.specs.Ending.{line_of, status_of, finding_of}
+use Rattle.basin_cli.specs.declared.ending.SecondFinding.{SecondFinding}
+use Rattle.basin_cli.specs.declared.ending.SecondFinding.TheVariants as of_second
+use Rattle.basin_cli.specs.Command.{Command, Files, run, check, report, trial, why, compare, ensemble}
+use Rattle.basin_cli.specs.Ending.{line_of, status_of, status_of_second, finding_of}
 use Rattle.basin_cli.specs.Explained.{HasMonth, HasRight}
 use Rattle.basin_cli.specs.Outcome.{IsGoodBasin, IsGoodSeries, IsHistoryText, IsAccepted, IsRefuted, IsRefusedFor, IsSeriesRefusedFor, IsTooLong, IsDone, IsJudged, Told, StopsReading, HasSolvingCause, HasCheckingCause, HasTrialCause, HasEnsembleCause, HasExplainingCause, IsOfYears, IsPartYear, IsAsked, IsOutsideRun, IsUnknownRight, IsShortIn, EndingHasCause, Completes, CompletesBehind, IsQuiet, Tells, file_limit, series_told}
 use Rattle.basin_cli.proofs.OneSeries.{one_basin}
+use Rattle.basin_cli.proofs.Comparisons.{comparing}
 
 -- what is to be shown of what is told of two files
 abbrev Shown : Option (List ℕ) → Option (List ℕ) → (List ℕ → List ℕ → Type 0) → Type 0
@@ -80,10 +83,12 @@ stopped files (ending.SeriesRefused finding) told read P by_read by_memory h =
 stopped files (ending.ReadFault file.Basin) told read P by_read by_memory h = always (told files.basin) _ P (by_read h)
 stopped files (ending.ReadFault file.Series) told read P by_read by_memory h = always (told files.basin) _ P (by_read h.0)
 stopped files (ending.ReadFault file.Result) told read P by_read by_memory h = absurd h
+stopped files (ending.ReadFault file.SecondBasin) told read P by_read by_memory h = absurd h
 stopped files (ending.InputTooLong file.Basin) told read P by_read by_memory h = not_good (told files.basin) _ P (too_long (told files.basin) h)
 stopped files (ending.InputTooLong file.Series) told read P by_read by_memory h =
     not_good_series (told files.basin) (series_told told files.series) P (series_too_long (told files.basin) _ h)
 stopped files (ending.InputTooLong file.Result) told read P by_read by_memory h = absurd h
+stopped files (ending.InputTooLong file.SecondBasin) told read P by_read by_memory h = absurd h
 stopped files ending.OutOfMemory told read P by_read by_memory h = always (told files.basin) _ P (by_memory refl)
 stopped files ending.Done told read P by_read by_memory h = absurd h
 stopped files (ending.Refuted refuted) told read P by_read by_memory h = absurd h
@@ -92,6 +97,7 @@ stopped files ending.PartYear told read P by_read by_memory h = absurd h
 stopped files ending.Met told read P by_read by_memory h = absurd h
 stopped files (ending.ScriptRefused fault line) told read P by_read by_memory h = absurd h
 stopped files ending.Usage told read P by_read by_memory h = absurd h
+stopped files (ending.SecondRefused finding) told read P by_read by_memory h = absurd h
 stopped files ending.WriteFault told read P by_read by_memory h = absurd h
 
 -- a command that solves the months of a basin
@@ -120,6 +126,7 @@ solving files ending.PartYear told read write h = absurd h
 solving files ending.Met told read write h = absurd h
 solving files (ending.ScriptRefused fault line) told read write h = absurd h
 solving files ending.Usage told read write h = absurd h
+solving files (ending.SecondRefused finding) told read write h = absurd h
 
 -- a check
 abbrev Checked : Status → Option (List ℕ) → Type 0 → Type 0 → List ℕ → List ℕ → Type 0
@@ -183,6 +190,9 @@ checking files result ending.OutOfMemory told read write h =
     always (told files.basin) _ (Checked its.OutOfMemory (told result) read write)
     (λ bytes s. of_result (told result) its.OutOfMemory read write bytes s (λ _ _ _. inl refl))
 checking files result ending.Usage told read write h = absurd h
+checking files result (ending.SecondRefused finding) told read write h = absurd h
+checking files result (ending.ReadFault file.SecondBasin) told read write h = absurd h
+checking files result (ending.InputTooLong file.SecondBasin) told read write h = absurd h
 checking files result ending.Injured told read write h = absurd h
 checking files result ending.PartYear told read write h = absurd h
 checking files result ending.Met told read write h = absurd h
@@ -241,6 +251,7 @@ explaining files month name (ending.ReadFault file) told read write h = explaine
 explaining files month name (ending.InputTooLong file) told read write h = explained_by_stop files month name (ending.InputTooLong file) told read write h
 explaining files month name ending.OutOfMemory told read write h = explained_by_stop files month name ending.OutOfMemory told read write h
 explaining files month name ending.Usage told read write h = absurd h
+explaining files month name (ending.SecondRefused finding) told read write h = absurd h
 explaining files month name ending.Injured told read write h = absurd h
 explaining files month name ending.PartYear told read write h = absurd h
 explaining files month name (ending.Refuted refuted) told read write h = absurd h
@@ -279,7 +290,10 @@ gathering files (ending.ReadFault file.Basin) told read write h = gathered_by_st
 gathering files (ending.InputTooLong file.Basin) told read write h = gathered_by_stop files (ending.InputTooLong file.Basin) told read write h
 gathering files ending.OutOfMemory told read write h = gathered_by_stop files ending.OutOfMemory told read write h
 gathering files (ending.ReadFault file.Result) told read write h = absurd h
+gathering files (ending.ReadFault file.SecondBasin) told read write h = absurd h
 gathering files (ending.InputTooLong file.Result) told read write h = absurd h
+gathering files (ending.InputTooLong file.SecondBasin) told read write h = absurd h
+gathering files (ending.SecondRefused finding) told read write h = absurd h
 gathering files (ending.Refuted refuted) told read write h = absurd h
 gathering files ending.Injured told read write h = absurd h
 gathering files ending.Met told read write h = absurd h
@@ -291,6 +305,7 @@ trying ending.Done write h no_write = inl refl
 trying ending.WriteFault write h no_write = absurd (no_write h)
 trying ending.OutOfMemory write h no_write = inr refl
 trying ending.Usage write h no_write = absurd h
+trying (ending.SecondRefused finding) write h no_write = absurd h
 trying (ending.Refuted refuted) write h no_write = absurd h
 trying ending.Injured write h no_write = absurd h
 trying ending.PartYear write h no_write = absurd h
@@ -308,6 +323,7 @@ completes (Some (run files)) how told read write h = solving files how told read
 completes (Some (check files result)) how told read write h = checking files result how told read write h
 completes (Some (report files)) how told read write h = solving files how told read write h
 completes (Some (trial number size)) how told read write h = trying how write h
+completes (Some (compare files second)) how told read write h = comparing files second told read write how h
 completes (Some (why files month name)) how told read write h = explaining files month name how told read write h
 completes (Some (ensemble files)) how told read write h = gathering files how told read write h
 
@@ -318,6 +334,12 @@ tells_nothing old before = record { count = 0; within = omega arith; appended = 
     nothing : (old : Option (List ℕ)) → Appends old old []
     nothing None = tt
     nothing (Some bytes) = sym (append-nil bytes)
+
+-- a refusal of the second basin is told
+pub second_told : (finding : SecondFinding) → IsQuiet (status_of_second finding) → ⊥
+second_told (of_second.Basin finding) q = q
+second_told of_second.OtherRun q = q
+second_told (of_second.Series finding) q = q
 
 -- a quiet ending has no line
 pub quiet : (how : Ending) (old : Option (List ℕ)) (before : ℕ) → ((IsQuiet (status_of how) → ⊥) → ⊥) → Tells old old before before (line_of how)
@@ -330,6 +352,7 @@ quiet ending.Usage old before h = absurd (h (λ q. q))
 quiet (ending.BasinRefused finding) old before h = absurd (h (λ q. q))
 quiet ending.PartYear old before h = absurd (h (λ q. q))
 quiet (ending.SeriesRefused finding) old before h = absurd (h (λ q. q))
+quiet (ending.SecondRefused finding) old before h = absurd (h (second_told finding))
 quiet (ending.ReadFault file) old before h = absurd (h (λ q. q))
 quiet ending.WriteFault old before h = absurd (h (λ q. q))
 quiet ending.OutOfMemory old before h = absurd (h (λ q. q))

@@ -4,7 +4,7 @@ use Rattle.std.specs.Prelude.{IfErr, Result, Ok, Err}
 use Rattle.water_model.specs.declared.types.Basin.{Basin}
 use Rattle.water_model.specs.declared.types.Inflows.{Inflows}
 use Rattle.basin_cli.specs.declared.ending.Ending.{Ending}
-use Rattle.basin_cli.specs.declared.ending.Ending.TheVariants.{Done, Refuted, Injured, Usage, BasinRefused, SeriesRefused, ReadFault, WriteFault, OutOfMemory, InputTooLong, Met, PartYear, ScriptRefused}
+use Rattle.basin_cli.specs.declared.ending.Ending.TheVariants.{Done, Refuted, Injured, Usage, BasinRefused, SeriesRefused, SecondRefused, ReadFault, WriteFault, OutOfMemory, InputTooLong, Met, PartYear, ScriptRefused}
 use Rattle.basin_cli.specs.Header.{header}
 use Rattle.basin_cli.specs.Outcome.{file_limit}
 use Rattle.basin_cli.specs.Series.{SeriesEnds, SeriesReadEnds}
@@ -20,6 +20,7 @@ refused_read b bytes read PartYear within h = absurd h
 refused_read b bytes read Usage within h = absurd h
 refused_read b bytes read (BasinRefused finding) within h = absurd h
 refused_read b bytes read (SeriesRefused finding) within h = (within, h)
+refused_read b bytes read (SecondRefused finding) within h = absurd h
 refused_read b bytes read (ReadFault file) within h = absurd h
 refused_read b bytes read WriteFault within h = absurd h
 refused_read b bytes read OutOfMemory within h = tt

@@ -15,13 +15,14 @@ pub record Files : Type 0 where
   pub series : Option (List ℕ)
 
 -- a command with the names of its files, or with its numbers: `run` and `report` have the files of a basin and its series,
--- `check` the file of a result besides, `trial` the number and the size of a generated basin, `why` a month and the name of a
--- right beside the files, and `ensemble` the files
+-- `check` the file of a result besides, `compare` the file of a second basin, `trial` the number and the size of a generated
+-- basin, `why` a month and the name of a right beside the files, and `ensemble` the files
 pub data Command : Type 0 where
   run : Files → Command
   check : Files → List ℕ → Command
   report : Files → Command
   trial : ℕ → ℕ → Command
+  compare : Files → List ℕ → Command
   why : Files → Month → List ℕ → Command
   ensemble : Files → Command
 
@@ -50,8 +51,9 @@ command_of (word ∷ one ∷ other ∷ []) =
     else (if bytes_eq word (codes "report") then Some (report (record { basin = one; series = series_named other }))
     else (if bytes_eq word (codes "ensemble") then Some (ensemble (record { basin = one; series = series_named other }))
     else (if bytes_eq word (codes "trial") then trial_of (read_amount one 4294967295) (read_amount other 2000) else None)))
-command_of (word ∷ basin ∷ series ∷ result ∷ []) =
-    if bytes_eq word (codes "check") then Some (check (record { basin = basin; series = series_named series }) result) else None
+command_of (word ∷ basin ∷ one ∷ other ∷ []) =
+    if bytes_eq word (codes "check") then Some (check (record { basin = basin; series = series_named one }) other)
+    else (if bytes_eq word (codes "compare") then Some (compare (record { basin = basin; series = series_named other }) one) else None)
 command_of (word ∷ basin ∷ series ∷ month ∷ right ∷ []) =
     if bytes_eq word (codes "why") then why_of (record { basin = basin; series = series_named series }) (read_month month) right else None
 command_of _ = None
@@ -65,6 +67,7 @@ command_named (words.Run inputs) = run (named inputs)
 command_named (words.Check inputs result) = check (named inputs) result.now
 command_named (words.Report inputs) = report (named inputs)
 command_named (words.Trial number size) = trial number size
+command_named (words.Compare inputs second) = compare (named inputs) second.now
 command_named (words.Why inputs month right) = why (named inputs) month right.now
 command_named (words.Ensemble inputs) = ensemble (named inputs)
 
@@ -85,5 +88,6 @@ ServesFiles serves (Some (run files)) = serves files.basin × ServesSeries serve
 ServesFiles serves (Some (check files result)) = serves files.basin × ServesSeries serves files.series × serves result
 ServesFiles serves (Some (report files)) = serves files.basin × ServesSeries serves files.series
 ServesFiles serves (Some (trial number size)) = ⊤
+ServesFiles serves (Some (compare files second)) = serves files.basin × ServesSeries serves files.series × serves second
 ServesFiles serves (Some (why files month right)) = serves files.basin × ServesSeries serves files.series
 ServesFiles serves (Some (ensemble files)) = serves files.basin × ServesSeries serves files.series

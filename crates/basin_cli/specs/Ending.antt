@@ -16,10 +16,17 @@ use Rattle.basin_cli.specs.declared.ending.File.{File}
 use Rattle.basin_cli.specs.declared.ending.File.TheVariants as file
 use Rattle.basin_cli.specs.declared.ending.SeriesFinding.{SeriesFinding}
 use Rattle.basin_cli.specs.declared.ending.SeriesFinding.TheVariants as finding
+use Rattle.basin_cli.specs.declared.ending.SecondFinding.{SecondFinding}
+use Rattle.basin_cli.specs.declared.ending.SecondFinding.TheVariants as of_second
 use Rattle.basin_cli.specs.declared.ending.Ending.{Ending}
 use Rattle.basin_cli.specs.declared.ending.Ending.TheVariants as ending
 use Rattle.basin_cli.specs.declared.status.Status.{Status}
 use Rattle.basin_cli.specs.declared.status.Status.TheVariants as status
+
+abbrev pub status_of_second : SecondFinding → Status
+status_of_second (of_second.Basin finding) = status.BasinRefused
+status_of_second of_second.OtherRun = status.BasinRefused
+status_of_second (of_second.Series finding) = status.SeriesRefused
 
 abbrev pub status_of : Ending → Status
 status_of ending.Done = status.Done
@@ -30,11 +37,18 @@ status_of ending.Usage = status.Usage
 status_of (ending.BasinRefused finding) = status.BasinRefused
 status_of ending.PartYear = status.BasinRefused
 status_of (ending.SeriesRefused finding) = status.SeriesRefused
+status_of (ending.SecondRefused finding) = status_of_second finding
 status_of (ending.ReadFault file) = status.ReadFault
 status_of ending.WriteFault = status.WriteFault
 status_of ending.OutOfMemory = status.OutOfMemory
 status_of (ending.InputTooLong file) = status.InputTooLong
 status_of (ending.ScriptRefused fault line) = status.ScriptRefused
+
+-- the ending of a call that refused the second basin or its series, from how it refuses a basin or a series
+abbrev pub second_of : Ending → Ending
+second_of (ending.BasinRefused finding) = ending.SecondRefused (of_second.Basin finding)
+second_of (ending.SeriesRefused finding) = ending.SecondRefused (of_second.Series finding)
+second_of how = how
 
 -- what a refusal of a basin's series is told as: a missing amount by the node's name
 abbrev pub finding_of : Basin → SeriesRefused → Option SeriesFinding
@@ -46,16 +60,22 @@ unfoldable pub file_name : File → List ℕ
 file_name file.Basin = codes "BASIN"
 file_name file.Series = codes "SERIES"
 file_name file.Result = codes "RESULT"
+file_name file.SecondBasin = codes "BASIN2"
 
--- FAULT TABLE ENTRY
-unfoldable pub refusal_line : Finding → List ℕ
-refusal_line finding =
-    codes "basin: " ++ fault_name finding.fault ++ codes " " ++ table_name finding.table ++ codes " " ++ decimal finding.entry ++ codes "\n"
+-- whose basin it is, and FAULT TABLE ENTRY
+unfoldable pub refusal_line : List ℕ → Finding → List ℕ
+refusal_line whose finding =
+    whose ++ fault_name finding.fault ++ codes " " ++ table_name finding.table ++ codes " " ++ decimal finding.entry ++ codes "\n"
 
--- FAULT RECORD, or Missing MONTH NODE
-unfoldable pub series_line : SeriesFinding → List ℕ
-series_line (finding.Record fault number) = codes "series: " ++ series_fault.fault_name fault ++ codes " " ++ decimal number ++ codes "\n"
-series_line (finding.Missing month node) = codes "series: Missing " ++ month_digits month ++ codes " " ++ node ++ codes "\n"
+-- whose series it is, and FAULT RECORD, or Missing MONTH NODE
+unfoldable pub series_line : List ℕ → SeriesFinding → List ℕ
+series_line whose (finding.Record fault number) = whose ++ series_fault.fault_name fault ++ codes " " ++ decimal number ++ codes "\n"
+series_line whose (finding.Missing month node) = whose ++ codes "Missing " ++ month_digits month ++ codes " " ++ node ++ codes "\n"
+
+unfoldable pub second_line : SecondFinding → List ℕ
+second_line (of_second.Basin finding) = refusal_line (codes "basin2: ") finding
+second_line of_second.OtherRun = codes "basin2: OtherRun top 0\n"
+second_line (of_second.Series finding) = series_line (codes "series2: ") finding
 
 unfoldable pub script_fault_name : ScriptFault → List ℕ
 script_fault_name script.AfterEnd = codes "AfterEnd"
@@ -75,9 +95,10 @@ line_of (ending.Refuted refuted) = []
 line_of ending.Injured = []
 line_of ending.Met = []
 line_of ending.Usage = codes "usage: basin_cli COMMAND WORDS\n"
-line_of (ending.BasinRefused finding) = refusal_line finding
+line_of (ending.BasinRefused finding) = refusal_line (codes "basin: ") finding
 line_of ending.PartYear = codes "basin: PartYear top 0\n"
-line_of (ending.SeriesRefused finding) = series_line finding
+line_of (ending.SeriesRefused finding) = series_line (codes "series: ") finding
+line_of (ending.SecondRefused finding) = second_line finding
 line_of (ending.ReadFault file) = codes "read: " ++ file_name file ++ codes "\n"
 line_of ending.WriteFault = codes "write: failed\n"
 line_of ending.OutOfMemory = codes "out of memory\n"
@@ -89,6 +110,11 @@ abbrev pub CanBeSpelled : SeriesFinding → Type 0
 CanBeSpelled (finding.Record fault number) = ⊤
 CanBeSpelled (finding.Missing month node) = IsMonth month × (length node ≤ 32)
 
+abbrev pub CanBeSpelledOfSecond : SecondFinding → Type 0
+CanBeSpelledOfSecond (of_second.Series finding) = CanBeSpelled finding
+CanBeSpelledOfSecond finding = ⊤
+
 abbrev pub CanBeTold : Ending → Type 0
 CanBeTold (ending.SeriesRefused finding) = CanBeSpelled finding
+CanBeTold (ending.SecondRefused finding) = CanBeSpelledOfSecond finding
 CanBeTold ending = ⊤

@@ -2,10 +2,14 @@ pub mod Command
 pub mod Ending
 pub mod Header
 pub mod Headline
+pub mod Bytes
+pub mod Out
+pub mod Comparison
 pub mod Outcome
 pub mod Code
 pub mod Drafts
 pub mod Series
+pub mod Pairs
 pub mod Actions
 pub mod Answer
 pub mod Compared

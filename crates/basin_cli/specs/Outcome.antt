@@ -2,10 +2,8 @@
 use Rattle.std.specs.Prelude.{◌≡◌, ℕ, ◌+◌, ◌*◌, ◌<◌, ◌≤◌, ◌++◌, List, length, take, codes, Option, Some, None, Result, Ok, Err, ⊤, IfSome, ◌⊎◌}
 use Rattle.std.specs.Fmt.{decimal}
 use Rattle.std.specs.Io.KnownBytes.{Appends}
-use Rattle.std.specs.Option.{option_and_then}
 use Rattle.water_edge.specs.Edge.{Rose}
-use Rattle.basin_tree.specs.declared.walk.Finding.{Finding}
-use Rattle.basin_file.specs.BasinFaults.{Spells, file_fault}
+use Rattle.basin_file.specs.BasinFaults.{Spells}
 use Rattle.basin_gen.specs.Generator.{generated}
 use Rattle.cert_check.specs.KindNames.{kind_name}
 use Rattle.cert_check.specs.Whole.{text_verdict}
@@ -13,7 +11,6 @@ use Rattle.cert_check.specs.declared.refuted.Refuted.{Refuted}
 use Rattle.edit_script.specs.declared.refused.ScriptFault.TheVariants as script
 use Rattle.index_seq.specs.Text.{ensemble_text}
 use Rattle.index_seq.specs.Traces.{AreTraces, HasWholeYears, years_of}
-use Rattle.inflow_file.specs.SeriesFaults.{series_fault, SpellsSeries}
 use Rattle.reports.specs.Ends.{IsRun}
 use Rattle.reports.specs.Reports.{report_text, trial_text}
 use Rattle.water_model.specs.History.{IsHistory, IsShort}
@@ -25,54 +22,18 @@ use Rattle.water_model.specs.declared.types.Inflows.{Inflows}
 use Rattle.water_model.specs.declared.types.MonthRecord.{MonthRecord}
 use Rattle.water_text.specs.declared.month.Month.{Month}
 use Rattle.basin_cli.specs.declared.status.Status.{Status}
-use Rattle.basin_cli.specs.declared.status.Status.TheVariants.{Done, No, WriteFault, OutOfMemory}
+use Rattle.basin_cli.specs.declared.status.Status.TheVariants.{Done, No, OutOfMemory}
 use Rattle.basin_cli.specs.declared.ending.Ending.{Ending}
 use Rattle.basin_cli.specs.declared.ending.Ending.TheVariants as ending
 use Rattle.basin_cli.specs.declared.ending.File.TheVariants as file
-use Rattle.basin_cli.specs.declared.ending.SeriesFinding.{SeriesFinding}
-use Rattle.basin_cli.specs.Command.{Command, Files, run, check, report, trial, why, ensemble}
-use Rattle.basin_cli.specs.Ending.{status_of, line_of, finding_of}
+use Rattle.basin_cli.specs.Command.{Command, Files, run, check, report, trial, why, compare, ensemble}
+use Rattle.basin_cli.specs.Ending.{status_of, line_of}
 use Rattle.basin_cli.specs.Explained.{Explains, HasMonth, HasRight, IsAbout, PushesUpTo}
-use Rattle.basin_cli.specs.Headline.{KeepsPriority, HasGreatestPlans}
-use Rattle.basin_cli.specs.Header.{header}
+use Rattle.basin_cli.specs.Headline.{HasGreatestPlans}
+pub use Rattle.basin_cli.specs.Bytes.{AreSpelled, IsGoodBasin, IsGoodSeries, IsRefusedFor, IsRunOf, IsSeriesRefusedFor, IsTooLong, Told, file_limit, series_told}
+pub use Rattle.basin_cli.specs.Out.{Leaves, MayWrite}
+use Rattle.basin_cli.specs.Comparison.{HasComparingCause, ComparesBehind, ComparisonWrites, ComparisonPushes}
 use Rattle.month_fold.specs.Runs.{run_pushes}
-
--- the most bytes of a file
-abbrev pub file_limit : ℕ
-file_limit = 67108864
-
-pub record IsTooLong (bytes : List ℕ) : Type 0 where
-  pub beyond : file_limit < length bytes
-
--- the bytes of a basin file are within the limit and nothing in them is at fault
-pub record IsGoodBasin (bytes : List ℕ) : Type 0 where
-  pub within : length bytes ≤ file_limit
-  pub sound : file_fault bytes ≡ None
-
--- the bytes are within the limit and this is the first fault in them
-pub record IsRefusedFor (finding : Finding) (bytes : List ℕ) : Type 0 where
-  pub within : length bytes ≤ file_limit
-  pub first : file_fault bytes ≡ Some finding
-
--- the bytes of a series file are within the limit and nothing in them is at fault, for the basin that other bytes spell
-pub record IsGoodSeries (basin_bytes bytes : List ℕ) : Type 0 where
-  pub basin : Basin
-  pub spelled : Spells basin_bytes basin
-  pub within : length bytes ≤ file_limit
-  pub sound : series_fault basin bytes ≡ None
-
--- the bytes are within the limit and this is the first fault in them
-pub record IsSeriesRefusedFor (finding : SeriesFinding) (basin_bytes bytes : List ℕ) : Type 0 where
-  pub basin : Basin
-  pub spelled : Spells basin_bytes basin
-  pub within : length bytes ≤ file_limit
-  pub first : option_and_then (finding_of basin) (series_fault basin bytes) ≡ Some finding
-
--- the basin and the series that bytes spell
-pub record AreSpelled (bytes series_bytes : List ℕ) (basin : Basin) (series : Inflows) : Type 0 where
-  pub basin_spelled : Spells bytes basin
-  pub series_spelled : SpellsSeries basin series_bytes series
-  pub fits : IsSeriesOf basin series
 
 -- A result's bytes are the text of a history of the basin and series that other bytes spell, whoever wrote it. So the
 -- deliveries of each of its months, in order of seniority, are lexicographically greatest among all plans of the month.
@@ -142,15 +103,6 @@ pub record IsPartYear (bytes : List ℕ) : Type 0 where
   pub basin : Basin
   pub spelled : Spells bytes basin
   pub part : HasWholeYears basin → ⊥
-
--- what a shelf tells under a name
-abbrev pub Told : Type 0
-Told = List ℕ → Option (List ℕ)
-
--- the bytes of a series. Without a file they are the header of the table alone
-abbrev pub series_told : Told → Option (List ℕ) → Option (List ℕ)
-series_told told None = Some header
-series_told told (Some name) = told name
 
 -- the basin file is good, and this holds of its bytes and those of the series, as far as they are told
 abbrev pub BehindBasin : Told → Files → (List ℕ → List ℕ → Type 0) → Type 0
@@ -234,6 +186,7 @@ HasCauseFor (run files) e told read write = HasSolvingCause files e told read wr
 HasCauseFor (check files result) e told read write = HasCheckingCause files result e told read write
 HasCauseFor (report files) e told read write = HasSolvingCause files e told read write
 HasCauseFor (trial number size) e told read write = HasTrialCause e write
+HasCauseFor (compare files second) e told read write = HasComparingCause files second e told read write
 HasCauseFor (why files month name) e told read write = HasExplainingCause files month name e told read write
 HasCauseFor (ensemble files) e told read write = HasEnsembleCause files e told read write
 
@@ -277,29 +230,12 @@ Completes (Some (trial number size)) status told read write = (write → ⊥) �
 Completes (Some (check files result)) status told read write =
     CompletesBehind told files (λ bytes series. IfSome (told result) (λ text. length text ≤ file_limit →
     (read → ⊥) → (write → ⊥) → IsJudged status (IsHistoryText bytes series text)))
+Completes (Some (compare files second)) status told read write = ComparesBehind told files second status read write
 Completes (Some (why files month name)) status told read write =
     CompletesBehind told files (λ bytes series. IsAsked month name bytes →
     (read → ⊥) → (write → ⊥) → IsJudged status (IsShortIn month name bytes series))
 Completes (Some (ensemble files)) status told read write =
     CompletesBehind told files (λ bytes _. IsOfYears bytes → (read → ⊥) → (write → ⊥) → IsDone status)
-
--- only these statuses may leave bytes on out
-abbrev pub MayWrite : Status → Type 0
-MayWrite Done = ⊤
-MayWrite No = ⊤
-MayWrite WriteFault = ⊤
-MayWrite status = ⊥
-
--- the text is appended to out, or after a fault of out a front of it
-abbrev pub Leaves : Status → List ℕ → Option (List ℕ) → Option (List ℕ) → Type 0
-Leaves WriteFault text old new = (count : ℕ) × Appends old new (take count text)
-Leaves status text old new = Appends old new text
-
--- the basin and series that bytes spell, and records of a run of them
-pub record IsRunOf (bytes series_bytes : List ℕ) (basin : Basin) (records : List MonthRecord) : Type 0 where
-  pub series : Inflows
-  pub spelled : AreSpelled bytes series_bytes basin series
-  pub keeps : KeepsPriority basin series records
 
 -- what `run` leaves on out: the text of a run of what the bytes spell
 pub record WritesRun (status : Status) (bytes series_bytes : List ℕ) (old new : Option (List ℕ)) : Type 0 where
@@ -371,6 +307,7 @@ WritesFor (Some (check files result)) status told old new =
     OfBoth told files (λ bytes series. IfSome (told result) (λ text. MayWrite status → WritesAnswer status bytes series text old new))
 WritesFor (Some (report files)) status told old new = OfBoth told files (λ bytes series. MayWrite status → WritesReport status bytes series old new)
 WritesFor (Some (trial number size)) status told old new = MayWrite status → WritesTrial status number size old new
+WritesFor (Some (compare files second)) status told old new = ComparisonWrites told files second status old new
 WritesFor (Some (why files month name)) status told old new =
     OfBoth told files (λ bytes series. MayWrite status → WritesAccount status month name bytes series old new)
 WritesFor (Some (ensemble files)) status told old new = OfBoth told files (λ bytes series. MayWrite status → WritesEnsemble status bytes series old new)
@@ -386,6 +323,7 @@ PushesFor (Some (run files)) told before now = PushesOf told files before now
 PushesFor (Some (check files result)) told before now = now ≡ before
 PushesFor (Some (report files)) told before now = PushesOf told files before now
 PushesFor (Some (trial number size)) told before now = now ≤ before + run_pushes (generated number size)
+PushesFor (Some (compare files second)) told before now = ComparisonPushes told files second before now
 PushesFor (Some (why files month name)) told before now =
     IfSome (told files.basin) (λ bytes. (basin : Basin) → Spells bytes basin → PushesUpTo basin month before now)
 PushesFor (Some (ensemble files)) told before now =

@@ -34,6 +34,11 @@ pub enum Words<'a> {
         number: u32,
         size: u32,
     },
+    /// Solve the months of two basins and list who is delivered less in the second.
+    Compare {
+        inputs: Inputs<'a>,
+        second: &'a str,
+    },
     /// Tell why the right of this name got no more in a month.
     Why {
         inputs: Inputs<'a>,
@@ -123,11 +128,16 @@ pub fn command(words: &[String]) -> Option<Words<'_>>
                 None
             }
         }
-        [word, basin, series, result] => {
+        [word, basin, one, other] => {
             if word.as_str() == "check" {
                 Some(Words::Check {
-                    inputs: files_named(basin.as_str(), series.as_str()),
-                    result: result.as_str(),
+                    inputs: files_named(basin.as_str(), one.as_str()),
+                    result: other.as_str(),
+                })
+            } else if word.as_str() == "compare" {
+                Some(Words::Compare {
+                    inputs: files_named(basin.as_str(), other.as_str()),
+                    second: one.as_str(),
                 })
             } else {
                 None

@@ -3,7 +3,7 @@ ghost use Rattle.std.specs.Prelude.{◌≡◌, ◌↔◌, ◌≤◌, ◌++◌, I
 ghost use Rattle.std.specs.Fmt.{decimal};
 ghost use Rattle.water_text.specs.Months.{IsMonth, month_digits};
 ghost use Rattle.inflow_file.specs.FaultNames.{fault_name};
-ghost use Rattle.basin_cli.specs.Ending.{status_of, line_of, refusal_line, series_line, file_name, script_fault_name, script_line, CanBeTold, CanBeSpelled};
+ghost use Rattle.basin_cli.specs.Ending.{status_of, status_of_second, line_of, refusal_line, second_line, second_of, series_line, file_name, script_fault_name, script_line, CanBeTold, CanBeSpelled, CanBeSpelledOfSecond};
 ghost use Rattle.basin_cli.specs.Outcome.{IsQuiet, Tells};
 
 use crate::status::Status;
@@ -22,6 +22,7 @@ pub enum File {
     Basin,
     Series,
     Result,
+    SecondBasin,
 }
 
 impl File {
@@ -34,6 +35,7 @@ impl File {
             File::Basin => "BASIN",
             File::Series => "SERIES",
             File::Result => "RESULT",
+            File::SecondBasin => "BASIN2",
         }
     }
 }
@@ -43,6 +45,29 @@ impl File {
 pub enum SeriesFinding {
     Record { fault: SeriesFault, number: u64 },
     Missing { month: Month, node: Name },
+}
+
+/// Why the second basin of a comparison is refused.
+#[derive(Drop)]
+pub enum SecondFinding {
+    /// A fault of its file.
+    Basin(Finding),
+    /// Its run has another first month or number of months than that of the first.
+    OtherRun,
+    /// The series, which is good for the first basin, is refused for it.
+    Series(SeriesFinding),
+}
+
+impl SecondFinding {
+    /// The status of a call that it ends.
+    fn status(&self) -> Status
+        ensures { result ≡ status_of_second self.now }
+    {
+        match self {
+            SecondFinding::Basin(_) | SecondFinding::OtherRun => Status::BasinRefused,
+            SecondFinding::Series(_) => Status::SeriesRefused,
+        }
+    }
 }
 
 /// How a call ended, with what its line on err tells.
@@ -60,6 +85,7 @@ pub enum Ending {
     /// An ensemble is asked for, and the run isn't one of whole years.
     PartYear,
     SeriesRefused(SeriesFinding),
+    SecondRefused(SecondFinding),
     ReadFault(File),
     WriteFault,
     OutOfMemory,
@@ -89,6 +115,7 @@ impl Ending {
             Ending::Usage => Status::Usage,
             Ending::BasinRefused(_) | Ending::PartYear => Status::BasinRefused,
             Ending::SeriesRefused(_) => Status::SeriesRefused,
+            Ending::SecondRefused(finding) => finding.status(),
             Ending::ReadFault(_) => Status::ReadFault,
             Ending::WriteFault => Status::WriteFault,
             Ending::OutOfMemory => Status::OutOfMemory,
@@ -98,13 +125,25 @@ impl Ending {
     }
 }
 
-/// Makes the line of a refused basin.
-#[tactic(auto, unfolding(crate::specs::Ending::refusal_line))]
-fn put_refusal(line: &mut Line, finding: &Finding)
-    requires { line.old ≡ [] }
-    ensures { line.new ≡ refusal_line finding.now }
+/// The ending of a call that refused the second basin or its series, from how it refuses a basin or a series.
+pub fn of_second(ending: Ending) -> Ending
+    ensures { result ≡ second_of ending }
 {
-    line.word(b"basin: ");
+    match ending {
+        Ending::BasinRefused(finding) => Ending::SecondRefused(SecondFinding::Basin(finding)),
+        Ending::SeriesRefused(finding) => Ending::SecondRefused(SecondFinding::Series(finding)),
+        other => other,
+    }
+}
+
+/// Makes the line of a refused basin. The first word says whose.
+#[tactic(auto, unfolding(crate::specs::Ending::refusal_line))]
+fn put_refusal(line: &mut Line, whose: &[u8], finding: &Finding)
+    requires empty { line.old ≡ [] }
+    requires short { length whose.now ≤ 16 }
+    ensures { line.new ≡ refusal_line whose.now finding.now }
+{
+    line.word(whose);
     line.word(finding.fault.name().as_bytes());
     line.word(b" ");
     line.word(finding.table.name().as_bytes());
@@ -114,11 +153,12 @@ fn put_refusal(line: &mut Line, finding: &Finding)
 }
 
 /// Makes the line of a record at fault.
-fn put_record(line: &mut Line, fault: SeriesFault, number: u64)
-    requires { line.old ≡ [] }
-    ensures { line.new ≡ codes "series: " ++ fault_name fault ++ codes " " ++ decimal number ++ codes "\n" }
+fn put_record(line: &mut Line, whose: &[u8], fault: SeriesFault, number: u64)
+    requires empty { line.old ≡ [] }
+    requires short { length whose.now ≤ 16 }
+    ensures { line.new ≡ whose.now ++ fault_name fault ++ codes " " ++ decimal number ++ codes "\n" }
 {
-    line.word(b"series: ");
+    line.word(whose);
     line.word(fault.name().as_bytes());
     line.word(b" ");
     line.amount(number);
@@ -126,29 +166,46 @@ fn put_record(line: &mut Line, fault: SeriesFault, number: u64)
 }
 
 /// Makes the line of a missing amount.
-fn put_missing(line: &mut Line, month: Month, node: &Name)
+fn put_missing(line: &mut Line, whose: &[u8], month: Month, node: &Name)
     requires empty { line.old ≡ [] }
+    requires short { length whose.now ≤ 16 }
     requires month { IsMonth month }
-    requires short { length node.now ≤ 32 }
-    ensures { line.new ≡ codes "series: Missing " ++ month_digits month ++ codes " " ++ node.now ++ codes "\n" }
+    requires name { length node.now ≤ 32 }
+    ensures { line.new ≡ whose.now ++ codes "Missing " ++ month_digits month ++ codes " " ++ node.now ++ codes "\n" }
 {
-    line.word(b"series: Missing ");
+    line.word(whose);
+    line.word(b"Missing ");
     month.put_into(line);
     line.word(b" ");
     line.word(node.bytes());
     line.word(b"\n");
 }
 
-/// Makes the line of a refused series.
+/// Makes the line of a refused series. The first word says whose.
 #[tactic(auto, unfolding(crate::specs::Ending::series_line))]
-fn put_series_refusal(line: &mut Line, finding: &SeriesFinding)
+fn put_series_refusal(line: &mut Line, whose: &[u8], finding: &SeriesFinding)
     requires empty { line.old ≡ [] }
+    requires short { length whose.now ≤ 16 }
     requires told { CanBeSpelled finding.now }
-    ensures { line.new ≡ series_line finding.now }
+    ensures { line.new ≡ series_line whose.now finding.now }
 {
     match finding {
-        SeriesFinding::Record { fault, number } => put_record(line, *fault, *number),
-        SeriesFinding::Missing { month, node } => put_missing(line, *month, node),
+        SeriesFinding::Record { fault, number } => put_record(line, whose, *fault, *number),
+        SeriesFinding::Missing { month, node } => put_missing(line, whose, *month, node),
+    }
+}
+
+/// Makes the line of a refused second basin or its series.
+#[tactic(auto, unfolding(crate::specs::Ending::second_line))]
+fn put_second_refusal(line: &mut Line, finding: &SecondFinding)
+    requires empty { line.old ≡ [] }
+    requires told { CanBeSpelledOfSecond finding.now }
+    ensures { line.new ≡ second_line finding.now }
+{
+    match finding {
+        SecondFinding::Basin(finding) => put_refusal(line, b"basin2: ", finding),
+        SecondFinding::OtherRun => line.word(b"basin2: OtherRun top 0\n"),
+        SecondFinding::Series(finding) => put_series_refusal(line, b"series2: ", finding),
     }
 }
 
@@ -201,9 +258,10 @@ fn put_line(line: &mut Line, ending: &Ending)
     match ending {
         Ending::Done | Ending::Refuted(_) | Ending::Injured | Ending::Met => {}
         Ending::Usage => line.word(b"usage: basin_cli COMMAND WORDS\n"),
-        Ending::BasinRefused(finding) => put_refusal(line, finding),
+        Ending::BasinRefused(finding) => put_refusal(line, b"basin: ", finding),
         Ending::PartYear => line.word(b"basin: PartYear top 0\n"),
-        Ending::SeriesRefused(finding) => put_series_refusal(line, finding),
+        Ending::SeriesRefused(finding) => put_series_refusal(line, b"series: ", finding),
+        Ending::SecondRefused(finding) => put_second_refusal(line, finding),
         Ending::ReadFault(file) => put_file(line, b"read: ", *file),
         Ending::WriteFault => line.word(b"write: failed\n"),
         Ending::OutOfMemory => line.word(b"out of memory\n"),

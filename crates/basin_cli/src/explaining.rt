@@ -3,7 +3,7 @@ ghost use Rattle.std.specs.Prelude.{ℕ, List, [], ◌∷◌, ◌≡◌, ◌+◌
 ghost use Rattle.water_text.specs.Months.{IsMonth};
 ghost use Rattle.water_model.specs.History.{IsShort};
 ghost use Rattle.water_model.specs.Valid.{IsValidBasin, IsSeriesOf};
-ghost use Rattle.edit_script.specs.Names.{right_named};
+ghost use Rattle.basin_names.specs.Named.{right_named};
 ghost use Rattle.rights_roll.specs.Rolls.{IsRollOf};
 ghost use Rattle.month_fold.specs.Reaches.{HasReaches};
 ghost use Rattle.month_fold.specs.Runs.{HasMonths, StandsFor};

@@ -46,7 +46,7 @@ pub fn read_file<S: Shelf>(
 }
 
 /// The basin that the bytes spell, or how the call ends.
-fn accept_basin(alloc: Global, text: &[u8]) -> Result<Basin, Ending>
+pub fn accept_basin(alloc: Global, text: &[u8]) -> Result<Basin, Ending>
     ensures spelled { IfOk result (λ basin. Spells text.now basin) }
     ensures valid { IfOk result IsValidBasin }
     ensures sound { OnOk result (file_fault text.now ≡ None) }
@@ -70,7 +70,7 @@ fn accept_basin(alloc: Global, text: &[u8]) -> Result<Basin, Ending>
 }
 
 /// The basin of the file with this name, or how the call ends.
-fn read_basin_file<S: Shelf>(alloc: Global, shelf: &mut S, name: &str) -> Result<Basin, Ending>
+pub fn read_basin_file<S: Shelf>(alloc: Global, shelf: &mut S, name: &str) -> Result<Basin, Ending>
     requires { S.serves shelf.old name.now }
     ensures same { SameShelf (S.told shelf.old) (S.told shelf.new) (S.serves shelf.old) (S.serves shelf.new) }
     ensures later { S.faults shelf.old ≤ S.faults shelf.new }
@@ -83,7 +83,7 @@ fn read_basin_file<S: Shelf>(alloc: Global, shelf: &mut S, name: &str) -> Result
 }
 
 /// The series that the bytes spell for a basin, or how the call ends.
-fn accept_series(alloc: Global, basin: &Basin, text: &[u8]) -> Result<Inflows, Ending>
+pub fn accept_series(alloc: Global, basin: &Basin, text: &[u8]) -> Result<Inflows, Ending>
     requires basin { IsValidBasin basin.now }
     ensures spelled { IfOk result (λ series. SpellsSeries basin.now text.now series) }
     ensures fits { IfOk result (λ series. IsSeriesOf basin.now series) }

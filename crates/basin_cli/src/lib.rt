@@ -4,11 +4,13 @@
 
 mod actions;
 mod command;
+mod compare;
 mod comparing;
 mod draft;
 mod ending;
 mod explaining;
 mod files;
+mod pairs;
 mod status;
 mod top;
 mod writing;

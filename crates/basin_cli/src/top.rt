@@ -8,6 +8,7 @@ ghost use Rattle.basin_cli.specs.Outcome.{EndingHasCause, Ends, Completes, Write
 
 use crate::actions::{check_bytes, gather_basin, report_basin, run_basin, try_basin};
 use crate::command::{Inputs, Words, command};
+use crate::compare::do_compare;
 use crate::ending::{Ending, File, tell};
 use crate::explaining::explain_right;
 use crate::files::{read_file, read_inputs, read_record};
@@ -170,6 +171,9 @@ fn decide<S: Shelf, K: Sink, L: Ledger>(
         Some(Words::Ensemble(inputs)) => do_ensemble(alloc, inputs, shelf, out, searches),
         Some(Words::Check { inputs, result }) => do_check(alloc, inputs, result, shelf, out),
         Some(Words::Trial { number, size }) => try_basin(alloc, number, size, out, searches),
+        Some(Words::Compare { inputs, second }) => {
+            do_compare(alloc, inputs, second, shelf, out, searches)
+        }
         Some(
             Words::Why {
                 inputs,
@@ -196,12 +200,13 @@ pub fn basin_main<S: Shelf, K: Sink, E: Sink, L: Ledger>(
     ensures ends { Ends (command_of (map string_bytes words.now)) result (S.told shelf.old)
         (Rose (S.faults shelf.old) (S.faults shelf.new)) (Rose (K.faults out.old) (K.faults out.new))
         (E.taken err.old) (E.taken err.new) (E.faults err.old) (E.faults err.new) }
-    // Where nothing is refused and nothing fails, the call is done; and a result that is checked is judged as what it is.
+    // Where nothing is refused and nothing fails, the call is done; a result that is checked is judged as what it is, and a
+    // comparison answers no exactly where somebody is injured.
     ensures complete { Completes (command_of (map string_bytes words.now)) result (S.told shelf.old)
         (Rose (S.faults shelf.old) (S.faults shelf.new)) (Rose (K.faults out.old) (K.faults out.new)) }
 
-    // The text of records that keep the priority of rights, a report on them, or the answer to a result; or after a fault of
-    // out a front of it.
+    // The text of records that keep the priority of rights, a report on them, the answer to a result, or the comparison of two
+    // such lists of records; or after a fault of out a front of it.
     ensures writes { WritesFor (command_of (map string_bytes words.now)) result (S.told shelf.old) (K.taken out.old) (K.taken out.new) }
     ensures out_stays { (MayWrite result → ⊥) → out.new ≡ out.old }
     ensures err_stays { IsQuiet result → err.new ≡ err.old }

@@ -94,7 +94,7 @@ unfolding basin_fault
 basin_valid tree none e =
     let b = basin_of tree in
     let net = or_none (option_and_then net_finding (net_fault b.nodes b.links))
-        (option_or (option_and_then (roll_finding b.rights) (roll_fault b.rights b.returns)) (areas_fault 0 b.reservoirs)) e in
+    (option_or (option_and_then (roll_finding b.rights) (roll_fault b.rights b.returns)) (areas_fault 0 b.reservoirs)) e in
     let rights = or_none (option_and_then (roll_finding b.rights) (roll_fault b.rights b.returns)) (areas_fault 0 b.reservoirs) net.1 in
     valid_by b (sound_basin tree (no_fault tree none)) (faultless_sound b.nodes b.links (net_none b.nodes b.links net.0))
     (sound-from_faultless b.rights b.returns (roll_none b.rights b.returns rights.0))

@@ -1,14 +1,17 @@
 -- The columns of a series.
-use Rattle.std.proofs.Common.{◌≡◌, ℕ, ◌<◌, ◌≤◌, Bool, true, false, refl, sym, ap, ◌∙◌, arith, List, [], ◌∷◌, length, inl, inr, filter}
+use Rattle.std.proofs.Common.{◌≡◌, ℕ, ◌+◌, ◌<◌, ◌≤◌, Bool, true, false, refl, sym, ap, subst, get_or, ◌∙◌, arith, List, [], ◌∷◌, length, inl, inr, filter}
 use Rattle.std.specs.Prelude.{◌==◌, if◌then◌else◌}
 use Rattle.std.proofs.lemmas.Bool.Decides.{nat_tests}
+use Rattle.std.specs.List.Sorted.{IsStrictlyIncreasing}
+use Rattle.std.proofs.lemmas.List.Kept.{IsStrictlyIncreasing-filter}
+use Rattle.std.proofs.lemmas.Option.{get_or_from_slice_get}
 use Rattle.std.proofs.lemmas.List.Sums.{length-filter, count_by-le-length}
 use Rattle.water_model.specs.Hydrology.{place_in}
 use Rattle.water_model.specs.Places.{numbers_from, places_of}
 use Rattle.water_model.specs.Valid.{IsValidBasin, IsSeriesOf, is_gauged}
 use Rattle.water_model.specs.declared.types.Basin.{Basin}
 use Rattle.water_model.specs.declared.types.Inflows.{Inflows}
-use Rattle.water_model.proofs.Order.{Has, numbers_from-has, length-numbers_from}
+use Rattle.water_model.proofs.Order.{Has, numbers_from-get, numbers_from-has, length-numbers_from}
 use Rattle.edit_script.specs.Names.{is_in_series}
 
 filter-has : (p : ℕ → Bool) (xs : List ℕ) (x : ℕ) → Has xs x → p x ≡ true → Has (filter p xs) x
@@ -53,3 +56,15 @@ few_gauges b series valid fits = omega (arith, few_columns (λ n. is_gauged b n)
 
 pub few_wants : (b : Basin) (series : Inflows) → IsValidBasin b → IsSeriesOf b series → length series.wanted ≤ 2000
 few_wants b series valid fits = omega (arith, few_columns (λ k. is_in_series b k) (length b.rights) series.wanted fits.wanted, valid.few.rights)
+
+-- the rights whose wants stand in the series rise, so that a search by halves finds one
+rises : (from n : ℕ) → IsStrictlyIncreasing (numbers_from from n)
+rises from n = λ k l. (let within : k + 1 < n = omega (arith, length-numbers_from from n) in
+    let here = read k (omega arith) in let next = read (k + 1) within in omega arith)
+  where
+    read : (k : ℕ) → k < n → get_or (numbers_from from n) k 0 ≡ from + k
+    read k l = get_or_from_slice_get (numbers_from from n) k (from + k) 0 (numbers_from-get from n k (from + k) l refl)
+
+pub wants_rise : (b : Basin) (series : Inflows) → IsSeriesOf b series → IsStrictlyIncreasing series.wanted
+wants_rise b series fits =
+    subst IsStrictlyIncreasing (sym fits.wanted) (IsStrictlyIncreasing-filter (λ r. is_in_series b r) (places_of b.rights) (rises 0 (length b.rights)))

@@ -1,6 +1,5 @@
--- What names and months of a script name in a basin.
-use Rattle.std.specs.Prelude.{ℕ, ◌+◌, ◌-◌, ◌*◌, nat_lt, Bool, false, List, Option, Some, None, position, if◌then◌else◌}
-use Rattle.std.specs.Str.{bytes_eq}
+-- What months of a script name in a basin, and what a right's wants are.
+use Rattle.std.specs.Prelude.{ℕ, ◌+◌, ◌-◌, ◌*◌, nat_lt, Bool, false, Option, Some, None, if◌then◌else◌}
 use Rattle.water_text.specs.declared.month.Month.{Month}
 use Rattle.water_model.specs.Lookups.{of_entry}
 use Rattle.water_model.specs.declared.types.Basin.{Basin}
@@ -14,13 +13,6 @@ abbrev pub index_in_run : Basin → Month → Option ℕ
 index_in_run b m =
     if nat_lt (month_number m) (month_number b.first) then None
     else (if nat_lt (month_number m - month_number b.first) b.months then Some (month_number m - month_number b.first) else None)
-
--- the node and the right of a name: the first, and in a valid basin the only one
-abbrev pub node_named : Basin → List ℕ → Option ℕ
-node_named b name = position (λ n. bytes_eq name n.name) b.nodes
-
-abbrev pub right_named : Basin → List ℕ → Option ℕ
-right_named b name = position (λ r. bytes_eq name r.name) b.rights
 
 -- whether the wants of a right stand in the series
 abbrev pub is_in_series : Basin → ℕ → Bool

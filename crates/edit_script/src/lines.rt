@@ -7,7 +7,7 @@ ghost use Rattle.edit_script.specs.Lines.{edit_in, edit_of, fields_of, inflow_of
 
 use crate::edit::Edit;
 use crate::fields::cut;
-use crate::names::{index_in_run, is_gauged, is_in_series, node_named, place_of, right_named};
+use crate::names::{Names, index_in_run, is_gauged, is_in_series, place_of};
 use crate::refused::ScriptFault;
 use water_model::types::{Basin, Inflows};
 use water_text::amount::read_plain;
@@ -33,16 +33,16 @@ fn read_show(basin: &Basin, month: &[u8]) -> Result<Edit, ScriptFault>
 /// What a line `inflow` asks for.
 #[tactic(auto, unfolding(crate::specs::Lines::inflow_of))]
 fn read_inflow(
-    basin: &Basin,
+    names: &Names,
     series: &Inflows,
     month: &[u8],
     name: &[u8],
     amount: &[u8],
 ) -> Result<Edit, ScriptFault>
-    requires basin { IsValidBasin basin.now }
-    requires series { IsSeriesOf basin.now series.now }
-    ensures reads { result ≡ inflow_of basin.now series.now month.now name.now amount.now }
-    ensures placed { IfOk result (IsPlaced basin.now series.now) }
+    requires basin { IsValidBasin names.now.basin.now }
+    requires series { IsSeriesOf names.now.basin.now series.now }
+    ensures reads { result ≡ inflow_of names.now.basin.now series.now month.now name.now amount.now }
+    ensures placed { IfOk result (IsPlaced names.now.basin.now series.now) }
 {
     let Some(month) = Month::read(month) else {
         return Err(ScriptFault::BadLine);
@@ -53,13 +53,13 @@ fn read_inflow(
     let Some(amount) = read_plain(amount, 1_000_000_000) else {
         return Err(ScriptFault::BadLine);
     };
-    let Some(index) = index_in_run(basin, month) else {
+    let Some(index) = index_in_run(names.basin, month) else {
         return Err(ScriptFault::OutsideRun);
     };
-    let Some(node) = node_named(basin, name) else {
+    let Some(node) = names.node_named(name) else {
         return Err(ScriptFault::NoSuchName);
     };
-    if !is_gauged(basin, node) {
+    if !is_gauged(names.basin, node) {
         return Err(ScriptFault::NotSeries);
     }
     let gauge = place_of(series.gauged.as_slice(), node);
@@ -73,16 +73,16 @@ fn read_inflow(
 /// What a line `want` asks for.
 #[tactic(auto, unfolding(crate::specs::Lines::want_of))]
 fn read_want(
-    basin: &Basin,
+    names: &Names,
     series: &Inflows,
     month: &[u8],
     name: &[u8],
     amount: &[u8],
 ) -> Result<Edit, ScriptFault>
-    requires basin { IsValidBasin basin.now }
-    requires series { IsSeriesOf basin.now series.now }
-    ensures reads { result ≡ want_of basin.now series.now month.now name.now amount.now }
-    ensures placed { IfOk result (IsPlaced basin.now series.now) }
+    requires basin { IsValidBasin names.now.basin.now }
+    requires series { IsSeriesOf names.now.basin.now series.now }
+    ensures reads { result ≡ want_of names.now.basin.now series.now month.now name.now amount.now }
+    ensures placed { IfOk result (IsPlaced names.now.basin.now series.now) }
 {
     let Some(month) = Month::read(month) else {
         return Err(ScriptFault::BadLine);
@@ -93,13 +93,13 @@ fn read_want(
     let Some(amount) = read_plain(amount, 1_000_000_000) else {
         return Err(ScriptFault::BadLine);
     };
-    let Some(index) = index_in_run(basin, month) else {
+    let Some(index) = index_in_run(names.basin, month) else {
         return Err(ScriptFault::OutsideRun);
     };
-    let Some(right) = right_named(basin, name) else {
+    let Some(right) = names.right_named(name) else {
         return Err(ScriptFault::NoSuchName);
     };
-    if !is_in_series(basin, right) {
+    if !is_in_series(names.basin, right) {
         return Err(ScriptFault::NotSeries);
     }
     let place = place_of(series.wanted.as_slice(), right);
@@ -112,16 +112,16 @@ fn read_want(
 
 /// What a line with a third field asks for: its word, its month and what is behind them.
 fn read_change(
-    basin: &Basin,
+    names: &Names,
     series: &Inflows,
     word: &[u8],
     month: &[u8],
     behind: &[u8],
 ) -> Result<Edit, ScriptFault>
-    requires basin { IsValidBasin basin.now }
-    requires series { IsSeriesOf basin.now series.now }
-    ensures reads { result ≡ edit_in basin.now series.now (word.now ∷ month.now ∷ fields_of behind.now) }
-    ensures placed { IfOk result (IsPlaced basin.now series.now) }
+    requires basin { IsValidBasin names.now.basin.now }
+    requires series { IsSeriesOf names.now.basin.now series.now }
+    ensures reads { result ≡ edit_in names.now.basin.now series.now (word.now ∷ month.now ∷ fields_of behind.now) }
+    ensures placed { IfOk result (IsPlaced names.now.basin.now series.now) }
 {
     let (name, behind) = cut(behind);
     let Some(behind) = behind else {
@@ -132,21 +132,21 @@ fn read_change(
         return Err(ScriptFault::BadLine);
     }
     if word == b"inflow".as_slice() {
-        return read_inflow(basin, series, month, name, amount);
+        return read_inflow(names, series, month, name, amount);
     }
     if word == b"want".as_slice() {
-        return read_want(basin, series, month, name, amount);
+        return read_want(names, series, month, name, amount);
     }
     Err(ScriptFault::BadLine)
 }
 
 /// What a line between the first and the last asks for, or its first fault.
 #[tactic(auto, unfolding(crate::specs::Lines::edit_of))]
-pub fn read_edit(basin: &Basin, series: &Inflows, line: &[u8]) -> Result<Edit, ScriptFault>
-    requires basin { IsValidBasin basin.now }
-    requires series { IsSeriesOf basin.now series.now }
-    ensures reads { result ≡ edit_of basin.now series.now line.now }
-    ensures placed { IfOk result (IsPlaced basin.now series.now) }
+pub fn read_edit(names: &Names, series: &Inflows, line: &[u8]) -> Result<Edit, ScriptFault>
+    requires basin { IsValidBasin names.now.basin.now }
+    requires series { IsSeriesOf names.now.basin.now series.now }
+    ensures reads { result ≡ edit_of names.now.basin.now series.now line.now }
+    ensures placed { IfOk result (IsPlaced names.now.basin.now series.now) }
 {
     let (word, behind) = cut(line);
     let Some(behind) = behind else {
@@ -154,10 +154,10 @@ pub fn read_edit(basin: &Basin, series: &Inflows, line: &[u8]) -> Result<Edit, S
     };
     let (month, behind) = cut(behind);
     if let Some(behind) = behind {
-        return read_change(basin, series, word, month, behind);
+        return read_change(names, series, word, month, behind);
     }
     if word == b"show".as_slice() {
-        return read_show(basin, month);
+        return read_show(names.basin, month);
     }
     Err(ScriptFault::BadLine)
 }

@@ -1,10 +1,14 @@
 //! What names and months of a script name in a basin.
-ghost use Rattle.std.specs.Prelude.{◌≡◌, ◌<◌, length, IfSome, true};
+ghost use Rattle.std.specs.Prelude.{◌≡◌, ◌<◌, length, IfOk, IfSome, true};
+ghost use Rattle.std.specs.List.Sorted.{IsStrictlyIncreasing};
 ghost use Rattle.water_text.specs.Months.{IsMonth};
 ghost use Rattle.water_model.specs.Hydrology.{place_in};
 ghost use Rattle.water_model.specs.Valid.{IsValidBasin, is_gauged};
-ghost use Rattle.edit_script.specs.Names.{index_in_run, node_named, right_named, is_in_series};
+ghost use Rattle.basin_names.specs.Named.{node_named, right_named};
+ghost use Rattle.edit_script.specs.Names.{index_in_run, is_in_series};
 
+use basin_names::{NodeNames, RightNames};
+use std::alloc::{AllocError, Global};
 use water_model::types::{Basin, Inflow};
 use water_text::month::Month;
 
@@ -27,50 +31,6 @@ pub fn index_in_run(basin: &Basin, month: Month) -> Option<u32>
     }
 }
 
-fn place_named_node(basin: &Basin, name: &[u8]) -> Option<usize>
-    ensures { result ≡ node_named basin.now name.now }
-{
-    basin
-        .nodes
-        .as_slice()
-        .iter()
-        .position(|node| name == node.name.bytes())
-}
-
-fn place_named_right(basin: &Basin, name: &[u8]) -> Option<usize>
-    ensures { result ≡ right_named basin.now name.now }
-{
-    basin
-        .rights
-        .as_slice()
-        .iter()
-        .position(|right| name == right.name.bytes())
-}
-
-/// The node that has the name, or `None` where none has it. The cost is linear in the nodes.
-pub fn node_named(basin: &Basin, name: &[u8]) -> Option<u32>
-    requires { IsValidBasin basin.now }
-    ensures value { result ≡ node_named basin.now name.now }
-    ensures within { IfSome result (λ node. node < length basin.now.nodes) }
-{
-    match place_named_node(basin, name) {
-        Some(at) => Some(at as u32),
-        None => None,
-    }
-}
-
-/// The right that has the name, or `None` where none has it. The cost is linear in the rights.
-pub fn right_named(basin: &Basin, name: &[u8]) -> Option<u32>
-    requires { IsValidBasin basin.now }
-    ensures value { result ≡ right_named basin.now name.now }
-    ensures within { IfSome result (λ right. right < length basin.now.rights) }
-{
-    match place_named_right(basin, name) {
-        Some(at) => Some(at as u32),
-        None => None,
-    }
-}
-
 /// Whether a node is gauged.
 pub fn is_gauged(basin: &Basin, node: u32) -> bool
     requires { node < length basin.now.nodes }
@@ -90,15 +50,56 @@ pub fn is_in_series(basin: &Basin, right: u32) -> bool
     basin.rights[right as usize].series
 }
 
-/// The place of a number in a list, or the list's length where it isn't there.
+/// The place of a number in a list of numbers in rising order, or the list's length where it isn't there.
 pub fn place_of(list: &[u32], number: u32) -> u32
-    requires { length list.now < 4000 }
+    requires few { length list.now < 4000 }
+    requires rising { IsStrictlyIncreasing list.now }
     ensures { result ≡ place_in list.now number }
 {
-    for (place, other) in list.iter().enumerate() {
-        if *other == number {
-            return place as u32;
-        }
+    match list.binary_search(&number) {
+        Ok(place) => place as u32,
+        Err(_) => list.len() as u32,
     }
-    list.len() as u32
+}
+
+/// The nodes and the rights of a basin by their names.
+#[derive(Drop)]
+pub struct Names<'b> {
+    pub basin: &'b Basin,
+    nodes: NodeNames<'b>,
+    rights: RightNames<'b>,
+    ghost of_nodes: { nodes.basin.now ≡ basin.now },
+    ghost of_rights: { rights.basin.now ≡ basin.now },
+}
+
+impl<'b> Names<'b> {
+    /// The names of this basin. AllocError comes where memory is lacking.
+    pub fn of(alloc: Global, basin: &'b Basin) -> Result<Names<'b>, AllocError>
+        requires { IsValidBasin basin.now }
+        ensures { IfOk result (λ names. names.basin.now ≡ basin.now) }
+    {
+        let nodes = NodeNames::of(alloc, basin)?;
+        let rights = RightNames::of(alloc, basin)?;
+        Ok(Names {
+            basin,
+            nodes,
+            rights,
+        })
+    }
+
+    /// The node that has the name, or `None` where none has it.
+    pub fn node_named(&self, name: &[u8]) -> Option<u32>
+        ensures value { result ≡ node_named self.now.basin.now name.now }
+        ensures within { IfSome result (λ node. node < length self.now.basin.now.nodes) }
+    {
+        self.nodes.named(name)
+    }
+
+    /// The right that has the name, or `None` where none has it.
+    pub fn right_named(&self, name: &[u8]) -> Option<u32>
+        ensures value { result ≡ right_named self.now.basin.now name.now }
+        ensures within { IfSome result (λ right. right < length self.now.basin.now.rights) }
+    {
+        self.rights.named(name)
+    }
 }

@@ -8,23 +8,24 @@ ghost use Rattle.edit_script.specs.Scripts.{IsRefusalOf, edits_from, ended, line
 use crate::edit::Edit;
 use crate::fields::first_line;
 use crate::lines::read_edit;
+use crate::names::Names;
 use crate::refused::{ScriptFault, ScriptRefused};
 use std::alloc::Global;
 use water_model::types::{Basin, Inflows};
 
 /// What the line of this number asks for, or the refusal of the script.
 fn read_numbered(
-    basin: &Basin,
+    names: &Names,
     series: &Inflows,
     line: &[u8],
     number: u64,
 ) -> Result<Edit, ScriptRefused>
-    requires basin { IsValidBasin basin.now }
-    requires series { IsSeriesOf basin.now series.now }
-    ensures reads { result ≡ numbered number (edit_of basin.now series.now line.now) }
-    ensures placed { IfOk result (IsPlaced basin.now series.now) }
+    requires basin { IsValidBasin names.now.basin.now }
+    requires series { IsSeriesOf names.now.basin.now series.now }
+    ensures reads { result ≡ numbered number (edit_of names.now.basin.now series.now line.now) }
+    ensures placed { IfOk result (IsPlaced names.now.basin.now series.now) }
 {
-    match read_edit(basin, series, line) {
+    match read_edit(names, series, line) {
         Ok(edit) => Ok(edit),
         Err(fault) => Err(ScriptRefused::Refused {
             fault,
@@ -51,6 +52,38 @@ fn end_of(edits: Vec<Edit>, number: u64, behind: &[u8]) -> Result<Vec<Edit>, Scr
 /// What the lines behind the first ask for, or the first at fault. The first of them has the number 2.
 fn read_edits(
     alloc: Global,
+    names: &Names,
+    series: &Inflows,
+    text: &[u8],
+) -> Result<Vec<Edit>, ScriptRefused>
+    requires basin { IsValidBasin names.now.basin.now }
+    requires series { IsSeriesOf names.now.basin.now series.now }
+    requires small { length text.now ≤ 67108864 }
+    ensures reads { MatchResult result (λ edits. edits_from names.now.basin.now series.now 2 (lines_of text.now) ≡ Ok edits.items)
+        (IsRefusalOf (edits_from names.now.basin.now series.now 2 (lines_of text.now))) }
+    ensures placed { IfOk result (λ edits. All (IsPlaced names.now.basin.now series.now) edits.items) }
+{
+    let mut edits = Vec::new(alloc);
+    let mut rest = text;
+    let mut number = 2;
+    while let Some((line, behind)) = first_line(rest) {
+        if line == b"done".as_slice() {
+            return end_of(edits, number + 1, behind);
+        }
+        let edit = read_numbered(names, series, line, number)?;
+        edits.push(edit)?;
+        rest = behind;
+        number += 1;
+    }
+    Err(ScriptRefused::Refused {
+        fault: ScriptFault::EarlyEnd,
+        line: number,
+    })
+}
+
+/// The same for a basin whose names are not in maps yet.
+fn read_behind(
+    alloc: Global,
     basin: &Basin,
     series: &Inflows,
     text: &[u8],
@@ -62,26 +95,12 @@ fn read_edits(
         (IsRefusalOf (edits_from basin.now series.now 2 (lines_of text.now))) }
     ensures placed { IfOk result (λ edits. All (IsPlaced basin.now series.now) edits.items) }
 {
-    let mut edits = Vec::new(alloc);
-    let mut rest = text;
-    let mut number = 2;
-    while let Some((line, behind)) = first_line(rest) {
-        if line == b"done".as_slice() {
-            return end_of(edits, number + 1, behind);
-        }
-        let edit = read_numbered(basin, series, line, number)?;
-        edits.push(edit)?;
-        rest = behind;
-        number += 1;
-    }
-    Err(ScriptRefused::Refused {
-        fault: ScriptFault::EarlyEnd,
-        line: number,
-    })
+    let names = Names::of(alloc, basin)?;
+    read_edits(alloc, &names, series, text)
 }
 
 /// What a script asks for, line by line between its first and its last, or its first line at fault. No line behind that is
-/// looked at.
+/// looked at. A name is looked up in a map.
 pub fn read_script(
     alloc: Global,
     basin: &Basin,
@@ -102,7 +121,7 @@ pub fn read_script(
         }),
         Some((first, behind)) => {
             if first == b"river-edit 1".as_slice() {
-                read_edits(alloc, basin, series, behind)
+                read_behind(alloc, basin, series, behind)
             } else {
                 Err(ScriptRefused::Refused {
                     fault: ScriptFault::BadLine,

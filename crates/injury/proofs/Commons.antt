@@ -13,7 +13,8 @@ use Rattle.water_model.specs.declared.types.Right.{Right}
 use Rattle.water_model.proofs.Balance.{entry_at}
 use Rattle.water_model.proofs.Order.{Has, seniors_have}
 use Rattle.rights_roll.proofs.Places.{same_bytes, position_or_len-at_most}
-use Rattle.injury.specs.Common.{HaveOneName, right_named, pair_of, common_rights}
+use Rattle.basin_names.specs.Named.{right_named}
+use Rattle.injury.specs.Common.{HaveOneName, pair_of, common_rights}
 use Rattle.injury.specs.Laws.{CommonRightsHaveOneName}
 use Rattle.injury.specs.declared.pair.Pair.{Pair}
 use Rattle.injury.proofs.Pairs.{Each, IsPair, named, common_have_one_name}
@@ -52,8 +53,8 @@ module _ (first second : Basin) where
       by_entry : (x : Right) × (slice_get second.rights s ≡ Some x) → right_named second (right_name first r) ≡ Some s
       by_entry entry =
           let name : right_name second s ≡ entry.0.name = ap (λ o. unwrap_or (option_map (λ r. r.name) o) []) entry.1 in
-          let found = found_at (λ x. bytes_eq x.name (right_name first r)) second.rights s entry.0 entry.1
-          (same_bytes entry.0.name (right_name first r) (sym name ∙ sym one.name)) in
+          let found = found_at (λ x. bytes_eq (right_name first r) x.name) second.rights s entry.0 entry.1
+          (same_bytes (right_name first r) entry.0.name (one.name ∙ name)) in
           found.1 ∙ ap (λ i. Some i) (only found.0 found.1)
 
   -- and the pair stands among those of the rights

@@ -5,6 +5,7 @@ pub mod Runs
 pub mod Pairs
 pub mod Put
 pub mod Commons
+pub mod Listed
 pub mod OneText
 pub mod Growing
 pub mod Examples

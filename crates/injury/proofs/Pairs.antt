@@ -15,7 +15,8 @@ use Rattle.water_model.specs.declared.types.Right.{Right}
 use Rattle.water_model.proofs.Balance.{entry_at}
 use Rattle.water_model.proofs.Order.{Has, seniors_below}
 use Rattle.rights_roll.proofs.Places.{bytes_same}
-use Rattle.injury.specs.Common.{HaveOneName, right_named, pair_of, common_rights}
+use Rattle.basin_names.specs.Named.{right_named}
+use Rattle.injury.specs.Common.{HaveOneName, pair_of, common_rights}
 use Rattle.injury.specs.Injuries.{is_injured, injury_of, injuries_of, injuries}
 use Rattle.injury.specs.Laws.{JuniorLeavesNoInjury}
 use Rattle.injury.specs.declared.pair.Pair.{Pair}
@@ -38,12 +39,12 @@ pub named : (b : Basin) (name : List ℕ) (s : ℕ) → right_named b name ≡ S
 named b name s h = found (entry_at b.rights s within)
   where
     within : s < length b.rights
-    within = position-within (λ r. bytes_eq r.name name) b.rights s h
+    within = position-within (λ r. bytes_eq name r.name) b.rights s h
 
     found : (x : Right) × (slice_get b.rights s ≡ Some x) → (right_name b s ≡ name) × (s < length b.rights)
     found x =
-        let passes = position-passes (λ r. bytes_eq r.name name) b.rights s x.0 h x.1 in
-        (ap (λ o. unwrap_or (option_map (λ r. r.name) o) []) x.1 ∙ bytes_same x.0.name name passes, within)
+        let passes = position-passes (λ r. bytes_eq name r.name) b.rights s x.0 h x.1 in
+        (ap (λ o. unwrap_or (option_map (λ r. r.name) o) []) x.1 ∙ sym (bytes_same name x.0.name passes), within)
 
 module _ (first second : Basin) where
   abbrev pub IsPair : Pair → Type 0

@@ -1,5 +1,6 @@
 -- The rights that two basins have in common.
-use Rattle.std.specs.Prelude.{◌≡◌, ℕ, ◌<◌, List, length, Option, option_map, position, filter_map, bytes_eq, All}
+use Rattle.std.specs.Prelude.{◌≡◌, ℕ, ◌<◌, List, length, Option, option_map, filter_map, All}
+use Rattle.basin_names.specs.Named.{right_named}
 use Rattle.water_model.specs.Basin.{right_name}
 use Rattle.water_model.specs.Places.{seniors_first}
 use Rattle.water_model.specs.declared.types.Basin.{Basin}
@@ -12,11 +13,7 @@ pub record HaveOneName (first second : Basin) (r s : ℕ) : Type 0 where
   pub in_second : s < length second.rights
   pub name : right_name first r ≡ right_name second s
 
--- the right of the basin that has a name, if there is one
-abbrev pub right_named : Basin → List ℕ → Option ℕ
-right_named b name = position (λ r. bytes_eq r.name name) b.rights
-
--- a right of the first basin with the right of the second that has its name
+-- a right of the first basin with the right of the second that has its name, if there is one
 abbrev pub pair_of : Basin → Basin → ℕ → Option Pair
 pair_of first second r = option_map (λ s. record { first = r; second = s }) (right_named second (right_name first r))
 

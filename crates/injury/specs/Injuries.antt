@@ -1,5 +1,5 @@
 -- Who is delivered less in the second of two runs.
-use Rattle.std.specs.Prelude.{◌≡◌, ℕ, ◌≤◌, Bool, List, [], ◌∷◌, ◌++◌, length, take, map, filter, zip, flat_map, slice_index, nat_lt, codes, Option, Result, Ok, Err}
+use Rattle.std.specs.Prelude.{◌≡◌, ℕ, ◌<◌, ◌≤◌, Bool, List, [], ◌∷◌, ◌++◌, length, take, map, filter, zip, flat_map, slice_get, slice_index, nat_lt, codes, Option, Some, Result, Ok, Err}
 use Rattle.std.specs.Fmt.{decimal}
 use Rattle.std.specs.Io.KnownBytes.{Appends}
 use Rattle.std.specs.List.{join_with_byte}
@@ -7,7 +7,7 @@ use Rattle.water_text.specs.Months.{month_digits}
 use Rattle.water_model.specs.Basin.{right_name}
 use Rattle.water_model.specs.declared.types.Basin.{Basin}
 use Rattle.water_model.specs.declared.types.MonthRecord.{MonthRecord}
-use Rattle.injury.specs.Common.{common_rights}
+use Rattle.injury.specs.Common.{HaveOneName, common_rights}
 use Rattle.injury.specs.declared.injuries.Injury.{Injury}
 use Rattle.injury.specs.declared.pair.Pair.{Pair}
 
@@ -26,6 +26,20 @@ injury_of m n p = record {
 -- the injuries of some common rights in a month, right by right
 abbrev pub injuries_of : List Pair → MonthRecord → MonthRecord → List Injury
 injuries_of pairs m n = map (injury_of m n) (filter (is_injured m n) pairs)
+
+-- An injury: in some month a right that both basins have is delivered less in the second run than in the first.
+pub record IsInjury (first second : Basin) (records others : List MonthRecord) (injury : Injury) : Type 0 where
+  pub index : ℕ
+  pub before : MonthRecord
+  pub after : MonthRecord
+  pub in_first : slice_get records index ≡ Some before
+  pub in_second : slice_get others index ≡ Some after
+  pub counterpart : ℕ
+  pub common : HaveOneName first second injury.right counterpart
+  pub month : injury.month ≡ before.month
+  pub delivered : injury.first ≡ slice_index before.delivered injury.right
+  pub left : injury.second ≡ slice_index after.delivered counterpart
+  pub less : injury.second < injury.first
 
 -- the injuries of a run, by month and then in the first basin's order of seniority
 unfoldable pub injuries : Basin → Basin → List MonthRecord → List MonthRecord → List Injury

@@ -7,7 +7,8 @@ use Rattle.water_model.specs.declared.types.Inflows.{Inflows}
 use Rattle.water_model.specs.declared.types.MonthRecord.{MonthRecord}
 use Rattle.water_model.specs.declared.types.Right.{Right}
 use Rattle.injury.specs.Common.{HaveOneName, common_rights}
-use Rattle.injury.specs.Injuries.{injuries, comparison_text}
+use Rattle.injury.specs.Injuries.{IsInjury, injuries, comparison_text}
+use Rattle.injury.specs.declared.injuries.Injury.{Injury}
 use Rattle.injury.specs.OneMore.{HasOneMore, GiveSame}
 
 -- Common rights are those of one name. The pairs are the rights of the first basin that the second has by name.
@@ -15,6 +16,13 @@ abbrev pub CommonRightsHaveOneName : Type 0
 CommonRightsHaveOneName =
     (first second : Basin) (r s : ℕ) → IsValidBasin second →
     HaveOneName first second r s ↔ Contains (common_rights first second) (record { first = r; second = s })
+
+-- Each injury is listed, and nothing else. The list names every common right in every month in which it is delivered less in
+-- the second run, with both deliveries.
+abbrev pub InjuriesAreAllListed : Type 0
+InjuriesAreAllListed =
+    (first second : Basin) (records others : List MonthRecord) (injury : Injury) → IsValidBasin second →
+    IsInjury first second records others injury ↔ Contains (injuries first second records others) injury
 
 -- A comparison has one text. Which of several histories of the two basins are taken does not show in it.
 abbrev pub ComparisonsHaveOneText : Type 0

@@ -1,48 +1,30 @@
 //! The rights that two basins have in common.
-ghost use Rattle.std.specs.Prelude.{◌≡◌, ◌<◌, ◌≤◌, ◌++◌, length, position, bytes_eq, false, option_to_list, IfOk, OnOk, IsErr};
+ghost use Rattle.std.specs.Prelude.{◌≡◌, ◌<◌, ◌≤◌, ◌++◌, length, false, option_to_list, IfOk, OnOk, IsErr};
 ghost use Rattle.water_edge.specs.Edge.{HasCause};
 ghost use Rattle.water_model.specs.Lookups.{of_entry};
 ghost use Rattle.water_model.specs.Valid.{IsValidBasin};
-ghost use Rattle.injury.specs.Common.{right_named, pair_of, common_rights, HaveDeliveries};
+ghost use Rattle.injury.specs.Common.{pair_of, common_rights, HaveDeliveries};
 ghost use Rattle.water_text.specs.Months.{IsMonth};
 ghost use Rattle.injury.specs.Injuries.{is_injured, injuries_of, PutsInjuries};
 
 use crate::injuries::{is_injured, put_injury};
 use crate::pair::Pair;
+use basin_names::RightNames;
 use rights_roll::roll::Roll;
 use std::alloc::{AllocError, Global};
 use std::marker::Model;
 use water_edge::{Sink, SinkFailed};
-use water_model::types::{Basin, MonthRecord, Right};
-
-/// The place of the right that has a name, or `None` where none has it.
-fn place_of(rights: &[Right], name: &[u8]) -> Option<usize>
-    ensures { result ≡ position (λ r. bytes_eq r.name name.now) rights.now }
-{
-    rights.iter().position(|right| right.name.bytes() == name)
-}
-
-/// The right of a basin that has a name, or `None` where none has it.
-fn right_named(basin: &Basin, name: &[u8]) -> Option<u32>
-    requires { IsValidBasin basin.now }
-    ensures { result ≡ right_named basin.now name.now }
-{
-    match place_of(basin.rights.as_slice(), name) {
-        Some(right) => Some(right as u32),
-        None => None,
-    }
-}
+use water_model::types::{Basin, MonthRecord};
 
 /// A right of the first basin with the right of the second that has its name, if there is one.
-fn pair_of(first: &Basin, second: &Basin, right: u32) -> Option<Pair>
-    requires second { IsValidBasin second.now }
-    requires right { right < length first.now.rights }
-    ensures { result ≡ pair_of first.now second.now right }
+fn pair_of(first: &Basin, second: &RightNames, right: u32) -> Option<Pair>
+    requires { right < length first.now.rights }
+    ensures { result ≡ pair_of first.now second.now.basin.now right }
 {
-    match right_named(second, first.rights[right as usize].name.bytes()) {
-        Some(other) => Some(Pair {
+    match second.named(first.rights[right as usize].name.bytes()) {
+        Some(counterpart) => Some(Pair {
             first: right,
-            second: other,
+            second: counterpart,
         }),
         None => None,
     }
@@ -76,8 +58,8 @@ impl Model for Pairing {
 }
 
 impl Pairing {
-    /// The rights that both basins have by their names, in the first's order of seniority. Each name is sought among all
-    /// rights of the second. AllocError comes where memory is lacking.
+    /// The rights that both basins have by their names, in the first's order of seniority. The second's rights are looked up
+    /// in a map of their names. AllocError comes where memory is lacking.
     pub fn build(alloc: Global, first: &Basin, second: &Basin) -> Result<Pairing, AllocError>
         requires first { IsValidBasin first.now }
         requires second { IsValidBasin second.now }
@@ -85,9 +67,10 @@ impl Pairing {
     {
         let roll = Roll::of_basin(alloc, first)?;
         let order = roll.by_seniority();
+        let names = RightNames::of(alloc, second)?;
         let mut pairs = Vec::new(alloc);
         for right in order {
-            add_pair(&mut pairs, pair_of(first, second, *right))?;
+            add_pair(&mut pairs, pair_of(first, &names, *right))?;
         }
         Ok(Pairing { pairs })
     }

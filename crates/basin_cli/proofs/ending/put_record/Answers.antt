@@ -6,8 +6,9 @@ use Rattle.basin_cli.proofs.ending.put_record.Goals as goal
 pub word-requires-2 : goal.word-requires-2
 word-requires-2 c = omega (
   arith,
-  ap length c.requires,
-  grown c.args.line.now c.word.new.self (codes "series: ") c.word.ensures,
+  ap length c.requires.empty,
+  c.requires.short,
+  grown c.args.line.now c.word.new.self c.args.whose.now c.word.ensures,
   ap length c.as_bytes.ensures.value,
   ap length c.name.ensures,
   series_fault_short c.args.fault,
@@ -16,8 +17,9 @@ word-requires-2 c = omega (
 pub word-requires-3 : goal.word-requires-3
 word-requires-3 c = omega (
   arith,
-  ap length c.requires,
-  grown c.args.line.now c.word.new.self (codes "series: ") c.word.ensures,
+  ap length c.requires.empty,
+  c.requires.short,
+  grown c.args.line.now c.word.new.self c.args.whose.now c.word.ensures,
   ap length c.as_bytes.ensures.value,
   ap length c.name.ensures,
   series_fault_short c.args.fault,
@@ -27,8 +29,9 @@ word-requires-3 c = omega (
 pub amount-requires : goal.amount-requires
 amount-requires c = omega (
   arith,
-  ap length c.requires,
-  grown c.args.line.now c.word.new.self (codes "series: ") c.word.ensures,
+  ap length c.requires.empty,
+  c.requires.short,
+  grown c.args.line.now c.word.new.self c.args.whose.now c.word.ensures,
   ap length c.as_bytes.ensures.value,
   ap length c.name.ensures,
   series_fault_short c.args.fault,
@@ -40,8 +43,9 @@ amount-requires c = omega (
 pub word-requires-4 : goal.word-requires-4
 word-requires-4 c = omega (
   arith,
-  ap length c.requires,
-  grown c.args.line.now c.word.new.self (codes "series: ") c.word.ensures,
+  ap length c.requires.empty,
+  c.requires.short,
+  grown c.args.line.now c.word.new.self c.args.whose.now c.word.ensures,
   ap length c.as_bytes.ensures.value,
   ap length c.name.ensures,
   series_fault_short c.args.fault,

@@ -6,8 +6,9 @@ use Rattle.basin_cli.proofs.ending.put_refusal.Goals as goal
 pub word-requires-2 : goal.word-requires-2
 word-requires-2 c = omega (
   arith,
-  ap length c.requires,
-  grown c.args.line.now c.word.new.self (codes "basin: ") c.word.ensures,
+  ap length c.requires.empty,
+  c.requires.short,
+  grown c.args.line.now c.word.new.self c.args.whose.now c.word.ensures,
   ap length c.as_bytes.ensures.value,
   ap length c.name.ensures,
   fault_name_short c.args.finding.now.fault,
@@ -16,8 +17,9 @@ word-requires-2 c = omega (
 pub word-requires-3 : goal.word-requires-3
 word-requires-3 c = omega (
   arith,
-  ap length c.requires,
-  grown c.args.line.now c.word.new.self (codes "basin: ") c.word.ensures,
+  ap length c.requires.empty,
+  c.requires.short,
+  grown c.args.line.now c.word.new.self c.args.whose.now c.word.ensures,
   grown c.word.new.self c.word-2.new.self c.as_bytes.result.now c.word-2.ensures,
   ap length c.as_bytes.ensures.value,
   ap length c.name.ensures,
@@ -27,8 +29,9 @@ word-requires-3 c = omega (
 pub word-requires-4 : goal.word-requires-4
 word-requires-4 c = omega (
   arith,
-  ap length c.requires,
-  grown c.args.line.now c.word.new.self (codes "basin: ") c.word.ensures,
+  ap length c.requires.empty,
+  c.requires.short,
+  grown c.args.line.now c.word.new.self c.args.whose.now c.word.ensures,
   grown c.word.new.self c.word-2.new.self c.as_bytes.result.now c.word-2.ensures,
   grown c.word-2.new.self c.word-3.new.self (codes " ") c.word-3.ensures,
   ap length c.as_bytes.ensures.value,
@@ -42,8 +45,9 @@ word-requires-4 c = omega (
 pub word-requires-5 : goal.word-requires-5
 word-requires-5 c = omega (
   arith,
-  ap length c.requires,
-  grown c.args.line.now c.word.new.self (codes "basin: ") c.word.ensures,
+  ap length c.requires.empty,
+  c.requires.short,
+  grown c.args.line.now c.word.new.self c.args.whose.now c.word.ensures,
   grown c.word.new.self c.word-2.new.self c.as_bytes.result.now c.word-2.ensures,
   grown c.word-2.new.self c.word-3.new.self (codes " ") c.word-3.ensures,
   grown c.word-3.new.self c.word-4.new.self c.as_bytes-2.result.now c.word-4.ensures,
@@ -58,8 +62,9 @@ word-requires-5 c = omega (
 pub amount-requires : goal.amount-requires
 amount-requires c = omega (
   arith,
-  ap length c.requires,
-  grown c.args.line.now c.word.new.self (codes "basin: ") c.word.ensures,
+  ap length c.requires.empty,
+  c.requires.short,
+  grown c.args.line.now c.word.new.self c.args.whose.now c.word.ensures,
   grown c.word.new.self c.word-2.new.self c.as_bytes.result.now c.word-2.ensures,
   grown c.word-2.new.self c.word-3.new.self (codes " ") c.word-3.ensures,
   grown c.word-3.new.self c.word-4.new.self c.as_bytes-2.result.now c.word-4.ensures,
@@ -76,8 +81,9 @@ amount-requires c = omega (
 pub word-requires-6 : goal.word-requires-6
 word-requires-6 c = omega (
   arith,
-  ap length c.requires,
-  grown c.args.line.now c.word.new.self (codes "basin: ") c.word.ensures,
+  ap length c.requires.empty,
+  c.requires.short,
+  grown c.args.line.now c.word.new.self c.args.whose.now c.word.ensures,
   grown c.word.new.self c.word-2.new.self c.as_bytes.result.now c.word-2.ensures,
   grown c.word-2.new.self c.word-3.new.self (codes " ") c.word-3.ensures,
   grown c.word-3.new.self c.word-4.new.self c.as_bytes-2.result.now c.word-4.ensures,

@@ -16,8 +16,8 @@ too_many b series word month name amount (Some rest) h = let found = some_piece 
 
 pub returns-then-is_some-clause-reads : goal.returns-then-is_some-clause-reads
 returns-then-is_some-clause-reads c =
-    sym (ap (λ (fs : List (List ℕ)). edit_in c.args.basin.now c.args.series.now (c.args.word.now ∷ c.args.month.now ∷ fs)) fields
-    ∙ too_many c.args.basin.now c.args.series.now c.args.word.now c.args.month.now c.cut.result.0.now c.cut-2.result.0.now c.cut-2.result.1 (sym c.is_some.ensures ∙ c.if-is_some.true))
+    sym (ap (λ (fs : List (List ℕ)). edit_in c.args.names.now.basin.now c.args.series.now (c.args.word.now ∷ c.args.month.now ∷ fs)) fields
+    ∙ too_many c.args.names.now.basin.now c.args.series.now c.args.word.now c.args.month.now c.cut.result.0.now c.cut-2.result.0.now c.cut-2.result.1 (sym c.is_some.ensures ∙ c.if-is_some.true))
   where
     fields : fields_of c.args.behind.now ≡ c.cut.result.0.now ∷ c.cut-2.result.0.now ∷ fields_behind c.cut-2.result.1
     fields = c.cut.ensures ∙ (ap (λ o. c.cut.result.0.now ∷ fields_behind o) c.in-Some.is ∙ ap (λ fs. c.cut.result.0.now ∷ fs) c.cut-2.ensures)

@@ -1,11 +1,9 @@
-use Rattle.std.proofs.Common.{◌≡◌, length, arith}
-use Rattle.water_model.proofs.Gauges.{place_is}
+use Rattle.std.specs.Prelude.{Ok, Err}
+use Rattle.water_model.proofs.Gauges.{searched_place}
 use Rattle.edit_script.proofs.names.place_of.Goals as goal
 
-pub returns-then-other-number : goal.returns-then-other-number
-returns-then-other-number c = place_is c.args.list.now c.args.number c.loop-place.place (omega arith) c.loop-place.invariant (λ l. c.if-other-number.true)
+pub returns-in-Ok : goal.returns-in-Ok
+returns-in-Ok c = searched_place c.args.list.now c.args.number (Ok c.in-Ok.place) c.requires.rising c.in-Ok.ensures.position
 
-pub returns : goal.returns
-returns c =
-    let all : c.loop-place.place ≡ length c.args.list.now = omega arith in
-    rw (← all) (place_is c.args.list.now c.args.number c.loop-place.place (omega arith) c.loop-place.invariant (λ l. absurd (omega arith)))
+pub returns-in-Err : goal.returns-in-Err
+returns-in-Err c = searched_place c.args.list.now c.args.number (Err c.in-Err.field-0) c.requires.rising c.in-Err.ensures.position

@@ -2,11 +2,12 @@ use Rattle.std.proofs.Common.{ap, ap₂, sym, ◌∙◌, ◌++◌, arith, length
 use Rattle.std.specs.Prelude.{option_to_list}
 use Rattle.calls.proofs.Search.{order_in_range}
 use Rattle.rights_roll.proofs.Seniors.{length-by_seniority}
+use Rattle.injury.specs.Common.{common_rights}
 use Rattle.injury.proofs.Pairs.{pairs_more, pairs_all, pairs_few}
 use Rattle.injury.proofs.pairing.Pairing.build.Goals as goal
 
-pub pair_of-requires-clause-right : goal.pair_of-requires-clause-right
-pair_of-requires-clause-right c =
+pub pair_of-requires : goal.pair_of-requires
+pair_of-requires c =
     order_in_range c.args.first.now.rights c.by_seniority-order.result.now c.loop-right.right-index
     (c.by_seniority-order.ensures ∙ c.in_ok-roll.ensures.order) c.loop-right-test.true
 
@@ -14,13 +15,14 @@ pub loop-right-preserved : goal.loop-right-preserved
 loop-right-preserved c =
     c.in_ok-add_pair.ensures
     ∙ (ap₂ (λ pairs pair. pairs ++ option_to_list pair) c.loop-right.invariant c.pair_of.ensures
-    ∙ sym (pairs_more c.args.first.now c.args.second.now c.by_seniority-order.result.now c.loop-right.right-index c.loop-right-test.true))
+    ∙ sym (pairs_more c.args.first.now c.in_ok-names.names.basin.now c.by_seniority-order.result.now c.loop-right.right-index c.loop-right-test.true))
 
 pub returns : goal.returns
 returns c =
     c.loop-right.invariant
-    ∙ pairs_all c.args.first.now c.args.second.now c.by_seniority-order.result.now c.loop-right.right-index c.loop-right-test.false
+    ∙ (pairs_all c.args.first.now c.in_ok-names.names.basin.now c.by_seniority-order.result.now c.loop-right.right-index c.loop-right-test.false
     (c.by_seniority-order.ensures ∙ c.in_ok-roll.ensures.order)
+    ∙ ap (common_rights c.args.first.now) c.in_ok-names.ensures)
 
 pub invariant_of-result : goal.invariant_of-result
 invariant_of-result c =
@@ -29,7 +31,7 @@ invariant_of-result c =
     omega (
       arith,
       ap length c.loop-right.invariant,
-      pairs_few c.args.first.now c.args.second.now (take c.loop-right.right-index order),
+      pairs_few c.args.first.now c.in_ok-names.names.basin.now (take c.loop-right.right-index order),
       length-take c.loop-right.right-index order,
       ap length (c.by_seniority-order.ensures ∙ c.in_ok-roll.ensures.order),
       length-by_seniority c.args.first.now.rights,

@@ -4,4 +4,4 @@ use Rattle.injury.specs.Common.{pair_of}
 use Rattle.injury.proofs.pairing.Pairing.build.Given as goal
 
 abbrev pub invariant-loop-right : goal.invariant-loop-right
-invariant-loop-right l = l.pairs.items ≡ filter_map (pair_of l.first l.second) (take l.right-index l.order)
+invariant-loop-right l = l.pairs.items ≡ filter_map (pair_of l.first l.names.basin.now) (take l.right-index l.order)

@@ -1,0 +1,66 @@
+-- What the bytes of a command's files are.
+use Rattle.std.specs.Prelude.{◌≡◌, ℕ, ◌<◌, ◌≤◌, List, length, Option, Some, None}
+use Rattle.std.specs.Option.{option_and_then}
+use Rattle.basin_tree.specs.declared.walk.Finding.{Finding}
+use Rattle.basin_file.specs.BasinFaults.{Spells, file_fault}
+use Rattle.inflow_file.specs.SeriesFaults.{series_fault, SpellsSeries}
+use Rattle.water_model.specs.Valid.{IsSeriesOf}
+use Rattle.water_model.specs.declared.types.Basin.{Basin}
+use Rattle.water_model.specs.declared.types.Inflows.{Inflows}
+use Rattle.water_model.specs.declared.types.MonthRecord.{MonthRecord}
+use Rattle.basin_cli.specs.declared.ending.SeriesFinding.{SeriesFinding}
+use Rattle.basin_cli.specs.Ending.{finding_of}
+use Rattle.basin_cli.specs.Header.{header}
+use Rattle.basin_cli.specs.Headline.{KeepsPriority}
+
+-- the most bytes of a file
+abbrev pub file_limit : ℕ
+file_limit = 67108864
+
+pub record IsTooLong (bytes : List ℕ) : Type 0 where
+  pub beyond : file_limit < length bytes
+
+-- the bytes of a basin file are within the limit and nothing in them is at fault
+pub record IsGoodBasin (bytes : List ℕ) : Type 0 where
+  pub within : length bytes ≤ file_limit
+  pub sound : file_fault bytes ≡ None
+
+-- the bytes are within the limit and this is the first fault in them
+pub record IsRefusedFor (finding : Finding) (bytes : List ℕ) : Type 0 where
+  pub within : length bytes ≤ file_limit
+  pub first : file_fault bytes ≡ Some finding
+
+-- the bytes of a series file are within the limit and nothing in them is at fault, for the basin that other bytes spell
+pub record IsGoodSeries (basin_bytes bytes : List ℕ) : Type 0 where
+  pub basin : Basin
+  pub spelled : Spells basin_bytes basin
+  pub within : length bytes ≤ file_limit
+  pub sound : series_fault basin bytes ≡ None
+
+-- the bytes are within the limit and this is the first fault in them
+pub record IsSeriesRefusedFor (finding : SeriesFinding) (basin_bytes bytes : List ℕ) : Type 0 where
+  pub basin : Basin
+  pub spelled : Spells basin_bytes basin
+  pub within : length bytes ≤ file_limit
+  pub first : option_and_then (finding_of basin) (series_fault basin bytes) ≡ Some finding
+
+-- the basin and the series that bytes spell
+pub record AreSpelled (bytes series_bytes : List ℕ) (basin : Basin) (series : Inflows) : Type 0 where
+  pub basin_spelled : Spells bytes basin
+  pub series_spelled : SpellsSeries basin series_bytes series
+  pub fits : IsSeriesOf basin series
+
+-- what a shelf tells under a name
+abbrev pub Told : Type 0
+Told = List ℕ → Option (List ℕ)
+
+-- the bytes of a series. Without a file they are the header of the table alone
+abbrev pub series_told : Told → Option (List ℕ) → Option (List ℕ)
+series_told told None = Some header
+series_told told (Some name) = told name
+
+-- the basin and series that bytes spell, and records of a run of them
+pub record IsRunOf (bytes series_bytes : List ℕ) (basin : Basin) (records : List MonthRecord) : Type 0 where
+  pub series : Inflows
+  pub spelled : AreSpelled bytes series_bytes basin series
+  pub keeps : KeepsPriority basin series records

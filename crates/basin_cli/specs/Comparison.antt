@@ -1,0 +1,141 @@
+-- `compare`: the cause of each of its endings, what it leaves on out, and how often its searches push.
+use Rattle.std.specs.Prelude.{◌≡◌, ℕ, ◌+◌, ◌≤◌, List, Option, ⊤, IfSome, ◌⊎◌}
+use Rattle.basin_file.specs.BasinFaults.{Spells}
+use Rattle.injury.specs.Injuries.{IsInjury, comparison_text}
+use Rattle.injury.specs.declared.injuries.Injury.{Injury}
+use Rattle.month_fold.specs.Runs.{run_pushes}
+use Rattle.water_model.specs.History.{IsHistory}
+use Rattle.water_model.specs.declared.types.Basin.{Basin}
+use Rattle.water_model.specs.declared.types.Inflows.{Inflows}
+use Rattle.water_model.specs.declared.types.MonthRecord.{MonthRecord}
+use Rattle.basin_cli.specs.declared.status.Status.{Status}
+use Rattle.basin_cli.specs.declared.status.Status.TheVariants as status
+use Rattle.basin_cli.specs.declared.ending.Ending.{Ending}
+use Rattle.basin_cli.specs.declared.ending.Ending.TheVariants as ending
+use Rattle.basin_cli.specs.declared.ending.File.TheVariants as file
+use Rattle.basin_cli.specs.declared.ending.SecondFinding.TheVariants as of_second
+use Rattle.basin_cli.specs.Bytes.{AreSpelled, IsGoodBasin, IsGoodSeries, IsRefusedFor, IsRunOf, IsSeriesRefusedFor, IsTooLong, Told, series_told}
+use Rattle.basin_cli.specs.Command.{Files}
+use Rattle.basin_cli.specs.Out.{Leaves, MayWrite}
+
+-- the runs of two basins have the same months
+abbrev pub HaveSameMonths : Basin → Basin → Type 0
+HaveSameMonths first second = (second.first ≡ first.first) × (second.months ≡ first.months)
+
+-- the basins that the bytes of two files spell have runs of the same months
+pub record AreOfOneRun (bytes second_bytes : List ℕ) : Type 0 where
+  pub first : Basin
+  pub second : Basin
+  pub first_spelled : Spells bytes first
+  pub second_spelled : Spells second_bytes second
+  pub same : HaveSameMonths first second
+
+-- or they don't
+pub record AreOfOtherRuns (bytes second_bytes : List ℕ) : Type 0 where
+  pub first : Basin
+  pub second : Basin
+  pub first_spelled : Spells bytes first
+  pub second_spelled : Spells second_bytes second
+  pub differ : HaveSameMonths first second → ⊥
+
+-- the second basin can be compared with the first: it is good, and its run has the same months
+pub record IsGoodSecond (bytes second_bytes : List ℕ) : Type 0 where
+  pub good : IsGoodBasin second_bytes
+  pub one_run : AreOfOneRun bytes second_bytes
+
+-- the series is good for both basins
+pub record IsGoodForBoth (bytes second_bytes series_bytes : List ℕ) : Type 0 where
+  pub first : IsGoodSeries bytes series_bytes
+  pub second : IsGoodSeries second_bytes series_bytes
+
+-- Somebody is injured: in some month of histories of the two basins, each with the series, a right that both have is
+-- delivered less in the second's. Which of several histories are taken makes no difference.
+pub record SomebodyIsInjured (bytes second_bytes series_bytes : List ℕ) : Type 0 where
+  pub first : Basin
+  pub second : Basin
+  pub series : Inflows
+  pub second_series : Inflows
+  pub first_spelled : AreSpelled bytes series_bytes first series
+  pub second_spelled : AreSpelled second_bytes series_bytes second second_series
+  pub records : List MonthRecord
+  pub others : List MonthRecord
+  pub first_history : IsHistory first series records
+  pub second_history : IsHistory second second_series others
+  pub injury : Injury
+  pub is_injury : IsInjury first second records others injury
+
+-- the first basin is good, and this holds of its bytes and those of the second, as far as they are told
+abbrev pub BehindFirst : Told → Files → List ℕ → (List ℕ → List ℕ → Type 0) → Type 0
+BehindFirst told files second P = IfSome (told files.basin) (λ bytes. IsGoodBasin bytes × IfSome (told second) (P bytes))
+
+-- both basins are good and of one run, and this holds of their bytes and those of the series
+abbrev pub BehindBoth : Told → Files → List ℕ → (List ℕ → List ℕ → List ℕ → Type 0) → Type 0
+BehindBoth told files second P =
+    BehindFirst told files second (λ bytes second_bytes. IsGoodSecond bytes second_bytes × IfSome (series_told told files.series) (P bytes second_bytes))
+
+-- the cause of an ending at which a file of a comparison is not read or refused
+abbrev pub StopsComparing : Files → List ℕ → Ending → Told → Type 0 → Type 0
+StopsComparing files second (ending.BasinRefused finding) told read = IfSome (told files.basin) (IsRefusedFor finding)
+StopsComparing files second (ending.SecondRefused (of_second.Basin finding)) told read = BehindFirst told files second (λ _ other. IsRefusedFor finding other)
+StopsComparing files second (ending.SecondRefused of_second.OtherRun) told read =
+    BehindFirst told files second (λ bytes other. IsGoodBasin other × AreOfOtherRuns bytes other)
+StopsComparing files second (ending.SeriesRefused finding) told read =
+    BehindBoth told files second (λ bytes _ series. IsSeriesRefusedFor finding bytes series)
+StopsComparing files second (ending.SecondRefused (of_second.Series finding)) told read =
+    BehindBoth told files second (λ bytes other series. IsGoodSeries bytes series × IsSeriesRefusedFor finding other series)
+StopsComparing files second (ending.ReadFault file.Basin) told read = read
+StopsComparing files second (ending.ReadFault file.SecondBasin) told read = read × IfSome (told files.basin) IsGoodBasin
+StopsComparing files second (ending.ReadFault file.Series) told read = read × BehindFirst told files second IsGoodSecond
+StopsComparing files second (ending.InputTooLong file.Basin) told read = IfSome (told files.basin) IsTooLong
+StopsComparing files second (ending.InputTooLong file.SecondBasin) told read = BehindFirst told files second (λ _ other. IsTooLong other)
+StopsComparing files second (ending.InputTooLong file.Series) told read = BehindBoth told files second (λ _ _ series. IsTooLong series)
+StopsComparing files second ending.OutOfMemory told read = ⊤
+StopsComparing files second other told read = ⊥
+
+-- the cause of an ending of a comparison: it answers no exactly where somebody is injured
+abbrev pub HasComparingCause : Files → List ℕ → Ending → Told → Type 0 → Type 0 → Type 0
+HasComparingCause files second ending.Done told read write =
+    BehindBoth told files second (λ bytes other series. IsGoodForBoth bytes other series × (SomebodyIsInjured bytes other series → ⊥))
+HasComparingCause files second ending.Injured told read write =
+    BehindBoth told files second (λ bytes other series. IsGoodForBoth bytes other series × SomebodyIsInjured bytes other series)
+HasComparingCause files second ending.WriteFault told read write = write × BehindBoth told files second IsGoodForBoth
+HasComparingCause files second how told read write = StopsComparing files second how told read
+
+-- a comparison is done where nobody is injured, and answers no where somebody is
+abbrev pub IsComparedAs : Status → Type 0 → Type 0
+IsComparedAs how injured =
+    (how ≡ status.OutOfMemory) ⊎ (((how ≡ status.Done) × (injured → ⊥)) ⊎ ((how ≡ status.No) × injured))
+
+-- told bytes that are accepted, and no fault of the shelf or of out: the basins are compared, unless memory ran out
+abbrev pub ComparesBehind : Told → Files → List ℕ → Status → Type 0 → Type 0 → Type 0
+ComparesBehind told files second how read write =
+    IfSome (told files.basin) (λ bytes. IsGoodBasin bytes →
+    IfSome (told second) (λ other. IsGoodSecond bytes other →
+    IfSome (series_told told files.series) (λ series. IsGoodForBoth bytes other series →
+    (read → ⊥) → (write → ⊥) → IsComparedAs how (SomebodyIsInjured bytes other series))))
+
+-- What `compare` leaves on out: the comparison of a run of the first basin with one of the second, each with the series.
+-- Both keep the priority of rights.
+pub record WritesComparison (how : Status) (bytes second_bytes series_bytes : List ℕ) (old new : Option (List ℕ)) : Type 0 where
+  pub first : Basin
+  pub second : Basin
+  pub records : List MonthRecord
+  pub others : List MonthRecord
+  pub first_run : IsRunOf bytes series_bytes first records
+  pub second_run : IsRunOf second_bytes series_bytes second others
+  pub written : Leaves how (comparison_text first second records others) old new
+
+-- this holds of what is told of all three files
+abbrev pub OfThree : Told → Files → List ℕ → (List ℕ → List ℕ → List ℕ → Type 0) → Type 0
+OfThree told files second P =
+    IfSome (told files.basin) (λ bytes. IfSome (told second) (λ other. IfSome (series_told told files.series) (P bytes other)))
+
+abbrev pub ComparisonWrites : Told → Files → List ℕ → Status → Option (List ℕ) → Option (List ℕ) → Type 0
+ComparisonWrites told files second how old new =
+    OfThree told files second (λ bytes other series. MayWrite how → WritesComparison how bytes other series old new)
+
+-- searches push at most so often as the bounds of both runs allow
+abbrev pub ComparisonPushes : Told → Files → List ℕ → ℕ → ℕ → Type 0
+ComparisonPushes told files second before now =
+    IfSome (told files.basin) (λ bytes. IfSome (told second) (λ other.
+    (first second : Basin) → Spells bytes first → Spells other second → now ≤ before + (run_pushes first + run_pushes second)))

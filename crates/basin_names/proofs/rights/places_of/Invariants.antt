@@ -1,0 +1,11 @@
+use Rattle.std.proofs.Common.{◌≡◌, ℕ, List, drop}
+use Rattle.std.specs.Option.{option_or}
+use Rattle.std.specs.Str.{bytes_eq}
+use Rattle.basin_names.specs.Places.{place_at}
+use Rattle.basin_names.proofs.First.{first_from}
+use Rattle.basin_names.proofs.rights.places_of.Given as goal
+
+-- the place that a name has, and else that of the first right behind
+abbrev pub invariant-loop-i : goal.invariant-loop-i
+invariant-loop-i l = (name : List ℕ) →
+    option_or (place_at l.places name) (first_from (λ x. bytes_eq name x.name) l.i (drop l.i l.rights)) ≡ first_from (λ x. bytes_eq name x.name) 0 l.rights
