@@ -1,4 +1,6 @@
 //! Comparisons of two basins.
+ghost use Rattle.std.specs.Prelude.{◌≡◌, ◌<◌};
+
 use super::lakes::LAKE;
 use super::ordinary::{ORDINARY, ORDINARY_SERIES};
 use super::rivers::JUNIOR_SHORT;
@@ -14,7 +16,7 @@ use water_edge::{MemoryShelf, MemorySink};
 
 /// The bytes of the files BASIN, BASIN2 and SERIES, and the numbers of the calls of the shelf and of out that fail.
 #[derive(Drop)]
-struct Change {
+struct Set {
     first: Vec<u8>,
     second: Vec<u8>,
     series: Vec<u8>,
@@ -23,8 +25,8 @@ struct Change {
 }
 
 /// Files whose calls all succeed.
-fn change(alloc: Global, first: &str, second: &str, series: &str) -> Result<Change, Fail> {
-    Ok(Change {
+fn set_of(alloc: Global, first: &str, second: &str, series: &str) -> Result<Set, Fail> {
+    Ok(Set {
         first: Vec::from_slice(alloc, first.as_bytes())?,
         second: Vec::from_slice(alloc, second.as_bytes())?,
         series: Vec::from_slice(alloc, series.as_bytes())?,
@@ -34,20 +36,16 @@ fn change(alloc: Global, first: &str, second: &str, series: &str) -> Result<Chan
 }
 
 /// The words, and a shelf that holds the files.
-fn set_up(
-    alloc: Global,
-    words: &[&str],
-    change: Change,
-) -> Result<(Vec<String>, MemoryShelf), Fail> {
+fn set_up(alloc: Global, words: &[&str], set: Set) -> Result<(Vec<String>, MemoryShelf), Fail> {
     let mut list = Vec::new(alloc);
     for word in words {
         list.push(String::from_str(alloc, word)?)?;
     }
     let mut held = Vec::new(alloc);
-    held.push((String::from_str(alloc, "BASIN")?, change.first))?;
-    held.push((String::from_str(alloc, "BASIN2")?, change.second))?;
-    held.push((String::from_str(alloc, "SERIES")?, change.series))?;
-    let failing = vec![in alloc; change.shelf_fails; 1]?;
+    held.push((String::from_str(alloc, "BASIN")?, set.first))?;
+    held.push((String::from_str(alloc, "BASIN2")?, set.second))?;
+    held.push((String::from_str(alloc, "SERIES")?, set.series))?;
+    let failing = vec![in alloc; set.shelf_fails; 1]?;
     Ok((list, MemoryShelf::new(held, failing)))
 }
 
@@ -56,16 +54,16 @@ fn compare_over<L: Ledger>(
     alloc: Global,
     blank: Blank,
     words: &[&str],
-    change: Change,
+    set: Set,
 ) -> Result<(Status, MemorySink, MemorySink), Fail>
     requires name { blank.name ≡ L.name }
     requires parts { blank.parts ≡ L.parts }
     requires some { 0 < L.parts }
 {
     let mut searches = Steps::<L>::new(blank);
-    let mut out = MemorySink::new(alloc, 8192, vec![in alloc; change.out_fails; 1]?)?;
+    let mut out = MemorySink::new(alloc, 8192, vec![in alloc; set.out_fails; 1]?)?;
     let mut err = MemorySink::new(alloc, 4096, Vec::new(alloc))?;
-    let (words, mut shelf) = set_up(alloc, words, change)?;
+    let (words, mut shelf) = set_up(alloc, words, set)?;
     let status = basin_main(alloc, &words, &mut shelf, &mut out, &mut err, &mut searches);
     Ok((status, out, err))
 }
@@ -74,10 +72,10 @@ fn compare_over<L: Ledger>(
 fn expect<R: Abort + AllocGlobal>(
     rt: &R,
     words: &[&str],
-    change: Change,
+    set: Set,
     want: (Status, &str, &str),
 ) -> Result<(), Fail> {
-    let (status, out, err) = compare_over::<Brand>(rt.alloc(), Blank::new(1), words, change)?;
+    let (status, out, err) = compare_over::<Brand>(rt.alloc(), Blank::new(1), words, set)?;
     assert_eq!(rt; status, want.0);
     assert_eq!(rt; out.bytes(), want.1.as_bytes());
     assert_eq!(rt; err.bytes(), want.2.as_bytes());
@@ -100,22 +98,22 @@ fn lists_who_is_injured(rt: HostRuntime) -> Result<(), Fail> {
     let new = "[[diversion]]\nname = \"new\"\nnode = \"top\"\ndate = \"1920-01-01\"\nwant = 50\n";
     let without = with(rt.alloc(), JUNIOR_SHORT.0, new, "")?;
     let senior = with(rt.alloc(), JUNIOR_SHORT.0, "1920", "1880")?;
-    let junior_added = change(rt.alloc(), without.as_str(), JUNIOR_SHORT.0, "")?;
+    let junior_added = set_of(rt.alloc(), without.as_str(), JUNIOR_SHORT.0, "")?;
     expect(
         &rt,
         &PLAIN,
         junior_added,
         (Status::Done, "compared 1 0\n", ""),
     )?;
-    let made_senior = change(rt.alloc(), JUNIOR_SHORT.0, senior.as_str(), "")?;
+    let made_senior = set_of(rt.alloc(), JUNIOR_SHORT.0, senior.as_str(), "")?;
     let injured = "injured 1900-01 old 60 30\ncompared 2 1\n";
     expect(&rt, &PLAIN, made_senior, (Status::No, injured, ""))?;
-    let junior_again = change(rt.alloc(), senior.as_str(), JUNIOR_SHORT.0, "")?;
+    let junior_again = set_of(rt.alloc(), senior.as_str(), JUNIOR_SHORT.0, "")?;
     let injured = "injured 1900-01 new 50 20\ncompared 2 1\n";
     expect(&rt, &PLAIN, junior_again, (Status::No, injured, ""))?;
-    let same = change(rt.alloc(), JUNIOR_SHORT.0, JUNIOR_SHORT.0, "")?;
+    let same = set_of(rt.alloc(), JUNIOR_SHORT.0, JUNIOR_SHORT.0, "")?;
     expect(&rt, &PLAIN, same, (Status::Done, "compared 2 0\n", ""))?;
-    let others = change(rt.alloc(), JUNIOR_SHORT.0, LAKE.0, "")?;
+    let others = set_of(rt.alloc(), JUNIOR_SHORT.0, LAKE.0, "")?;
     expect(&rt, &PLAIN, others, (Status::Done, "compared 0 0\n", ""))
 }
 
@@ -126,7 +124,7 @@ fn lists_injuries_by_month_and_seniority(rt: HostRuntime) -> Result<(), Fail> {
     let mill =
         "[[diversion]]\nname = \"mill\"\nnode = \"weir\"\ndate = \"1890-01-01\"\nwant = 2000\n\n[[instream]]";
     let with_mill = with(rt.alloc(), ORDINARY, "[[instream]]", mill)?;
-    let set = change(rt.alloc(), ORDINARY, with_mill.as_str(), ORDINARY_SERIES)?;
+    let set = set_of(rt.alloc(), ORDINARY, with_mill.as_str(), ORDINARY_SERIES)?;
     let injured =
         "injured 1960-07 live 4460 2460\ninjured 1960-08 canalco 3100 762\ninjured 1960-08 live 1562 0\ncompared 5 3\n";
     expect(&rt, &GAUGES, set, (Status::No, injured, ""))
@@ -220,17 +218,17 @@ fn delivered(text: &str, month: &str, right: &str) -> Option<u64> {
 /// first.
 fn comparison(alloc: Global, first: &str, second: &str) -> Result<(bool, String), Fail> {
     let mut lines = String::new(alloc);
-    let mut month = "";
+    let mut month = String::new(alloc);
     let (mut pairs, mut months, mut injured) = (0u64, 0u64, 0u64);
     for line in first.lines() {
         if let Some(named) = line.strip_prefix("month ") {
-            month = named;
+            month = String::from_str(alloc, named)?;
             months = months.saturating_add(1);
         }
         let Some((right, amount)) = delivery_in(line) else {
             continue;
         };
-        let Some(other) = delivered(second, month, right) else {
+        let Some(other) = delivered(second, month.as_str(), right) else {
             continue;
         };
         pairs = pairs.saturating_add(1);
@@ -257,7 +255,7 @@ fn lists_what_both_runs_say(rt: HostRuntime) -> Result<(), Fail> {
         let second = std::str::from_utf8(after.bytes()).expect(&rt, "a text");
         let (injured, want) = comparison(rt.alloc(), first, second)?;
         let status = if injured { Status::No } else { Status::Done };
-        let set = change(rt.alloc(), ORDINARY, changed.as_str(), ORDINARY_SERIES)?;
+        let set = set_of(rt.alloc(), ORDINARY, changed.as_str(), ORDINARY_SERIES)?;
         expect(&rt, &GAUGES, set, (status, want.as_str(), ""))?;
     }
     Ok(())
@@ -268,7 +266,7 @@ fn lists_what_both_runs_say(rt: HostRuntime) -> Result<(), Fail> {
 fn junior_rights_injure_nobody(rt: HostRuntime) -> Result<(), Fail> {
     for (old, new) in CHANGES.iter().take(6) {
         let changed = with(rt.alloc(), ORDINARY, old, new)?;
-        let set = change(rt.alloc(), ORDINARY, changed.as_str(), ORDINARY_SERIES)?;
+        let set = set_of(rt.alloc(), ORDINARY, changed.as_str(), ORDINARY_SERIES)?;
         expect(&rt, &GAUGES, set, (Status::Done, "compared 5 0\n", ""))?;
     }
     Ok(())
@@ -369,7 +367,7 @@ const REFUSED: [(&str, &str, &str, Status, &str); 11] = [
 #[test]
 fn says_whose_file_is_refused(rt: HostRuntime) -> Result<(), Fail> {
     for (first, second, series, status, line) in REFUSED {
-        let set = change(rt.alloc(), first, second, series)?;
+        let set = set_of(rt.alloc(), first, second, series)?;
         expect(&rt, &GAUGES, set, (status, "", line))?;
     }
     Ok(())
@@ -384,7 +382,7 @@ fn refuses_another_run(rt: HostRuntime) -> Result<(), Fail> {
         ("\"1900-01\"", "\"1900-02\""),
     ] {
         let other = with(rt.alloc(), JUNIOR_SHORT.0, old, new)?;
-        let set = change(rt.alloc(), JUNIOR_SHORT.0, other.as_str(), "")?;
+        let set = set_of(rt.alloc(), JUNIOR_SHORT.0, other.as_str(), "")?;
         let want = (Status::BasinRefused, "", "basin2: OtherRun top 0\n");
         expect(&rt, &PLAIN, set, want)?;
     }
@@ -395,12 +393,12 @@ fn refuses_another_run(rt: HostRuntime) -> Result<(), Fail> {
 #[test]
 fn refuses_other_words(rt: HostRuntime) -> Result<(), Fail> {
     let usage = (Status::Usage, "", "usage: basin_cli COMMAND WORDS\n");
-    let few = change(rt.alloc(), RIVER, RIVER, "")?;
+    let few = set_of(rt.alloc(), RIVER, RIVER, "")?;
     expect(&rt, &["compare", "BASIN", "BASIN2"], few, usage)?;
-    let many = change(rt.alloc(), RIVER, RIVER, "")?;
+    let many = set_of(rt.alloc(), RIVER, RIVER, "")?;
     let words = ["compare", "BASIN", "BASIN2", "SERIES", "SERIES"];
     expect(&rt, &words, many, usage)?;
-    let other = change(rt.alloc(), RIVER, RIVER, "")?;
+    let other = set_of(rt.alloc(), RIVER, RIVER, "")?;
     expect(&rt, &["Compare", "BASIN", "BASIN2", "-"], other, usage)
 }
 
@@ -412,15 +410,15 @@ fn tells_which_file_fails(rt: HostRuntime) -> Result<(), Fail> {
         (1, "read: BASIN2\n"),
         (2, "read: SERIES\n"),
     ] {
-        let mut set = change(rt.alloc(), GAUGED, GAUGED, TOP_ALONE)?;
+        let mut set = set_of(rt.alloc(), GAUGED, GAUGED, TOP_ALONE)?;
         set.shelf_fails = call;
         expect(&rt, &GAUGES, set, (Status::ReadFault, "", line))?;
     }
-    let mut long = change(rt.alloc(), GAUGED, "", "")?;
+    let mut long = set_of(rt.alloc(), GAUGED, "", "")?;
     long.second = blanks(rt.alloc(), 67_108_865)?;
     let too_long = (Status::InputTooLong, "", "too long: BASIN2\n");
     expect(&rt, &GAUGES, long, too_long)?;
-    let mut unwritten = change(rt.alloc(), GAUGED, GAUGED, TOP_ALONE)?;
+    let mut unwritten = set_of(rt.alloc(), GAUGED, GAUGED, TOP_ALONE)?;
     unwritten.out_fails = 0;
     expect(
         &rt,
