@@ -13,8 +13,8 @@
 ghost use Rattle.std.specs.Prelude.{min, ◌≡◌, true, false, ℕ, ◌+◌, ◌-◌, ◌*◌, ◌^◌, ◌<◌, ◌≤◌, ◌≢◌, length, slice_index, slice_set, IsTrue, ◌↔◌};
 ghost use Rattle.circulation.specs.Contents.{arcs, flow_of, network, step_of, IsCirculation};
 ghost use Rattle.circulation.specs.Network.{IsFlow};
-ghost use Rattle.circulation.specs.Residual.{arc_of, room_of, start_of, IsClosedWalk};
-ghost use Rattle.augment.specs.Search.{start_over, end_over, room_over, with_node, IsDoneOut, IsDoneIn, IsClosed, HasTree, IsVisitedBy, SameButScratch};
+ghost use Rattle.circulation.specs.Residual.{arc_of, room_of, start_of, end_of, IsClosedWalk};
+ghost use Rattle.augment.specs.Search.{with_node, IsTried, IsExpanded, IsClosed, HasTree, IsVisitedBy, SameButScratch};
 ghost use Rattle.augment.specs.Raised.{HasWayOut, CanCarry, CarriesAtMost, IsGreatestCut, position_of, IsReached, SameButFlow, not_reached};
 
 use circulation::Circulation;
@@ -69,36 +69,31 @@ fn visit(circ: &mut Circulation, node: u32, step: u64, size: usize) -> usize
     }
 }
 
-/// Visits the node to which a step over the arc `via` leads, if the step has enough room.
-fn try_arc(
-    circ: &mut Circulation,
-    arc: u32,
-    least: u64,
-    via: u32,
-    forward: bool,
-    size: usize,
-) -> usize
-    requires via { via < arcs circ.old }
-    requires marked { IsReached circ.old (start_over circ.old via forward) }
+/// Visits the node that a step enters, if the step has enough room and doesn't go over `arc`.
+fn try_step(circ: &mut Circulation, arc: u32, least: u64, step: u64, end: u32, size: usize) -> usize
+    requires step { arc_of step < arcs circ.old }
+    requires end { end_of (network circ.old) step ≡ end }
+    requires marked { IsReached circ.old (start_of (network circ.old) step) }
     requires tree { HasTree circ.old arc least size }
     requires kept { IsCirculation circ.old }
     ensures kept { IsCirculation circ.new }
     ensures visited { IsVisitedBy circ.old circ.new arc least size result }
-    ensures done { via ≢ arc → least ≤ room_over circ.old via forward → IsReached circ.new (end_over circ.old via forward) }
+    ensures done { IsTried (network circ.old) (flow_of circ.old) arc least (position_of circ.new) step }
 {
-    if via == arc || circ.room(via, forward) < least {
+    if position(circ, end) != 0 {
         return size;
     }
-    let ends = circ.ends(via);
-    if forward {
-        visit(circ, ends.to, 2 * u64::from(via), size)
-    } else {
-        visit(circ, ends.from, 2 * u64::from(via) + 1, size)
+    if arc_of_step(circ, step) == arc {
+        return size;
     }
+    if room(circ, step) < least {
+        return size;
+    }
+    visit(circ, end, step, size)
 }
 
-/// Visits the nodes to which the arcs that leave a node lead, until the tail of `arc` is reached.
-fn scan_out(circ: &mut Circulation, arc: u32, least: u64, node: u32, size: usize) -> usize
+/// Visits the nodes to which the steps of a node's row lead, until the tail of `arc` is reached.
+fn scan(circ: &mut Circulation, arc: u32, least: u64, node: u32, size: usize) -> usize
     requires arc { arc < arcs circ.old }
     requires node { node ≤ circ.old.nodes }
     requires marked { IsReached circ.old node }
@@ -107,42 +102,16 @@ fn scan_out(circ: &mut Circulation, arc: u32, least: u64, node: u32, size: usize
     ensures kept { IsCirculation circ.new }
     ensures visited { IsVisitedBy circ.old circ.new arc least size result }
     ensures done { position_of circ.new (slice_index circ.old.from arc) ≡ 0 →
-        IsDoneOut (network circ.old) (flow_of circ.old) arc least (position_of circ.new) node (arcs circ.old) }
+        IsExpanded (network circ.old) (flow_of circ.old) arc least (position_of circ.new) node }
 {
     let tail = circ.ends(arc).from;
     let mut count = size;
-    let mut next = circ.first_out(node);
-    while let Some(via) = next {
+    for place in circ.row_first(node)..circ.row_last(node) {
         if position(circ, tail) != 0 {
             return count;
         }
-        count = try_arc(circ, arc, least, via, true, count);
-        next = circ.next_out(via);
-    }
-    count
-}
-
-/// Visits the nodes from which arcs lead to a node, backward over them, until the tail of `arc` is reached.
-fn scan_in(circ: &mut Circulation, arc: u32, least: u64, node: u32, size: usize) -> usize
-    requires arc { arc < arcs circ.old }
-    requires node { node ≤ circ.old.nodes }
-    requires marked { IsReached circ.old node }
-    requires tree { HasTree circ.old arc least size }
-    requires kept { IsCirculation circ.old }
-    ensures kept { IsCirculation circ.new }
-    ensures visited { IsVisitedBy circ.old circ.new arc least size result }
-    ensures done { position_of circ.new (slice_index circ.old.from arc) ≡ 0 →
-        IsDoneIn (network circ.old) (flow_of circ.old) arc least (position_of circ.new) node (arcs circ.old) }
-{
-    let tail = circ.ends(arc).from;
-    let mut count = size;
-    let mut next = circ.first_in(node);
-    while let Some(via) = next {
-        if position(circ, tail) != 0 {
-            return count;
-        }
-        count = try_arc(circ, arc, least, via, false, count);
-        next = circ.next_in(via);
+        let step = circ.step_at(place);
+        count = try_step(circ, arc, least, step, circ.end_at(place), count);
     }
     count
 }
@@ -192,8 +161,7 @@ fn search(circ: &mut Circulation, arc: u32, least: u64) -> usize
     let mut done = 0;
     while done < size && position(circ, tail) == 0 {
         let node = word(circ, nodes + 1 + done) as u32;
-        size = scan_out(circ, arc, least, node, size);
-        size = scan_in(circ, arc, least, node, size);
+        size = scan(circ, arc, least, node, size);
         done += 1;
     }
     size
