@@ -15,7 +15,7 @@ ghost use Rattle.circulation.specs.Contents.{arcs, flow_of, network, step_of, Is
 ghost use Rattle.circulation.specs.Network.{IsFlow};
 ghost use Rattle.circulation.specs.Residual.{arc_of, room_of, start_of, end_of, IsClosedWalk};
 ghost use Rattle.augment.specs.Search.{with_node, IsTried, IsExpanded, IsClosed, HasTree, IsVisitedBy, SameButScratch};
-ghost use Rattle.augment.specs.Raised.{HasWayOut, CanCarry, CarriesAtMost, IsGreatestCut, position_of, IsReached, SameButFlow, not_reached};
+ghost use Rattle.augment.specs.Raised.{HasWayOut, open_arcs, CanCarry, CarriesAtMost, IsGreatestCut, position_of, IsReached, SameButFlow, not_reached};
 
 use circulation::Circulation;
 use std::sync::ledger::Ledger;
@@ -276,7 +276,7 @@ fn round<L: Ledger>(
         flow_of circ.old arc + min least (want - flow_of circ.old arc) ≤ flow_of circ.new arc }
     ensures stopped { result ≡ false → SameButScratch circ.old circ.new × (searches.new ≡ searches.old) }
     ensures rise { result ≡ false →
-        CarriesAtMost (network circ.old) arc (flow_of circ.old arc + arcs circ.old * (least - 1)) }
+        CarriesAtMost (network circ.old) arc (flow_of circ.old arc + open_arcs (network circ.old) * (least - 1)) }
     ensures cut { result ≡ false → least ≡ 1 →
         IsGreatestCut (network circ.old) (flow_of circ.old) arc (not_reached circ.new) }
 {
@@ -293,7 +293,7 @@ fn round<L: Ledger>(
 }
 
 /// One phase: raises the flow over rooms of at least `least`, until it is what is wanted or no walk is
-/// left. Then it can rise by less than `least` for each arc, so the next phase has few pushes.
+/// left. Then it can rise by less than `least` for each arc that may carry anything, so the next phase has few pushes.
 fn phase<L: Ledger>(
     circ: &mut Circulation,
     arc: u32,
@@ -307,17 +307,17 @@ fn phase<L: Ledger>(
     requires limit { flow_of circ.old arc ≤ want }
     requires least { 0 < least }
     requires rise { (h : ℕ → ℕ) → IsFlow (network circ.old) h → h arc ≤ want →
-        h arc ≤ flow_of circ.old arc + arcs circ.old * (2 * least - 1) }
+        h arc ≤ flow_of circ.old arc + open_arcs (network circ.old) * (2 * least - 1) }
     requires kept { IsCirculation circ.old }
     ensures kept { IsCirculation circ.new }
     ensures rest { SameButFlow circ.old circ.new }
     ensures limit { flow_of circ.new arc ≤ want }
     ensures rises { flow_of circ.old arc ≤ flow_of circ.new arc }
     ensures left { flow_of circ.new arc < want →
-        CarriesAtMost (network circ.old) arc (flow_of circ.new arc + arcs circ.old * (least - 1)) }
+        CarriesAtMost (network circ.old) arc (flow_of circ.new arc + open_arcs (network circ.old) * (least - 1)) }
     ensures cut { flow_of circ.new arc < want → least ≡ 1 →
         IsGreatestCut (network circ.old) (flow_of circ.new) arc (not_reached circ.new) }
-    ensures cost { searches.new ≤ searches.old + (2 * arcs circ.old + 1) }
+    ensures cost { searches.new ≤ searches.old + (2 * open_arcs (network circ.old) + 1) }
 {
     while circ.flow(arc) < want {
         if !round(circ, arc, want, least, searches) {
@@ -363,7 +363,7 @@ fn run_phases<L: Ledger>(
     ensures limit { flow_of circ.new arc ≤ want }
     ensures cut { flow_of circ.new arc < want →
         IsGreatestCut (network circ.old) (flow_of circ.new) arc (not_reached circ.new) }
-    ensures cost { missing ≤ 1000000000 → searches.new ≤ searches.old + 30 * (2 * arcs circ.old + 1) }
+    ensures cost { missing ≤ 1000000000 → searches.new ≤ searches.old + 30 * (2 * open_arcs (network circ.old) + 1) }
 {
     let (first, count) = first_phase(missing);
     let mut least = first;
@@ -411,7 +411,7 @@ pub fn raise<L: Ledger>(
     ensures cut { result ≡ Raised.Stopped →
         IsGreatestCut (network circ.old) (flow_of circ.new) arc (not_reached circ.new) }
 
-    ensures cost { want ≤ 1000000000 → searches.new ≤ searches.old + 30 * (2 * arcs circ.old + 1) }
+    ensures cost { want ≤ 1000000000 → searches.new ≤ searches.old + 30 * (2 * open_arcs (network circ.old) + 1) }
 {
     let start = circ.flow(arc);
     if want <= start {
