@@ -8,7 +8,7 @@ use Rattle.place_sums.proofs.Totals.{term_le_total, total_same}
 use Rattle.cut_cert.proofs.Bounds.{carry_most, all_most}
 use Rattle.month_terms.proofs.Amounts.{want_is, want_most, nothing_used, follows_small, deliveries_small, supply_small}
 use Rattle.month_terms.proofs.Bounds.{returns_small}
-use Rattle.result_text.proofs.Whole.{IsMonth-run_month}
+use Rattle.water_model.proofs.Histories.{IsMonth-run_month}
 use Rattle.water_text.specs.Months.{IsMonth}
 use Rattle.water_model.specs.History.{IsPartialHistory, Follows, opening_after, is_zone_of}
 use Rattle.water_model.specs.Hydrology.{inflow_at, returned_at, stored_at, evaporation, in_year}

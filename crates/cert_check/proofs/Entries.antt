@@ -6,7 +6,7 @@ use Rattle.std.proofs.lemmas.Bool.{cases_eq}
 use Rattle.std.proofs.lemmas.List.{length-map, length-replicate, map-append}
 use Rattle.std.proofs.lemmas.Option.{slice_get_past}
 use Rattle.std.proofs.Math.ListN.{length-set}
-use Rattle.rights_roll.proofs.Seniors.{length-by_seniority}
+use Rattle.water_model.proofs.Order.{length-by_seniority}
 use Rattle.water_text.specs.Months.{IsMonth}
 use Rattle.water_text.specs.declared.month.Month.{Month}
 use Rattle.lag_returns.specs.Lags as lag

@@ -17,7 +17,7 @@ use Rattle.water_model.specs.declared.types.Basin.{Basin}
 use Rattle.water_model.specs.declared.types.Inflows.{Inflows}
 use Rattle.water_model.specs.declared.types.MonthRecord.{MonthRecord}
 use Rattle.water_model.specs.declared.types.Reservoir.{Reservoir}
-use Rattle.result_text.proofs.Whole.{IsMonth-run_month}
+use Rattle.water_model.proofs.Histories.{IsMonth-run_month}
 use Rattle.result_reader.specs.Telling.{Told, tell, with_member}
 use Rattle.month_terms.proofs.Adds.{no_numbers}
 use Rattle.month_terms.proofs.Amounts.{want_is, want_most}
