@@ -22,7 +22,7 @@ use Rattle.inflow_file.specs.declared.refused.SeriesRefused.{SeriesRefused}
 use Rattle.inflow_file.specs.declared.refused.SeriesRefused.TheVariants as refused
 use Rattle.inflow_file.specs.declared.refused.SeriesFault.TheVariants as fault
 use Rattle.inflow_file.proofs.DueLaws.{due_at, split, length-due, gauges}
-use Rattle.result_text.proofs.Whole.{IsMonth-run_month}
+use Rattle.water_model.proofs.Histories.{IsMonth-run_month}
 
 -- the month is one of the calendar, and the node one of the basin
 pub record IsWithin (b : Basin) (month : Month) (node : ℕ) : Type 0 where

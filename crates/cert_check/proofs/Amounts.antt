@@ -8,11 +8,14 @@ use Rattle.place_sums.proofs.Totals.{term_le_total, total_same}
 use Rattle.cut_cert.proofs.Bounds.{carry_most, all_most}
 use Rattle.month_terms.proofs.Amounts.{want_is, want_most, nothing_used, follows_small, deliveries_small, supply_small}
 use Rattle.month_terms.proofs.Bounds.{returns_small}
-use Rattle.result_text.proofs.Whole.{IsMonth-run_month}
+use Rattle.water_model.proofs.Histories.{IsMonth-run_month}
 use Rattle.water_text.specs.Months.{IsMonth}
 use Rattle.water_model.specs.History.{IsPartialHistory, Follows, opening_after, is_zone_of}
 use Rattle.water_model.specs.Hydrology.{inflow_at, returned_at, stored_at, evaporation, in_year}
 use Rattle.water_model.specs.Valid.{IsValidBasin, IsValidReservoir, IsSeriesOf}
+use Rattle.water_model.specs.Quantities.{amounts_of}
+use Rattle.water_model.specs.declared.quantity.Quantity.{Quantity}
+use Rattle.water_model.specs.declared.quantity.Quantity.TheVariants as quantity
 use Rattle.water_model.specs.declared.types.Basin.{Basin}
 use Rattle.water_model.specs.declared.types.Inflows.{Inflows}
 use Rattle.water_model.specs.declared.types.MonthRecord.{MonthRecord}
@@ -95,25 +98,10 @@ whole_supply b series before m valid fits partial f =
 pub history_amounts : (b : Basin) (series : Inflows) (before : List MonthRecord) (m : MonthRecord) → IsValidBasin b → IsSeriesOf b series → IsPartialHistory b series before →
     length before < b.months → Follows b series before m → HasTextAmounts m
 history_amounts b series before m valid fits partial left f = record {
-  opening = all_small m.opening (length b.reservoirs) f.fits.opening opening;
-  evaporated = all_small m.evaporated (length b.reservoirs) f.fits.evaporated evaporated;
-  returned = all_small m.returned (length b.nodes) f.fits.returned (λ n l. omega (
-    arith,
-    f.returned n l,
-    term_le_total (length b.nodes) (λ n. returned_at b (map (λ k. k.delivered) before) n m.index) n l,
-    returns_small b (map (λ k. k.delivered) before) m.index valid (deliveries_small b series before valid partial),
-  ));
-  used = all_small m.used (length b.rights) f.fits.used (λ r l. omega (arith, f.used r l, nothing_used b (map (λ k. k.delivered) before) r m.index valid l));
-  flow = all_small m.plan.flow (length b.links) f.plan.flow_len (λ e l. omega (arith, f.plan.carries e l, carry_most b m.month e valid month l));
-  delivered = all_small m.delivered (length b.rights) f.fits.delivered (λ r l. omega (arith, (follows_small b series before m valid f).delivered r));
+  listed = listed;
+  delivered = all_small m.delivered (length b.rights) f.fits.delivered
+      (λ r l. omega (arith, (follows_small b series before m valid f).delivered r));
   want = all_small m.want (length b.rights) f.fits.want (λ r l. omega (arith, wanted r l));
-  out = all_small m.plan.out (length b.nodes) f.plan.out_len (λ n l. omega (
-    arith,
-    term_le_total (length b.nodes) (λ n. slice_index m.plan.out n) n l,
-    plan_balance b m.month m.supply m.want m.plan valid f.plan,
-    whole_supply b series before m valid fits partial f,
-  ));
-  closing = all_small m.closing (length b.reservoirs) f.fits.closing (closing_small b series before m valid f);
 }
   where
     month : IsMonth m.month
@@ -131,6 +119,27 @@ history_amounts b series before m valid fits partial left f = record {
 
     wanted : (r : ℕ) → r < length b.rights → slice_index m.want r ≤ 10 ^ 9
     wanted r l = rw (f.want r l ∙ want_is b series r m.index (slice_index m.used r) valid l) (want_most b _ r valid l)
+
+    listed : (q : Quantity) → AreTextAmounts (amounts_of q m)
+    listed quantity.Opening = all_small m.opening (length b.reservoirs) f.fits.opening opening
+    listed quantity.Evaporated = all_small m.evaporated (length b.reservoirs) f.fits.evaporated evaporated
+    listed quantity.Returned = all_small m.returned (length b.nodes) f.fits.returned (λ n l. omega (
+      arith,
+      f.returned n l,
+      term_le_total (length b.nodes) (λ n. returned_at b (map (λ k. k.delivered) before) n m.index) n l,
+      returns_small b (map (λ k. k.delivered) before) m.index valid (deliveries_small b series before valid partial),
+    ))
+    listed quantity.Used = all_small m.used (length b.rights) f.fits.used
+        (λ r l. omega (arith, f.used r l, nothing_used b (map (λ k. k.delivered) before) r m.index valid l))
+    listed quantity.Flow = all_small m.plan.flow (length b.links) f.plan.flow_len
+        (λ e l. omega (arith, f.plan.carries e l, carry_most b m.month e valid month l))
+    listed quantity.Outflow = all_small m.plan.out (length b.nodes) f.plan.out_len (λ n l. omega (
+      arith,
+      term_le_total (length b.nodes) (λ n. slice_index m.plan.out n) n l,
+      plan_balance b m.month m.supply m.want m.plan valid f.plan,
+      whole_supply b series before m valid fits partial f,
+    ))
+    listed quantity.Closing = all_small m.closing (length b.reservoirs) f.fits.closing (closing_small b series before m valid f)
 
 -- the records of a history are such as a text tells
 pub history_texts : (b : Basin) (series : Inflows) (records : List MonthRecord) → IsValidBasin b → IsSeriesOf b series → IsPartialHistory b series records → AreTextMonths b series records

@@ -135,7 +135,7 @@ none_missing b t i h r l short passed = by_set (cut_of t.now r) refl (over (plac
 call_good : (b : Basin) (series : Inflows) (t : Told) (r : ℕ) → IsSettled b series t → is_short t.now r ≡ true →
     ((s : ℕ) → s < length b.rights → is_short t.now s ≡ true → cut_of t.now s ≡ None → is_senior b s r ≡ true → ⊥) → NoneHolds (rows b series t (line.Call r))
 call_good b series t r settled short passed =
-    (loose_fails b series t (line.Call r) settled, (missing_fails b t (line.Call r) passed, (ap not short, (refl, (refl, (refl, (refl, (refl, (refl, (refl, (refl, (refl, (refl, tt)))))))))))))
+    (loose_fails b series t (line.Call r) settled, (missing_fails b t (line.Call r) passed, (ap not short, (refl, tt))))
 
 -- what stays from call to call: the sets of the rights that had their place
 pub record Calling (b : Basin) (series : Inflows) (m : MonthRecord) (xs : List ℕ) (t : Told) : Type 0 where

@@ -5,7 +5,7 @@ use Rattle.std.proofs.lemmas.Bool.Decides.{nat_tests}
 use Rattle.std.proofs.lemmas.Grind.{flat_map-append}
 use Rattle.std.proofs.lemmas.List.{take_all}
 use Rattle.std.proofs.lemmas.Option.{slice_get_past}
-use Rattle.rights_roll.proofs.Seniors.{length-by_seniority}
+use Rattle.water_model.proofs.Order.{length-by_seniority}
 use Rattle.water_model.specs.Places.{seniors_first}
 use Rattle.water_model.specs.Text.{calling_right}
 use Rattle.water_model.specs.declared.types.Basin.{Basin}

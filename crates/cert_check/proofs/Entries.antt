@@ -1,37 +1,39 @@
 -- An account keeps what is told with one line more.
 use Rattle.std.proofs.Common.{◌≡◌, ℕ, zero, suc, ◌+◌, ◌<◌, ◌≤◌, Bool, true, false, refl, sym, ap, ◌∙◌, arith, inl, inr, List, [], ◌∷◌, ◌++◌, length, map, replicate, take, length-append}
-use Rattle.std.specs.Prelude.{Option, Some, None, IsSome, ◌&&◌, ◌||◌, not, is_none, is_some, slice_set, slice_get, option_map, if◌then◌else◌}
+use Rattle.std.specs.Prelude.{Option, Some, None, IsSome, ◌&&◌, ◌||◌, not, is_none, is_some, slice_index, slice_set, slice_get, option_map, if◌then◌else◌}
 use Rattle.std.specs.List.{list_any}
 use Rattle.std.proofs.lemmas.Bool.{cases_eq}
 use Rattle.std.proofs.lemmas.List.{length-map, length-replicate, map-append}
 use Rattle.std.proofs.lemmas.Option.{slice_get_past}
 use Rattle.std.proofs.Math.ListN.{length-set}
-use Rattle.rights_roll.proofs.Seniors.{length-by_seniority}
+use Rattle.water_model.proofs.Order.{length-by_seniority}
 use Rattle.water_text.specs.Months.{IsMonth}
 use Rattle.water_text.specs.declared.month.Month.{Month}
 use Rattle.lag_returns.specs.Lags as lag
+use Rattle.place_sums.specs.Sums.{total_where}
 use Rattle.lag_returns.specs.Lags.{OnTheWay}
 use Rattle.month_terms.specs.Terms.{HasReturned}
 use Rattle.water_model.specs.Basin.{taking_node}
 use Rattle.water_model.specs.CutSets.{CutSets, set_of, with_set, with_room, without_sets, has_room}
-use Rattle.water_model.specs.History.{cut_of}
+use Rattle.water_model.specs.History.{cut_of, is_zone_of}
 use Rattle.water_model.specs.Hydrology.{returned_at}
 use Rattle.water_model.specs.Lookups.{has}
 use Rattle.water_model.specs.Places.{seniors_first}
-use Rattle.water_model.specs.Text.{calls, calling_right}
 use Rattle.water_model.specs.declared.item.Item.{Item}
 use Rattle.water_model.specs.declared.item.Item.TheVariants as line
+use Rattle.water_model.specs.declared.quantity.Quantity.{Quantity}
 use Rattle.water_model.specs.declared.types.Basin.{Basin}
 use Rattle.water_model.specs.declared.types.Inflows.{Inflows}
 use Rattle.water_model.specs.declared.types.MonthRecord.{MonthRecord}
 use Rattle.result_reader.specs.Telling.{Told, tell, with_supply, with_member}
 use Rattle.cert_check.specs.Checking.{first_row, is_short, is_due, callers_due}
-use Rattle.cert_check.specs.Keeping.{Keeps, lacks_call, callers_of}
+use Rattle.cert_check.specs.Keeping.{Keeps, callers_of, is_supplied, lacks_call}
 use Rattle.cert_check.specs.Shows.{Shows}
 use Rattle.cert_check.specs.Walks.{IsDueFrom, behind}
 use Rattle.cert_check.specs.declared.account.Account.{Account}
 use Rattle.cert_check.specs.declared.answering.Due.{Due}
 use Rattle.cert_check.proofs.Calls.{set_here, set_apart}
+use Rattle.cert_check.proofs.Fitting.{Stays, callers_same, callers_stay, fits_amount, fits_behind, fits_same, lacks_stay, shows_amount, stays, supply_stays, with_amount}
 use Rattle.cert_check.proofs.Rows.{good_row}
 use Rattle.cert_check.proofs.Supplies.{length-supply}
 use Rattle.cert_check.proofs.RunSound.{opens_with_last}
@@ -42,447 +44,48 @@ clash e = cc
 no_right : {X : Type 0} (r : ℕ) → None ≡ Some r → X
 no_right r e = cc
 
--- callers follow from deliveries, wants and sets
-pub callers_same : (b : Basin) (m n : MonthRecord) → m.delivered ≡ n.delivered → m.want ≡ n.want → m.cuts.sets ≡ n.cuts.sets → (xs : List ℕ) →
-    callers_of b m xs ≡ callers_of b n xs
-unfolding calling_right calls
-callers_same b m n d w s xs = rw (d, w, s) refl
-
--- an `open` line
-pub keeps_opening : (b : Basin) (series : Inflows) (a : Account) (t : Told) (x amount : ℕ) → Keeps b series a t →
-    Keeps b series (record a { month = record a.month { opening = slice_set a.month.opening x amount }; calling = None; has_supply = false }) (tell b series t (line.Opening x amount))
-keeps_opening b series a t x amount k = record {
-  fits = record {
-    month = record {
-      fits = record {
-        opening = length-set a.month.opening x amount ∙ k.fits.month.fits.opening;
-        evaporated = k.fits.month.fits.evaporated;
-        closing = k.fits.month.fits.closing;
-        returned = k.fits.month.fits.returned;
-        supply = k.fits.month.fits.supply;
-        used = k.fits.month.fits.used;
-        want = k.fits.month.fits.want;
-        delivered = k.fits.month.fits.delivered;
-        cuts = k.fits.month.fits.cuts;
-        cut_nodes = k.fits.month.fits.cut_nodes;
-      };
-      flow = k.fits.month.flow;
-      take = k.fits.month.take;
-      out = k.fits.month.out;
-    };
-    calendar = k.fits.calendar;
-    room = k.fits.room;
-    opens = k.fits.opens;
-    comes = k.fits.comes;
-    closes = k.fits.closes;
-    into = k.fits.into;
-    out_of = k.fits.out_of;
-    calling = λ r e. no_right r e;
-    passed = k.fits.passed;
-    answered = k.fits.answered;
-  };
-  shows = record {
-    index = k.shows.index;
-    month = k.shows.month;
-    opening = ap (λ xs. slice_set xs x amount) k.shows.opening;
-    evaporated = k.shows.evaporated;
-    returned = k.shows.returned;
-    used = k.shows.used;
-    want = k.shows.want;
-    flow = k.shows.flow;
-    take = k.shows.take;
-    out = k.shows.out;
-    delivered = k.shows.delivered;
-    sets = k.shows.sets;
-    closing = k.shows.closing;
-  };
+-- the line of an amount
+pub keeps_amount : (b : Basin) (series : Inflows) (a : Account) (t : Told) (q : Quantity) (x amount : ℕ) →
+    Keeps b series a t →
+    Keeps b series (record a {
+      month = with_amount q x amount a.month;
+      calling = None;
+      has_supply = a.has_supply && not (is_supplied q);
+    }) (tell b series t (line.Amount q x amount))
+keeps_amount b series a t q x amount k = record {
+  fits = fits_behind b a (with_amount q x amount a.month) (a.has_supply && not (is_supplied q)) a.has_closes a.passed
+      a.answered k.fits (fits_amount b q x amount a.month k.fits.month) (rw own.month k.fits.calendar)
+      (λ r l. ap (λ cuts. has_room cuts r) own.cuts ∙ k.fits.room r l) k.fits.passed k.fits.answered;
+  shows = shows_amount q x amount a.month t.now k.shows;
   calling = refl;
   done = k.done;
   lags = k.lags;
   opens = k.opens;
   comes = k.comes;
-  supply = λ e. clash e;
-  closes = k.closes;
-  passed = k.passed;
-  answered = k.answered ∙ ap length (callers_same b t.now (record t.now { opening = slice_set t.now.opening x amount }) refl refl refl (take a.answered (seniors_first b)));
+  supply = supply_stays b series q x amount a.month t.now a.has_supply k.supply;
+  closes = λ e v l. k.closes e v l
+      ∙ ap (λ takes. total_where (length b.rights) (λ r. is_zone_of b r v) (λ r. slice_index takes r)) (sym told.take);
+  passed = lacks_stay t.now (with_amount q x amount t.now) told (take a.passed (seniors_first b)) ∙ k.passed;
+  answered = k.answered
+      ∙ ap length (callers_stay b t.now (with_amount q x amount t.now) told (take a.answered (seniors_first b)));
 }
+  where
+    own : Stays a.month (with_amount q x amount a.month)
+    own = stays q x amount a.month
 
--- an `evap` line
-pub keeps_evaporated : (b : Basin) (series : Inflows) (a : Account) (t : Told) (x amount : ℕ) → Keeps b series a t →
-    Keeps b series (record a { month = record a.month { evaporated = slice_set a.month.evaporated x amount }; calling = None; has_supply = false }) (tell b series t (line.Evaporated x amount))
-keeps_evaporated b series a t x amount k = record {
-  fits = record {
-    month = record {
-      fits = record {
-        opening = k.fits.month.fits.opening;
-        evaporated = length-set a.month.evaporated x amount ∙ k.fits.month.fits.evaporated;
-        closing = k.fits.month.fits.closing;
-        returned = k.fits.month.fits.returned;
-        supply = k.fits.month.fits.supply;
-        used = k.fits.month.fits.used;
-        want = k.fits.month.fits.want;
-        delivered = k.fits.month.fits.delivered;
-        cuts = k.fits.month.fits.cuts;
-        cut_nodes = k.fits.month.fits.cut_nodes;
-      };
-      flow = k.fits.month.flow;
-      take = k.fits.month.take;
-      out = k.fits.month.out;
-    };
-    calendar = k.fits.calendar;
-    room = k.fits.room;
-    opens = k.fits.opens;
-    comes = k.fits.comes;
-    closes = k.fits.closes;
-    into = k.fits.into;
-    out_of = k.fits.out_of;
-    calling = λ r e. no_right r e;
-    passed = k.fits.passed;
-    answered = k.fits.answered;
-  };
-  shows = record {
-    index = k.shows.index;
-    month = k.shows.month;
-    opening = k.shows.opening;
-    evaporated = ap (λ xs. slice_set xs x amount) k.shows.evaporated;
-    returned = k.shows.returned;
-    used = k.shows.used;
-    want = k.shows.want;
-    flow = k.shows.flow;
-    take = k.shows.take;
-    out = k.shows.out;
-    delivered = k.shows.delivered;
-    sets = k.shows.sets;
-    closing = k.shows.closing;
-  };
-  calling = refl;
-  done = k.done;
-  lags = k.lags;
-  opens = k.opens;
-  comes = k.comes;
-  supply = λ e. clash e;
-  closes = k.closes;
-  passed = k.passed;
-  answered = k.answered ∙ ap length (callers_same b t.now (record t.now { evaporated = slice_set t.now.evaporated x amount }) refl refl refl (take a.answered (seniors_first b)));
-}
-
--- a `return` line
-pub keeps_returned : (b : Basin) (series : Inflows) (a : Account) (t : Told) (x amount : ℕ) → Keeps b series a t →
-    Keeps b series (record a { month = record a.month { returned = slice_set a.month.returned x amount }; calling = None; has_supply = false }) (tell b series t (line.Returned x amount))
-keeps_returned b series a t x amount k = record {
-  fits = record {
-    month = record {
-      fits = record {
-        opening = k.fits.month.fits.opening;
-        evaporated = k.fits.month.fits.evaporated;
-        closing = k.fits.month.fits.closing;
-        returned = length-set a.month.returned x amount ∙ k.fits.month.fits.returned;
-        supply = k.fits.month.fits.supply;
-        used = k.fits.month.fits.used;
-        want = k.fits.month.fits.want;
-        delivered = k.fits.month.fits.delivered;
-        cuts = k.fits.month.fits.cuts;
-        cut_nodes = k.fits.month.fits.cut_nodes;
-      };
-      flow = k.fits.month.flow;
-      take = k.fits.month.take;
-      out = k.fits.month.out;
-    };
-    calendar = k.fits.calendar;
-    room = k.fits.room;
-    opens = k.fits.opens;
-    comes = k.fits.comes;
-    closes = k.fits.closes;
-    into = k.fits.into;
-    out_of = k.fits.out_of;
-    calling = λ r e. no_right r e;
-    passed = k.fits.passed;
-    answered = k.fits.answered;
-  };
-  shows = record {
-    index = k.shows.index;
-    month = k.shows.month;
-    opening = k.shows.opening;
-    evaporated = k.shows.evaporated;
-    returned = ap (λ xs. slice_set xs x amount) k.shows.returned;
-    used = k.shows.used;
-    want = k.shows.want;
-    flow = k.shows.flow;
-    take = k.shows.take;
-    out = k.shows.out;
-    delivered = k.shows.delivered;
-    sets = k.shows.sets;
-    closing = k.shows.closing;
-  };
-  calling = refl;
-  done = k.done;
-  lags = k.lags;
-  opens = k.opens;
-  comes = k.comes;
-  supply = λ e. clash e;
-  closes = k.closes;
-  passed = k.passed;
-  answered = k.answered ∙ ap length (callers_same b t.now (record t.now { returned = slice_set t.now.returned x amount }) refl refl refl (take a.answered (seniors_first b)));
-}
-
--- a `used` line
-pub keeps_used : (b : Basin) (series : Inflows) (a : Account) (t : Told) (x amount : ℕ) → Keeps b series a t →
-    Keeps b series (record a { month = record a.month { used = slice_set a.month.used x amount }; calling = None }) (tell b series t (line.Used x amount))
-keeps_used b series a t x amount k = record {
-  fits = record {
-    month = record {
-      fits = record {
-        opening = k.fits.month.fits.opening;
-        evaporated = k.fits.month.fits.evaporated;
-        closing = k.fits.month.fits.closing;
-        returned = k.fits.month.fits.returned;
-        supply = k.fits.month.fits.supply;
-        used = length-set a.month.used x amount ∙ k.fits.month.fits.used;
-        want = k.fits.month.fits.want;
-        delivered = k.fits.month.fits.delivered;
-        cuts = k.fits.month.fits.cuts;
-        cut_nodes = k.fits.month.fits.cut_nodes;
-      };
-      flow = k.fits.month.flow;
-      take = k.fits.month.take;
-      out = k.fits.month.out;
-    };
-    calendar = k.fits.calendar;
-    room = k.fits.room;
-    opens = k.fits.opens;
-    comes = k.fits.comes;
-    closes = k.fits.closes;
-    into = k.fits.into;
-    out_of = k.fits.out_of;
-    calling = λ r e. no_right r e;
-    passed = k.fits.passed;
-    answered = k.fits.answered;
-  };
-  shows = record {
-    index = k.shows.index;
-    month = k.shows.month;
-    opening = k.shows.opening;
-    evaporated = k.shows.evaporated;
-    returned = k.shows.returned;
-    used = ap (λ xs. slice_set xs x amount) k.shows.used;
-    want = k.shows.want;
-    flow = k.shows.flow;
-    take = k.shows.take;
-    out = k.shows.out;
-    delivered = k.shows.delivered;
-    sets = k.shows.sets;
-    closing = k.shows.closing;
-  };
-  calling = refl;
-  done = k.done;
-  lags = k.lags;
-  opens = k.opens;
-  comes = k.comes;
-  supply = k.supply;
-  closes = k.closes;
-  passed = k.passed;
-  answered = k.answered ∙ ap length (callers_same b t.now (record t.now { used = slice_set t.now.used x amount }) refl refl refl (take a.answered (seniors_first b)));
-}
-
--- a `flow` line
-pub keeps_flow : (b : Basin) (series : Inflows) (a : Account) (t : Told) (x amount : ℕ) → Keeps b series a t →
-    Keeps b series (record a { month = record a.month { plan = record a.month.plan { flow = slice_set a.month.plan.flow x amount } }; calling = None }) (tell b series t (line.Flow x amount))
-keeps_flow b series a t x amount k = record {
-  fits = record {
-    month = record {
-      fits = record {
-        opening = k.fits.month.fits.opening;
-        evaporated = k.fits.month.fits.evaporated;
-        closing = k.fits.month.fits.closing;
-        returned = k.fits.month.fits.returned;
-        supply = k.fits.month.fits.supply;
-        used = k.fits.month.fits.used;
-        want = k.fits.month.fits.want;
-        delivered = k.fits.month.fits.delivered;
-        cuts = k.fits.month.fits.cuts;
-        cut_nodes = k.fits.month.fits.cut_nodes;
-      };
-      flow = length-set a.month.plan.flow x amount ∙ k.fits.month.flow;
-      take = k.fits.month.take;
-      out = k.fits.month.out;
-    };
-    calendar = k.fits.calendar;
-    room = k.fits.room;
-    opens = k.fits.opens;
-    comes = k.fits.comes;
-    closes = k.fits.closes;
-    into = k.fits.into;
-    out_of = k.fits.out_of;
-    calling = λ r e. no_right r e;
-    passed = k.fits.passed;
-    answered = k.fits.answered;
-  };
-  shows = record {
-    index = k.shows.index;
-    month = k.shows.month;
-    opening = k.shows.opening;
-    evaporated = k.shows.evaporated;
-    returned = k.shows.returned;
-    used = k.shows.used;
-    want = k.shows.want;
-    flow = ap (λ xs. slice_set xs x amount) k.shows.flow;
-    take = k.shows.take;
-    out = k.shows.out;
-    delivered = k.shows.delivered;
-    sets = k.shows.sets;
-    closing = k.shows.closing;
-  };
-  calling = refl;
-  done = k.done;
-  lags = k.lags;
-  opens = k.opens;
-  comes = k.comes;
-  supply = k.supply;
-  closes = k.closes;
-  passed = k.passed;
-  answered = k.answered ∙ ap length (callers_same b t.now (record t.now { plan = record t.now.plan { flow = slice_set t.now.plan.flow x amount } }) refl refl refl (take a.answered (seniors_first b)));
-}
-
--- an `out` line
-pub keeps_outflow : (b : Basin) (series : Inflows) (a : Account) (t : Told) (x amount : ℕ) → Keeps b series a t →
-    Keeps b series (record a { month = record a.month { plan = record a.month.plan { out = slice_set a.month.plan.out x amount } }; calling = None }) (tell b series t (line.Outflow x amount))
-keeps_outflow b series a t x amount k = record {
-  fits = record {
-    month = record {
-      fits = record {
-        opening = k.fits.month.fits.opening;
-        evaporated = k.fits.month.fits.evaporated;
-        closing = k.fits.month.fits.closing;
-        returned = k.fits.month.fits.returned;
-        supply = k.fits.month.fits.supply;
-        used = k.fits.month.fits.used;
-        want = k.fits.month.fits.want;
-        delivered = k.fits.month.fits.delivered;
-        cuts = k.fits.month.fits.cuts;
-        cut_nodes = k.fits.month.fits.cut_nodes;
-      };
-      flow = k.fits.month.flow;
-      take = k.fits.month.take;
-      out = length-set a.month.plan.out x amount ∙ k.fits.month.out;
-    };
-    calendar = k.fits.calendar;
-    room = k.fits.room;
-    opens = k.fits.opens;
-    comes = k.fits.comes;
-    closes = k.fits.closes;
-    into = k.fits.into;
-    out_of = k.fits.out_of;
-    calling = λ r e. no_right r e;
-    passed = k.fits.passed;
-    answered = k.fits.answered;
-  };
-  shows = record {
-    index = k.shows.index;
-    month = k.shows.month;
-    opening = k.shows.opening;
-    evaporated = k.shows.evaporated;
-    returned = k.shows.returned;
-    used = k.shows.used;
-    want = k.shows.want;
-    flow = k.shows.flow;
-    take = k.shows.take;
-    out = ap (λ xs. slice_set xs x amount) k.shows.out;
-    delivered = k.shows.delivered;
-    sets = k.shows.sets;
-    closing = k.shows.closing;
-  };
-  calling = refl;
-  done = k.done;
-  lags = k.lags;
-  opens = k.opens;
-  comes = k.comes;
-  supply = k.supply;
-  closes = k.closes;
-  passed = k.passed;
-  answered = k.answered ∙ ap length (callers_same b t.now (record t.now { plan = record t.now.plan { out = slice_set t.now.plan.out x amount } }) refl refl refl (take a.answered (seniors_first b)));
-}
-
--- a `close` line
-pub keeps_closing : (b : Basin) (series : Inflows) (a : Account) (t : Told) (x amount : ℕ) → Keeps b series a t →
-    Keeps b series (record a { month = record a.month { closing = slice_set a.month.closing x amount }; calling = None }) (tell b series t (line.Closing x amount))
-keeps_closing b series a t x amount k = record {
-  fits = record {
-    month = record {
-      fits = record {
-        opening = k.fits.month.fits.opening;
-        evaporated = k.fits.month.fits.evaporated;
-        closing = length-set a.month.closing x amount ∙ k.fits.month.fits.closing;
-        returned = k.fits.month.fits.returned;
-        supply = k.fits.month.fits.supply;
-        used = k.fits.month.fits.used;
-        want = k.fits.month.fits.want;
-        delivered = k.fits.month.fits.delivered;
-        cuts = k.fits.month.fits.cuts;
-        cut_nodes = k.fits.month.fits.cut_nodes;
-      };
-      flow = k.fits.month.flow;
-      take = k.fits.month.take;
-      out = k.fits.month.out;
-    };
-    calendar = k.fits.calendar;
-    room = k.fits.room;
-    opens = k.fits.opens;
-    comes = k.fits.comes;
-    closes = k.fits.closes;
-    into = k.fits.into;
-    out_of = k.fits.out_of;
-    calling = λ r e. no_right r e;
-    passed = k.fits.passed;
-    answered = k.fits.answered;
-  };
-  shows = record {
-    index = k.shows.index;
-    month = k.shows.month;
-    opening = k.shows.opening;
-    evaporated = k.shows.evaporated;
-    returned = k.shows.returned;
-    used = k.shows.used;
-    want = k.shows.want;
-    flow = k.shows.flow;
-    take = k.shows.take;
-    out = k.shows.out;
-    delivered = k.shows.delivered;
-    sets = k.shows.sets;
-    closing = ap (λ xs. slice_set xs x amount) k.shows.closing;
-  };
-  calling = refl;
-  done = k.done;
-  lags = k.lags;
-  opens = k.opens;
-  comes = k.comes;
-  supply = k.supply;
-  closes = k.closes;
-  passed = k.passed;
-  answered = k.answered ∙ ap length (callers_same b t.now (record t.now { closing = slice_set t.now.closing x amount }) refl refl refl (take a.answered (seniors_first b)));
-}
+    told : Stays t.now (with_amount q x amount t.now)
+    told = stays q x amount t.now
 
 -- a `deliver` line, before the `called` lines
 pub keeps_delivery : (b : Basin) (series : Inflows) (a : Account) (t : Told) (x amount want : ℕ) → t.called ≡ 0 → Keeps b series a t →
     Keeps b series (record a { month = record a.month { delivered = slice_set a.month.delivered x amount; want = slice_set a.month.want x want; plan = record a.month.plan { take = slice_set a.month.plan.take x (if is_some (taking_node b x) then amount else 0) } }; calling = None; has_closes = false; passed = 0; answered = 0 }) (tell b series t (line.Deliver x amount want))
 keeps_delivery b series a t x amount want none k = record {
   fits = record {
-    month = record {
-      fits = record {
-        opening = k.fits.month.fits.opening;
-        evaporated = k.fits.month.fits.evaporated;
-        closing = k.fits.month.fits.closing;
-        returned = k.fits.month.fits.returned;
-        supply = k.fits.month.fits.supply;
-        used = k.fits.month.fits.used;
-        want = length-set a.month.want x want ∙ k.fits.month.fits.want;
-        delivered = length-set a.month.delivered x amount ∙ k.fits.month.fits.delivered;
-        cuts = k.fits.month.fits.cuts;
-        cut_nodes = k.fits.month.fits.cut_nodes;
-      };
-      flow = k.fits.month.flow;
-      take = length-set a.month.plan.take x (if is_some (taking_node b x) then amount else 0) ∙ k.fits.month.take;
-      out = k.fits.month.out;
-    };
+    month = fits_same b a.month _ (rw (
+      length-set a.month.delivered x amount,
+      length-set a.month.want x want,
+      length-set a.month.plan.take x (if is_some (taking_node b x) then amount else 0),
+    ) refl) k.fits.month;
     calendar = k.fits.calendar;
     room = k.fits.room;
     opens = k.fits.opens;
@@ -647,23 +250,8 @@ pub keeps_call : (b : Basin) (series : Inflows) (a : Account) (t : Told) (x : �
     Keeps b series (record a { month = record a.month { cuts = with_room (with_set a.month.cuts x (Some (replicate a.month.cuts.nodes false))) x }; calling = Some x; answered = 0 }) (tell b series t (line.Call x))
 keeps_call b series a t x l none k = record {
   fits = record {
-    month = record {
-      fits = record {
-        opening = k.fits.month.fits.opening;
-        evaporated = k.fits.month.fits.evaporated;
-        closing = k.fits.month.fits.closing;
-        returned = k.fits.month.fits.returned;
-        supply = k.fits.month.fits.supply;
-        used = k.fits.month.fits.used;
-        want = k.fits.month.fits.want;
-        delivered = k.fits.month.fits.delivered;
-        cuts = length-set a.month.cuts.sets x (Some (replicate a.month.cuts.nodes false)) ∙ k.fits.month.fits.cuts;
-        cut_nodes = k.fits.month.fits.cut_nodes;
-      };
-      flow = k.fits.month.flow;
-      take = k.fits.month.take;
-      out = k.fits.month.out;
-    };
+    month = fits_same b a.month _ (rw (length-set a.month.cuts.sets x (Some (replicate a.month.cuts.nodes false))) refl)
+        k.fits.month;
     calendar = k.fits.calendar;
     room = λ r h. room_more a.month.cuts x r (k.fits.room r h);
     opens = k.fits.opens;
@@ -738,23 +326,7 @@ keeps_own : (b : Basin) (series : Inflows) (a : Account) (t : Told) (node r : �
     Keeps b series a t → Keeps b series (record a { month = record a.month { cuts = with_set a.month.cuts r (Some (slice_set set node true)) }; answered = 0 }) (with_member t (Some r) node)
 keeps_own b series a t node r set none within is k = record {
   fits = record {
-    month = record {
-      fits = record {
-        opening = k.fits.month.fits.opening;
-        evaporated = k.fits.month.fits.evaporated;
-        closing = k.fits.month.fits.closing;
-        returned = k.fits.month.fits.returned;
-        supply = k.fits.month.fits.supply;
-        used = k.fits.month.fits.used;
-        want = k.fits.month.fits.want;
-        delivered = k.fits.month.fits.delivered;
-        cuts = length-set a.month.cuts.sets r (Some (slice_set set node true)) ∙ k.fits.month.fits.cuts;
-        cut_nodes = k.fits.month.fits.cut_nodes;
-      };
-      flow = k.fits.month.flow;
-      take = k.fits.month.take;
-      out = k.fits.month.out;
-    };
+    month = fits_same b a.month _ (rw (length-set a.month.cuts.sets r (Some (slice_set set node true))) refl) k.fits.month;
     calendar = k.fits.calendar;
     room = k.fits.room;
     opens = k.fits.opens;
@@ -828,23 +400,7 @@ pub keeps_called : (b : Basin) (series : Inflows) (a : Account) (t : Told) (x ca
     Keeps b series (record a { calling = None; answered = next }) (tell b series t (line.Called x caller))
 keeps_called b series a t x caller next l more k = record {
   fits = record {
-    month = record {
-      fits = record {
-        opening = k.fits.month.fits.opening;
-        evaporated = k.fits.month.fits.evaporated;
-        closing = k.fits.month.fits.closing;
-        returned = k.fits.month.fits.returned;
-        supply = k.fits.month.fits.supply;
-        used = k.fits.month.fits.used;
-        want = k.fits.month.fits.want;
-        delivered = k.fits.month.fits.delivered;
-        cuts = k.fits.month.fits.cuts;
-        cut_nodes = k.fits.month.fits.cut_nodes;
-      };
-      flow = k.fits.month.flow;
-      take = k.fits.month.take;
-      out = k.fits.month.out;
-    };
+    month = k.fits.month;
     calendar = k.fits.calendar;
     room = k.fits.room;
     opens = k.fits.opens;
@@ -856,21 +412,7 @@ keeps_called b series a t x caller next l more k = record {
     passed = k.fits.passed;
     answered = l;
   };
-  shows = record {
-    index = k.shows.index;
-    month = k.shows.month;
-    opening = k.shows.opening;
-    evaporated = k.shows.evaporated;
-    returned = k.shows.returned;
-    used = k.shows.used;
-    want = k.shows.want;
-    flow = k.shows.flow;
-    take = k.shows.take;
-    out = k.shows.out;
-    delivered = k.shows.delivered;
-    sets = k.shows.sets;
-    closing = k.shows.closing;
-  };
+  shows = k.shows;
   calling = refl;
   done = k.done;
   lags = k.lags;
@@ -895,23 +437,7 @@ pub keeps_end : (b : Basin) (series : Inflows) (a : Account) (t : Told) (lags : 
     Keeps b series (record a { done = a.done + 1; lags = lags; opens = a.month.closing; comes = comes; calling = None }) (tell b series t (line.End))
 keeps_end b series a t lags comes stands back k = record {
   fits = record {
-    month = record {
-      fits = record {
-        opening = k.fits.month.fits.opening;
-        evaporated = k.fits.month.fits.evaporated;
-        closing = k.fits.month.fits.closing;
-        returned = k.fits.month.fits.returned;
-        supply = k.fits.month.fits.supply;
-        used = k.fits.month.fits.used;
-        want = k.fits.month.fits.want;
-        delivered = k.fits.month.fits.delivered;
-        cuts = k.fits.month.fits.cuts;
-        cut_nodes = k.fits.month.fits.cut_nodes;
-      };
-      flow = k.fits.month.flow;
-      take = k.fits.month.take;
-      out = k.fits.month.out;
-    };
+    month = k.fits.month;
     calendar = k.fits.calendar;
     room = k.fits.room;
     opens = k.fits.month.fits.closing;
@@ -923,21 +449,7 @@ keeps_end b series a t lags comes stands back k = record {
     passed = k.fits.passed;
     answered = k.fits.answered;
   };
-  shows = record {
-    index = k.shows.index;
-    month = k.shows.month;
-    opening = k.shows.opening;
-    evaporated = k.shows.evaporated;
-    returned = k.shows.returned;
-    used = k.shows.used;
-    want = k.shows.want;
-    flow = k.shows.flow;
-    take = k.shows.take;
-    out = k.shows.out;
-    delivered = k.shows.delivered;
-    sets = k.shows.sets;
-    closing = k.shows.closing;
-  };
+  shows = k.shows;
   calling = refl;
   done = omega (arith, k.done, length-append t.months (with_supply b series t.now ∷ []));
   lags = rw (delivered_more b series a t k) stands;
@@ -980,7 +492,7 @@ keeps_next b series a t x caller (Some due) k good next =
 pub along : (b : Basin) (series : Inflows) (t : Told) (a c : Account) (x y : Item) → x ≡ y → c ≡ a → Keeps b series a (tell b series t y) → Keeps b series c (tell b series t x)
 along b series t a c x y e f k = rw (e, f) k
 
-same_supply : (b : Basin) (series : Inflows) (m : MonthRecord) (t : Told) → Shows m t → (with_supply b series m).supply ≡ (with_supply b series t.now).supply
+same_supply : (b : Basin) (series : Inflows) (m : MonthRecord) (t : Told) → Shows m t.now → (with_supply b series m).supply ≡ (with_supply b series t.now).supply
 same_supply b series m t s = rw (s.index, s.returned, s.opening, s.evaporated) refl
 
 -- the supply that is told is made

@@ -2,13 +2,12 @@
 use Rattle.std.proofs.Common.{◌≡◌, Bool, true, false, refl, List, [], ◌∷◌, ◌++◌}
 use Rattle.std.specs.Prelude.{Some, None, find, option_map, if◌then◌else◌}
 use Rattle.water_model.specs.declared.item.Item.{Item}
-use Rattle.water_model.specs.declared.item.Item.TheVariants as line
 use Rattle.water_model.specs.declared.types.Basin.{Basin}
 use Rattle.water_model.specs.declared.types.Inflows.{Inflows}
 use Rattle.result_reader.specs.Telling.{Told}
 use Rattle.cert_check.specs.Checking.{Row, rows, first_row}
 use Rattle.cert_check.specs.Coming.{Awaits, HasMonth, HasTold, is_within}
-use Rattle.cert_check.specs.FirstRows.{first_of, amount_rows, sum_rows}
+use Rattle.cert_check.specs.FirstRows.{first_of}
 use Rattle.cert_check.specs.Keeping.{Keeps}
 use Rattle.cert_check.specs.declared.account.Account.{Account}
 use Rattle.cert_check.specs.declared.refuted.RefutedKind.{RefutedKind}
@@ -36,25 +35,6 @@ pub none_first : (xs ys : List Row) → first_of xs ≡ None → first_of (xs ++
 none_first [] ys h = refl
 none_first ((k, true) ∷ xs) ys h = cc
 none_first ((k, false) ∷ xs) ys h = none_first xs ys h
-
--- no amount is compared between the months
-pub outer_rows : (b : Basin) (series : Inflows) (t : Told) (i : Item) → is_within i ≡ false → first_of (amount_rows b series t i ++ sum_rows b series t i) ≡ None
-outer_rows b series t line.Title h = refl
-outer_rows b series t (line.Run first months) h = refl
-outer_rows b series t (line.Month month) h = refl
-outer_rows b series t (line.Done months) h = refl
-outer_rows b series t (line.Opening v amount) h = cc
-outer_rows b series t (line.Evaporated v amount) h = cc
-outer_rows b series t (line.Returned n amount) h = cc
-outer_rows b series t (line.Used r amount) h = cc
-outer_rows b series t (line.Flow e amount) h = cc
-outer_rows b series t (line.Deliver r amount want) h = cc
-outer_rows b series t (line.Outflow n amount) h = cc
-outer_rows b series t (line.Call r) h = cc
-outer_rows b series t (line.Member n) h = cc
-outer_rows b series t (line.Called r caller) h = cc
-outer_rows b series t (line.Closing v amount) h = cc
-outer_rows b series t line.End h = cc
 
 -- What is known stays while what is told stays.
 

@@ -5,21 +5,19 @@ use Rattle.std.proofs.lemmas.Bool.Decides.{nat_tests}
 use Rattle.water_model.specs.Basin.{taking_node, instream_link}
 use Rattle.water_model.specs.Cuts.{Separates, IsTight, leaves, cut_capacity, cut_kept}
 use Rattle.water_model.specs.History.{Follows}
-use Rattle.water_model.specs.Places.{places_of, seniors_first}
 use Rattle.water_model.specs.Plans.{carry_of, delivery_by_link, inflow_to, outflow_from, taken_at}
+use Rattle.water_model.specs.declared.quantity.Quantity.TheVariants as quantity
 use Rattle.water_model.specs.declared.types.Basin.{Basin}
 use Rattle.water_model.specs.declared.types.Inflows.{Inflows}
 use Rattle.water_model.specs.declared.types.MonthRecord.{MonthRecord}
-use Rattle.water_model.proofs.Order.{Has, numbers_from-below, seniors_below}
+use Rattle.water_model.proofs.Order.{seniors_below}
+use Rattle.water_model.proofs.Quantities.{has-with_line}
 use Rattle.result_reader.specs.Records.{IsTextMonth}
-use Rattle.result_reader.proofs.AllTold.{filter-has, has_set}
+use Rattle.result_reader.proofs.AllTold.{has_set}
 use Rattle.cert_check.specs.Checking.{is_tight, separates, amount_wrong}
 use Rattle.cert_check.proofs.Calls.{HasRightSets}
 use Rattle.cert_check.proofs.Month.{IsGoodMonth}
 use Rattle.cert_check.proofs.Rows.{same_is}
-
-pub place_below : {X : Type 0} (xs : List X) (k : ℕ) → Has (places_of xs) k → k < length xs
-place_below xs k h = omega (arith, (numbers_from-below 0 (length xs) k h).1)
 
 not_more : (x y : ℕ) → y ≤ x → nat_lt x y ≡ false
 not_more x y h = grind (arith, nat_tests)
@@ -90,12 +88,12 @@ amount_right b m r (Some link) most e = same_is (slice_index m.delivered r) (min
 pub follows_good : (b : Basin) (series : Inflows) (before : List MonthRecord) (m : MonthRecord) → Follows b series before m → IsTextMonth b series before m → IsGoodMonth b series before m
 follows_good b series before m f t = record {
   opening = λ x h. ap (λ xs. slice_index xs x) f.opening;
-  evaporated = λ x h. f.evaporated x (place_below b.reservoirs x h);
-  returned = λ x h. f.returned x (place_below b.nodes x (filter-has _ (places_of b.nodes) x h).0);
-  used = λ x h. f.used x (seniors_below b.rights x (filter-has _ (seniors_first b) x h).0);
-  flow = λ x h. not_more (carry_of b m.month x) (slice_index m.plan.flow x) (f.plan.carries x (place_below b.links x h));
+  evaporated = λ x h. f.evaporated x (has-with_line b quantity.Evaporated x h).0;
+  returned = λ x h. f.returned x (has-with_line b quantity.Returned x h).0;
+  used = λ x h. f.used x (has-with_line b quantity.Used x h).0;
+  flow = λ x h. not_more (carry_of b m.month x) (slice_index m.plan.flow x) (f.plan.carries x (has-with_line b quantity.Flow x h).0);
   deliver = λ x h. (let l = seniors_below b.rights x h in (f.want x l, amount_right b m x (instream_link b x) (f.plan.wants x l) (f.delivered x l)));
   balance = λ n l. equal_is (slice_index m.supply n + inflow_to b m.plan.flow n) (outflow_from b m.plan.flow n + taken_at b m.plan.take n + slice_index m.plan.out n) (f.plan.balance n l);
   sets = right_sets b series before m f t;
-  closing = λ x h. f.closing x (place_below b.reservoirs x h);
+  closing = λ x h. f.closing x (has-with_line b quantity.Closing x h).0;
 }

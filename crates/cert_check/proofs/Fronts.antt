@@ -7,12 +7,15 @@ use Rattle.std.proofs.lemmas.List.{length-map}
 use Rattle.water_model.specs.History.{IsPartialHistory}
 use Rattle.water_model.specs.Hydrology.{run_month}
 use Rattle.water_model.specs.Lookups.{of_entry}
-use Rattle.water_model.specs.Places.{numbers_from, places_of, members_from, seniors_first, return_nodes, outlets, rights_with_volume}
+use Rattle.water_model.specs.Places.{numbers_from, members_from, seniors_first}
+use Rattle.water_model.specs.Quantities.{entries_with_line}
 use Rattle.water_model.specs.Text.{call_items, items_of_month}
 use Rattle.water_model.specs.Valid.{IsValidBasin}
 use Rattle.water_text.specs.declared.month.Month.{Month}
 use Rattle.water_model.specs.declared.item.Item.{Item}
 use Rattle.water_model.specs.declared.item.Item.TheVariants as line
+use Rattle.water_model.specs.declared.quantity.Quantity.{Quantity}
+use Rattle.water_model.specs.declared.quantity.Quantity.TheVariants as quantity
 use Rattle.water_model.specs.declared.types.Basin.{Basin}
 use Rattle.water_model.specs.declared.types.Inflows.{Inflows}
 use Rattle.water_model.specs.declared.types.MonthRecord.{MonthRecord}
@@ -23,6 +26,7 @@ use Rattle.result_reader.specs.Form.{Fills, IsFront, due}
 use Rattle.result_reader.specs.Telling.{Told, tell, nothing_told}
 use Rattle.result_reader.specs.declared.shape.Shape.TheVariants as shape
 use Rattle.result_reader.proofs.Telling.{fold-both}
+use Rattle.cert_check.specs.Checking.{is_closing}
 use Rattle.cert_check.specs.Coming.{MayCome, is_within, is_before_called}
 use Rattle.cert_check.proofs.Callers.{called_line}
 use Rattle.cert_check.proofs.Inverts.{AreApart, one_line}
@@ -34,49 +38,57 @@ use Rattle.cert_check.proofs.UnderWay.{is_amid, before_is_amid, in_month, month_
 
 -- The lines of a month: those before its `call` lines, these, its `called` and `close` lines, and its last.
 
+abbrev amounts_in : Basin → Sheet → Quantity → List Item
+amounts_in b s q = map (λ x. line.Amount q x (s.amount q x)) (entries_with_line b q)
+
+abbrev deliveries : Basin → Sheet → List Item
+deliveries b s = map (λ x. line.Deliver x (s.delivered x) (s.want x)) (seniors_first b)
+
 abbrev amounts : Basin → Sheet → List Item
 amounts b s =
-    map (λ x. line.Opening x (s.opening x).one) (places_of b.reservoirs) ++ (map (λ x. line.Evaporated x (s.evaporated x).one) (places_of b.reservoirs) ++ (map (λ x. line.Returned x (s.returned x).one) (return_nodes b) ++ (map (λ x. line.Used x (s.used x).one) (rights_with_volume b) ++ (map (λ x. line.Flow x (s.flow x).one) (places_of b.links) ++ (map (λ x. line.Deliver x (s.deliver x).one (s.deliver x).two) (seniors_first b) ++ map (λ x. line.Outflow x (s.out x).one) (outlets b))))))
+    amounts_in b s quantity.Opening ++ (amounts_in b s quantity.Evaporated ++ (amounts_in b s quantity.Returned
+    ++ (amounts_in b s quantity.Used ++ (amounts_in b s quantity.Flow ++ (deliveries b s ++ amounts_in b s quantity.Outflow)))))
 
 abbrev calls : Basin → Sheet → List Item
 calls b s = flat_map (λ r. call_items r (s.cut r)) (seniors_first b)
 
 abbrev behind_calls : Basin → Sheet → List (ℕ × ℕ) → List Item
-behind_calls b s dues = map called_line dues ++ map (λ x. line.Closing x (s.closing x).one) (places_of b.reservoirs)
+behind_calls b s dues = map called_line dues ++ amounts_in b s quantity.Closing
 
 regroup : (b : Basin) (s : Sheet) (dues : List (ℕ × ℕ)) → sheet_lines b s dues ≡ (amounts b s ++ calls b s) ++ (behind_calls b s dues ++ line.End ∷ [])
 regroup b s dues =
-    group (map (λ x. line.Opening x (s.opening x).one) (places_of b.reservoirs)) (map (λ x. line.Evaporated x (s.evaporated x).one) (places_of b.reservoirs))
-    (map (λ x. line.Returned x (s.returned x).one) (return_nodes b)) (map (λ x. line.Used x (s.used x).one) (rights_with_volume b))
-    (map (λ x. line.Flow x (s.flow x).one) (places_of b.links)) (map (λ x. line.Deliver x (s.deliver x).one (s.deliver x).two) (seniors_first b))
-    (map (λ x. line.Outflow x (s.out x).one) (outlets b)) (calls b s) (map called_line dues) (map (λ x. line.Closing x (s.closing x).one) (places_of b.reservoirs)) (line.End ∷ [])
+    group (amounts_in b s quantity.Opening) (amounts_in b s quantity.Evaporated) (amounts_in b s quantity.Returned)
+    (amounts_in b s quantity.Used) (amounts_in b s quantity.Flow) (deliveries b s) (amounts_in b s quantity.Outflow)
+    (calls b s) (map called_line dues) (amounts_in b s quantity.Closing) (line.End ∷ [])
   where
     group : (a c d e f g h i j k l : List Item) →
         a ++ (c ++ (d ++ (e ++ (f ++ (g ++ (h ++ (i ++ (j ++ (k ++ l))))))))) ≡ ((a ++ (c ++ (d ++ (e ++ (f ++ (g ++ h)))))) ++ i) ++ ((j ++ k) ++ l)
     group a c d e f g h i j k l = simp append_assoc
 
-all_amounts : (p : Item → Bool) → ((v n : ℕ) → p (line.Opening v n) ≡ true) → ((v n : ℕ) → p (line.Evaporated v n) ≡ true) → ((v n : ℕ) → p (line.Returned v n) ≡ true) →
-    ((v n : ℕ) → p (line.Used v n) ≡ true) → ((v n : ℕ) → p (line.Flow v n) ≡ true) → ((v n w : ℕ) → p (line.Deliver v n w) ≡ true) → ((v n : ℕ) → p (line.Outflow v n) ≡ true) →
-    (b : Basin) (s : Sheet) → list_all p (amounts b s) ≡ true
-all_amounts p opening evaporated returned used flow deliver out b s =
-    all_both p _ _ (all_each p (λ x. line.Opening x (s.opening x).one) (λ x. opening x _) (places_of b.reservoirs))
-    (all_both p _ _ (all_each p (λ x. line.Evaporated x (s.evaporated x).one) (λ x. evaporated x _) (places_of b.reservoirs))
-    (all_both p _ _ (all_each p (λ x. line.Returned x (s.returned x).one) (λ x. returned x _) (return_nodes b))
-    (all_both p _ _ (all_each p (λ x. line.Used x (s.used x).one) (λ x. used x _) (rights_with_volume b))
-    (all_both p _ _ (all_each p (λ x. line.Flow x (s.flow x).one) (λ x. flow x _) (places_of b.links))
-    (all_both p _ _ (all_each p (λ x. line.Deliver x (s.deliver x).one (s.deliver x).two) (λ x. deliver x _ _) (seniors_first b))
-    (all_each p (λ x. line.Outflow x (s.out x).one) (λ x. out x _) (outlets b)))))))
+all_amounts : (p : Item → Bool) → ((q : Quantity) (v n : ℕ) → is_closing q ≡ false → p (line.Amount q v n) ≡ true) →
+    ((v n w : ℕ) → p (line.Deliver v n w) ≡ true) → (b : Basin) (s : Sheet) → list_all p (amounts b s) ≡ true
+all_amounts p amount deliver b s =
+    all_both p _ _ (each quantity.Opening refl)
+    (all_both p _ _ (each quantity.Evaporated refl)
+    (all_both p _ _ (each quantity.Returned refl)
+    (all_both p _ _ (each quantity.Used refl)
+    (all_both p _ _ (each quantity.Flow refl)
+    (all_both p _ _ (all_each p (λ x. line.Deliver x (s.delivered x) (s.want x)) (λ x. deliver x _ _) (seniors_first b))
+    (each quantity.Outflow refl))))))
+  where
+    each : (q : Quantity) → is_closing q ≡ false → list_all p (amounts_in b s q) ≡ true
+    each q h = all_each p (λ x. line.Amount q x (s.amount q x)) (λ x. amount q x _ h) (entries_with_line b q)
 
 all_front : (b : Basin) (s : Sheet) → list_all is_before_called (amounts b s ++ calls b s) ≡ true
 all_front b s =
     all_both is_before_called (amounts b s) (calls b s)
-    (all_amounts is_before_called (λ v n. refl) (λ v n. refl) (λ v n. refl) (λ v n. refl) (λ v n. refl) (λ v n w. refl) (λ v n. refl) b s)
+    (all_amounts is_before_called (λ q v n h. ap not h) (λ v n w. refl) b s)
     (all_calls is_before_called (λ r. refl) (λ n. refl) s.cut (seniors_first b))
 
-all_behind : (p : Item → Bool) → ((r c : ℕ) → p (line.Called r c) ≡ true) → ((v n : ℕ) → p (line.Closing v n) ≡ true) → (b : Basin) (s : Sheet) (dues : List (ℕ × ℕ)) →
+all_behind : (p : Item → Bool) → ((r c : ℕ) → p (line.Called r c) ≡ true) → ((v n : ℕ) → p (line.Amount quantity.Closing v n) ≡ true) → (b : Basin) (s : Sheet) (dues : List (ℕ × ℕ)) →
     list_all p (behind_calls b s dues) ≡ true
 all_behind p called closing b s dues =
-    all_both p (map called_line dues) _ (all_each p called_line (λ x. called x.0 x.1) dues) (all_each p (λ x. line.Closing x (s.closing x).one) (λ x. closing x _) (places_of b.reservoirs))
+    all_both p (map called_line dues) _ (all_each p called_line (λ x. called x.0 x.1) dues) (all_each p (λ x. line.Amount quantity.Closing x (s.amount quantity.Closing x)) (λ x. closing x _) (entries_with_line b quantity.Closing))
 
 -- no call of a right stands before its own
 calls_once : (cut : ℕ → Option (List Bool)) (rs : List ℕ) → AreApart rs → (xs : List Item) (r : ℕ) (ys : List Item) →
@@ -122,10 +134,10 @@ calls_once cut (k ∷ rs) apart xs r ys e = by_set (cut k) refl (λ zs ws h. cal
 called_once : (b : Basin) → IsValidBasin b → (s : Sheet) (xs : List Item) (r : ℕ) (ys : List Item) → amounts b s ++ calls b s ≡ xs ++ line.Call r ∷ ys → list_all (no_call r) xs ≡ true
 called_once b valid s xs r ys e = elim (stands_in (amounts b s) (calls b s) xs (line.Call r) ys e) [
   | inl front ↦ (let never : false ≡ true = all_at no_calls xs (line.Call r) front.0 (ap (list_all no_calls) (sym front.1)
-      ∙ all_amounts no_calls (λ v n. refl) (λ v n. refl) (λ v n. refl) (λ v n. refl) (λ v n. refl) (λ v n w. refl) (λ v n. refl) b s) in absurd (clash never))
+      ∙ all_amounts no_calls (λ q v n h. refl) (λ v n w. refl) b s) in absurd (clash never))
   | inr behind ↦ (let once = calls_once s.cut (seniors_first b) (seniors_apart b valid) behind.0 r ys behind.2 in
       ap (list_all (no_call r)) behind.1 ∙ all_both (no_call r) (amounts b s) behind.0
-      (all_amounts (no_call r) (λ v n. refl) (λ v n. refl) (λ v n. refl) (λ v n. refl) (λ v n. refl) (λ v n w. refl) (λ v n. refl) b s) once.0)
+      (all_amounts (no_call r) (λ q v n h. refl) (λ v n w. refl) b s) once.0)
 ]
   where
     no_calls : Item → Bool
@@ -141,17 +153,11 @@ amid_is_within : (i : Item) → is_amid i ≡ true → is_within i ≡ true
 amid_is_within line.Title h = h
 amid_is_within (line.Run first months) h = h
 amid_is_within (line.Month month) h = h
-amid_is_within (line.Opening v amount) h = refl
-amid_is_within (line.Evaporated v amount) h = refl
-amid_is_within (line.Returned n amount) h = refl
-amid_is_within (line.Used r amount) h = refl
-amid_is_within (line.Flow e amount) h = refl
+amid_is_within (line.Amount q entry amount) h = refl
 amid_is_within (line.Deliver r amount want) h = refl
-amid_is_within (line.Outflow n amount) h = refl
 amid_is_within (line.Call r) h = refl
 amid_is_within (line.Member n) h = refl
 amid_is_within (line.Called r caller) h = refl
-amid_is_within (line.Closing v amount) h = refl
 amid_is_within line.End h = refl
 amid_is_within (line.Done months) h = h
 
@@ -178,22 +184,16 @@ stands_amid b valid s dues xs item ys e = elim (stands_in (amounts b s ++ calls 
   where
     is_behind : Item → Bool
     is_behind (line.Called r c) = true
-    is_behind (line.Closing v n) = true
+    is_behind (line.Amount q v n) = is_closing q
     is_behind other = false
 
     behind_amid : (i : Item) → is_behind i ≡ true → (is_amid i ≡ true) × (is_before_called i ≡ false)
     behind_amid (line.Called r c) h = (refl, refl)
-    behind_amid (line.Closing v n) h = (refl, refl)
+    behind_amid (line.Amount q v n) h = (refl, ap not h)
     behind_amid line.Title h = clash h
     behind_amid (line.Run first months) h = clash h
     behind_amid (line.Month month) h = clash h
-    behind_amid (line.Opening v amount) h = clash h
-    behind_amid (line.Evaporated v amount) h = clash h
-    behind_amid (line.Returned n amount) h = clash h
-    behind_amid (line.Used r amount) h = clash h
-    behind_amid (line.Flow k amount) h = clash h
     behind_amid (line.Deliver r amount want) h = clash h
-    behind_amid (line.Outflow n amount) h = clash h
     behind_amid (line.Call r) h = clash h
     behind_amid (line.Member n) h = clash h
     behind_amid line.End h = clash h

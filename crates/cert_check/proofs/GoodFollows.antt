@@ -8,13 +8,17 @@ use Rattle.std.proofs.lemmas.Grind.{same_number_lists}
 use Rattle.std.proofs.lemmas.List.{length-replicate, length-map}
 use Rattle.place_sums.proofs.Totals.{total_zero}
 use Rattle.month_terms.proofs.Amounts.{nothing_used}
-use Rattle.water_model.specs.Basin.{is_outlet, taking_node, taking_node_of_kind, instream_link, link_of_kind}
+use Rattle.water_model.specs.Basin.{taking_node, taking_node_of_kind, instream_link, link_of_kind}
 use Rattle.water_model.specs.History.{Follows, cut_of, opening_after}
 use Rattle.water_model.specs.Hydrology.{run_month, inflow_at, stored_at, returned_at, returned_by, used_of}
 use Rattle.water_model.specs.Lookups.{of_entry}
-use Rattle.water_model.specs.Places.{numbers_from, places_of, seniors_first, return_nodes, outlets, rights_with_volume}
+use Rattle.water_model.specs.Entries.{count_in, in_order}
+use Rattle.water_model.specs.Places.{numbers_from, places_of, seniors_first}
+use Rattle.water_model.specs.Quantities.{amounts_of, entries_with_line, has_line, space_of}
 use Rattle.water_model.specs.Plans.{carry_of, delivery_by_link, inflow_to, outflow_from, taken_at}
 use Rattle.water_model.specs.Valid.{IsValidBasin, HasValidPlace}
+use Rattle.water_model.specs.declared.quantity.Quantity.{Quantity}
+use Rattle.water_model.specs.declared.quantity.Quantity.TheVariants as quantity
 use Rattle.water_model.specs.declared.types.Basin.{Basin}
 use Rattle.water_model.specs.declared.types.Inflows.{Inflows}
 use Rattle.water_model.specs.declared.types.MonthRecord.{MonthRecord}
@@ -22,8 +26,9 @@ use Rattle.water_model.specs.declared.types.ReturnRow.{ReturnRow}
 use Rattle.water_model.specs.declared.types.RightKind.{RightKind}
 use Rattle.water_model.specs.declared.types.RightKind.TheVariants as kind
 use Rattle.water_model.proofs.Balance.{entry_at, kind_is}
-use Rattle.water_model.proofs.Order.{Has, length-numbers_from, numbers_from-has, seniors_have}
-use Rattle.result_reader.proofs.AllTold.{has-filter, filter-has}
+use Rattle.water_model.proofs.Entries.{in_order-has}
+use Rattle.water_model.proofs.Order.{Has, filter-has, has-filter, length-numbers_from, seniors_have}
+use Rattle.water_model.proofs.Quantities.{has-with_line, with_line-has}
 use Rattle.result_reader.proofs.MonthTold.{take_of}
 use Rattle.result_reader.proofs.Telling.{set_all, length-set_all, set_all-has, set_all-other}
 use Rattle.result_reader.proofs.WholeMonth.{IsAllTold}
@@ -60,9 +65,6 @@ untold xs a n ys k is none = sym (ap (λ zs. slice_index zs k) is) ∙ (set_all-
 
 told_at : (xs : List ℕ) (a : ℕ → ℕ) (n : ℕ) (ys : List ℕ) (k : ℕ) → set_all xs a (replicate n 0) ≡ ys → k < n → Has xs k → slice_index ys k ≡ a k
 told_at xs a n ys k is l has = sym (ap (λ zs. slice_index zs k) is) ∙ set_all-has xs a (replicate n 0) k (omega (arith, length-replicate {A = ℕ} n 0)) has
-
-has_place : {X : Type 0} (xs : List X) (k : ℕ) → k < length xs → Has (places_of xs) k
-has_place xs k l = numbers_from-has 0 (length xs) k k l (omega arith)
 
 pub map_at : (f : ℕ → ℕ) (from n k : ℕ) → k < n → slice_index (map f (numbers_from from n)) k ≡ f (from + k)
 unfolding numbers_from
@@ -144,11 +146,11 @@ pub good_follows : (b : Basin) (series : Inflows) (before : List MonthRecord) (m
 good_follows b series before m valid a g index month opens = record {
   fits = record {
     opening = opening_len;
-    evaporated = told_len (places_of b.reservoirs) _ (length b.reservoirs) m.evaporated a.evaporated;
-    closing = told_len (places_of b.reservoirs) _ (length b.reservoirs) m.closing a.closing;
-    returned = told_len (return_nodes b) _ (length b.nodes) m.returned a.returned;
+    evaporated = listed_len quantity.Evaporated;
+    closing = listed_len quantity.Closing;
+    returned = listed_len quantity.Returned;
     supply = sym (ap length a.supply) ∙ (length-map (places_of b.nodes) supply_of ∙ length-numbers_from 0 (length b.nodes));
-    used = told_len (rights_with_volume b) _ (length b.rights) m.used a.used;
+    used = listed_len quantity.Used;
     want = told_len (seniors_first b) _ (length b.rights) m.want a.want;
     delivered = told_len (seniors_first b) _ (length b.rights) m.delivered a.delivered;
     cuts = sym (ap length a.sets) ∙ (length-put_sets (seniors_first b) (λ r. cut_of m r) (replicate (length b.rights) None) ∙ length-replicate (length b.rights) None);
@@ -156,28 +158,33 @@ good_follows b series before m valid a g index month opens = record {
   };
   index = index;
   month = month;
-  opening = same_number_lists m.opening (opening_after b before) (opening_len ∙ sym opens) (λ k l. g.opening k (has_place b.reservoirs k (omega (arith, opening_len))));
-  evaporated = λ v l. g.evaporated v (has_place b.reservoirs v l);
-  returned = λ n l. by_filter (λ k. list_any (λ row. row.node == k) b.returns) (places_of b.nodes) n (slice_index m.returned n) (returned_at b (map (λ k. k.delivered) before) n m.index)
-      (has_place b.nodes n l) (g.returned n) (untold (return_nodes b) _ (length b.nodes) m.returned n a.returned) (nothing_returns b (map (λ k. k.delivered) before) n m.index);
+  opening = same_number_lists m.opening (opening_after b before) (opening_len ∙ sym opens) (λ k l. g.opening k (with_line-has b quantity.Opening k (omega (arith, opening_len)) refl));
+  evaporated = λ v l. g.evaporated v (with_line-has b quantity.Evaporated v l refl);
+  returned = λ n l. by_filter (λ k. has_line b quantity.Returned k) (in_order (space_of quantity.Returned) b) n
+      (slice_index m.returned n) (returned_at b (map (λ k. k.delivered) before) n m.index)
+      (in_order-has (space_of quantity.Returned) b n l) (g.returned n) (unlisted quantity.Returned n)
+      (nothing_returns b (map (λ k. k.delivered) before) n m.index);
   supply = λ n l. sym (ap (λ xs. slice_index xs n) a.supply) ∙ (map_at supply_of 0 (length b.nodes) n l ∙ ap supply_of (zero_more n));
-  used = λ r l. by_filter (λ k. of_entry b.rights k (λ right. is_some right.volume) false) (seniors_first b) r (slice_index m.used r) (used_of b (map (λ k. k.delivered) before) r m.index)
-      (seniors_have b.rights r l) (g.used r) (untold (rights_with_volume b) _ (length b.rights) m.used r a.used) (λ e. nothing_used b (map (λ k. k.delivered) before) r m.index valid l);
+  used = λ r l. by_filter (λ k. has_line b quantity.Used k) (in_order (space_of quantity.Used) b) r
+      (slice_index m.used r) (used_of b (map (λ k. k.delivered) before) r m.index)
+      (in_order-has (space_of quantity.Used) b r l) (g.used r) (unlisted quantity.Used r)
+      (λ e. nothing_used b (map (λ k. k.delivered) before) r m.index valid l);
   want = λ r l. (g.deliver r (seniors_have b.rights r l)).0;
   plan = record {
-    flow_len = told_len (places_of b.links) _ (length b.links) m.plan.flow a.flow;
+    flow_len = listed_len quantity.Flow;
     take_len = told_len (seniors_first b) _ (length b.rights) m.plan.take a.take;
-    out_len = told_len (outlets b) _ (length b.nodes) m.plan.out a.out;
-    carries = λ e l. is_most (carry_of b m.month e) (slice_index m.plan.flow e) (g.flow e (has_place b.links e l));
+    out_len = listed_len quantity.Outflow;
+    carries = λ e l. is_most (carry_of b m.month e) (slice_index m.plan.flow e) (g.flow e (with_line-has b quantity.Flow e l refl));
     wants = λ r l. (right r l).most;
     instream = λ r l e. (right r l).instream e;
-    outlets = λ n l e. untold (outlets b) _ (length b.nodes) m.plan.out n a.out (λ h. (let both : false ≡ true = sym e ∙ (filter-has (λ k. is_outlet b k) (places_of b.nodes) n h).1 in cc));
+    outlets = λ n l e. unlisted quantity.Outflow n
+        (λ h. (let both : false ≡ true = sym e ∙ (has-with_line b quantity.Outflow n h).1 in cc));
     balance = λ n l. equal (slice_index m.supply n + inflow_to b m.plan.flow n) (outflow_from b m.plan.flow n + taken_at b m.plan.take n + slice_index m.plan.out n) (g.balance n l);
   };
   delivered = λ r l. (right r l).delivered;
   short = λ r l short. (let s = g.sets.short r l (less_is (slice_index m.delivered r) (slice_index m.want r) short) in (s.0, s.1, is_tight_is b m r s.0 s.2));
   met = λ r l met. g.sets.met r l (not_less (slice_index m.delivered r) (slice_index m.want r) met);
-  closing = λ v l. g.closing v (has_place b.reservoirs v l);
+  closing = λ v l. g.closing v (with_line-has b quantity.Closing v l refl);
 }
   where
     supply_of : ℕ → ℕ
@@ -186,8 +193,14 @@ good_follows b series before m valid a g index month opens = record {
     zero_more : (n : ℕ) → 0 + n ≡ n
     zero_more n = omega arith
 
+    listed_len : (q : Quantity) → length (amounts_of q m) ≡ count_in (space_of q) b
+    listed_len q = told_len (entries_with_line b q) _ (count_in (space_of q) b) (amounts_of q m) (a.listed q)
+
     opening_len : length m.opening ≡ length b.reservoirs
-    opening_len = told_len (places_of b.reservoirs) _ (length b.reservoirs) m.opening a.opening
+    opening_len = listed_len quantity.Opening
+
+    unlisted : (q : Quantity) (k : ℕ) → (Has (entries_with_line b q) k → ⊥) → slice_index (amounts_of q m) k ≡ 0
+    unlisted q k h = untold (entries_with_line b q) _ (count_in (space_of q) b) (amounts_of q m) k (a.listed q) h
 
     right : (r : ℕ) → r < length b.rights → IsServed b m r
     right r l = served b m r (taking_node b r) (instream_link b r) refl refl (takes_or_stays b r valid l)

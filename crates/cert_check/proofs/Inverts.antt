@@ -23,37 +23,28 @@ pub record Fields : Type 0 where
   pub one : ℕ
   pub two : ℕ
 
-abbrev no_month : Month
+abbrev pub no_month : Month
 no_month = record { year = 0; month = 0 }
+
+abbrev pub no_fields : Fields
+no_fields = record { first = no_month; one = 0; two = 0 }
 
 abbrev pub fields_in : Item → Fields
 fields_in (line.Run first months) = record { first = first; one = months; two = 0 }
-fields_in (line.Opening v n) = record { first = no_month; one = n; two = 0 }
-fields_in (line.Evaporated v n) = record { first = no_month; one = n; two = 0 }
-fields_in (line.Returned v n) = record { first = no_month; one = n; two = 0 }
-fields_in (line.Used v n) = record { first = no_month; one = n; two = 0 }
-fields_in (line.Flow v n) = record { first = no_month; one = n; two = 0 }
+fields_in (line.Amount q v n) = record { first = no_month; one = n; two = 0 }
 fields_in (line.Deliver v n w) = record { first = no_month; one = n; two = w }
-fields_in (line.Outflow v n) = record { first = no_month; one = n; two = 0 }
 fields_in (line.Called v n) = record { first = no_month; one = n; two = 0 }
-fields_in (line.Closing v n) = record { first = no_month; one = n; two = 0 }
-fields_in other = record { first = no_month; one = 0; two = 0 }
+fields_in other = no_fields
 
 abbrev pub with_fields : Shape → Fields → Item
 with_fields shape.Title f = line.Title
 with_fields shape.Run f = line.Run f.first f.one
 with_fields (shape.Month month) f = line.Month month
-with_fields (shape.Opening v) f = line.Opening v f.one
-with_fields (shape.Evaporated v) f = line.Evaporated v f.one
-with_fields (shape.Returned v) f = line.Returned v f.one
-with_fields (shape.Used v) f = line.Used v f.one
-with_fields (shape.Flow v) f = line.Flow v f.one
+with_fields (shape.Amount q v) f = line.Amount q v f.one
 with_fields (shape.Deliver v) f = line.Deliver v f.one f.two
-with_fields (shape.Outflow v) f = line.Outflow v f.one
 with_fields (shape.Call v) f = line.Call v
 with_fields (shape.Member v) f = line.Member v
 with_fields (shape.Called v) f = line.Called v f.one
-with_fields (shape.Closing v) f = line.Closing v f.one
 with_fields shape.End f = line.End
 with_fields (shape.Done n) f = line.Done n
 
@@ -61,17 +52,11 @@ rebuilt : (i : Item) → i ≡ with_fields (shape_of i) (fields_in i)
 rebuilt line.Title = refl
 rebuilt (line.Run first months) = refl
 rebuilt (line.Month month) = refl
-rebuilt (line.Opening v n) = refl
-rebuilt (line.Evaporated v n) = refl
-rebuilt (line.Returned v n) = refl
-rebuilt (line.Used v n) = refl
-rebuilt (line.Flow v n) = refl
+rebuilt (line.Amount q v n) = refl
 rebuilt (line.Deliver v n w) = refl
-rebuilt (line.Outflow v n) = refl
 rebuilt (line.Call v) = refl
 rebuilt (line.Member v) = refl
 rebuilt (line.Called v n) = refl
-rebuilt (line.Closing v n) = refl
 rebuilt line.End = refl
 rebuilt (line.Done n) = refl
 
@@ -136,7 +121,7 @@ pub record Lines (b : Basin) (line_at : ℕ → Shape) (xs : List ℕ) (ds : Lis
 pub each_line : (b : Basin) (line_at : ℕ → Shape) → ((x : ℕ) → is_optional (line_at x) ≡ false) →
     ((x : ℕ) (f : Fields) (members : List Item) → IsFollowedBy b (with_fields (line_at x) f) members → members ≡ []) →
     (xs : List ℕ) → AreApart xs → (ds : List Shape) (items : List Item) → Fills b (map line_at xs ++ ds) items → Lines b line_at xs ds items
-each_line b line_at o alone [] apart ds items h = record { fields = λ x. record { first = no_month; one = 0; two = 0 }; others = items; are = refl; rest = h }
+each_line b line_at o alone [] apart ds items h = record { fields = λ x. no_fields; others = items; are = refl; rest = h }
 each_line b line_at o alone (x ∷ xs) apart ds items h =
     let first = one_line b (line_at x) (map line_at xs ++ ds) items (o x) h in
     let later = each_line b line_at o alone xs apart.1 ds first.others first.rest in

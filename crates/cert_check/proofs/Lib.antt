@@ -5,6 +5,7 @@ pub mod Sections
 pub mod Calls
 pub mod Callers
 pub mod Outflows
+pub mod Spread
 pub mod Month
 pub mod MonthGood
 pub mod GoodMonth
@@ -26,6 +27,7 @@ pub mod Supplies
 pub mod Passages
 pub mod UnderWay
 pub mod Fronts
+pub mod Fitting
 pub mod Entries
 pub mod Bounded
 pub mod Missing

@@ -63,16 +63,10 @@ not_passed b (line.Call r) x y h (inr senior) = elim (cases_Bool (is_senior b y 
 not_passed b line.Title x y h (inr senior) = h
 not_passed b (line.Run first months) x y h (inr senior) = h
 not_passed b (line.Month month) x y h (inr senior) = h
-not_passed b (line.Opening v amount) x y h (inr senior) = h
-not_passed b (line.Evaporated v amount) x y h (inr senior) = h
-not_passed b (line.Returned n amount) x y h (inr senior) = h
-not_passed b (line.Used r amount) x y h (inr senior) = h
-not_passed b (line.Flow e amount) x y h (inr senior) = h
+not_passed b (line.Amount q entry amount) x y h (inr senior) = h
 not_passed b (line.Deliver r amount want) x y h (inr senior) = h
-not_passed b (line.Outflow n amount) x y h (inr senior) = h
 not_passed b (line.Member n) x y h (inr senior) = h
 not_passed b (line.Called r caller) x y h (inr senior) = h
-not_passed b (line.Closing v amount) x y h (inr senior) = h
 not_passed b line.End x y h (inr senior) = h
 not_passed b (line.Done months) x y h (inr senior) = h
 

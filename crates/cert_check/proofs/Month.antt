@@ -1,5 +1,5 @@
 -- The lines of a month are not refuted exactly where its record is right.
-use Rattle.std.proofs.Common.{◌≡◌, ℕ, ◌<◌, Bool, true, false, refl, sym, ap, subst, ◌∙◌, arith, inl, inr, List, [], ◌∷◌, ◌++◌, length, map, fold}
+use Rattle.std.proofs.Common.{◌≡◌, ℕ, ◌<◌, Bool, true, false, refl, sym, ap, subst, ◌∙◌, arith, inl, inr, List, [], ◌∷◌, ◌++◌, length, map, fold, replicate}
 use Rattle.std.specs.Prelude.{Option, Some, None, slice_index, nat_lt}
 use Rattle.std.specs.List.{flat_map}
 use Rattle.std.proofs.lemmas.List.{length-replicate}
@@ -8,22 +8,31 @@ use Rattle.water_model.specs.Basin.{instream_link}
 use Rattle.water_model.specs.History.{cut_of, opening_after, is_zone_of}
 use Rattle.water_model.specs.Hydrology.{in_year, evaporation, returned_at, used_of, want_of}
 use Rattle.water_model.specs.Lookups.{of_entry}
-use Rattle.water_model.specs.Places.{places_of, seniors_first, return_nodes, outlets, rights_with_volume}
+use Rattle.water_model.specs.Entries.{count_in}
+use Rattle.water_model.specs.Places.{seniors_first}
+use Rattle.water_model.specs.Quantities.{amounts_of, entries_with_line, space_of, with_amounts}
 use Rattle.water_model.specs.Plans.{carry_of}
-use Rattle.water_model.specs.Text.{call_items, month_sections}
+use Rattle.water_model.specs.Text.{call_items, lines_in, month_lines}
 use Rattle.water_model.specs.declared.item.Item.{Item}
 use Rattle.water_model.specs.declared.item.Item.TheVariants as line
+use Rattle.water_model.specs.declared.item.Section.{Section}
+use Rattle.water_model.specs.declared.item.Section.TheVariants as section
+use Rattle.water_model.specs.declared.item.TheConstants.{SECTIONS}
+use Rattle.water_model.specs.declared.quantity.Quantity.{Quantity}
+use Rattle.water_model.specs.declared.quantity.Quantity.TheVariants as quantity
 use Rattle.water_model.specs.declared.types.Basin.{Basin}
 use Rattle.water_model.specs.declared.types.Inflows.{Inflows}
 use Rattle.water_model.specs.declared.types.MonthRecord.{MonthRecord}
 use Rattle.water_model.proofs.Order.{Has, seniors_below}
+use Rattle.water_model.proofs.Quantities.{amount_lines, flat_map_one}
 use Rattle.result_reader.specs.Telling.{Told, tell, blank_month, with_supply}
-use Rattle.result_reader.proofs.MonthTold.{Makes, makes_openings, makes_evaporations, makes_returns, makes_used, makes_flows, makes_deliveries, makes_outflows, tells_calls, put_sets, with_sets}
-use Rattle.result_reader.proofs.Telling.{tell_call, fold-both}
+use Rattle.result_reader.proofs.MonthTold.{Makes, makes_amounts, makes_deliveries, tells_calls, put_sets, with_sets}
+use Rattle.result_reader.proofs.Telling.{set_all, tell_call, fold-both}
 use Rattle.result_reader.proofs.WholeMonth.{IsAllTold}
 use Rattle.cert_check.specs.Checking.{balances, callers_due, caller_due, amount_wrong}
 use Rattle.cert_check.proofs.Calls.{Sees, HasRightSets, sees_more, behind_call}
 use Rattle.cert_check.proofs.Callers.{called_line, called_lines, same_callers}
+use Rattle.cert_check.proofs.Spread.{onto, onto_same, spread}
 
 -- what stands behind some lines of a month: no open call, the months before, and the month so far
 pub record At (b : Basin) (before : List MonthRecord) (now : MonthRecord) (t : Told) : Type 0 where
@@ -59,104 +68,111 @@ abbrev pub begun : Basin → MonthRecord → MonthRecord
 begun b m = blank_month b m.index m.month
 
 abbrev pub with_opening : Basin → MonthRecord → MonthRecord
-with_opening b m = record (begun b m) { opening = m.opening }
-
-abbrev pub opening_lines : Basin → MonthRecord → List Item
-opening_lines b m = map (λ x. line.Opening x (slice_index m.opening x)) (places_of b.reservoirs)
-
-opening_stage : (b : Basin) (series : Inflows) (before : List MonthRecord) (m : MonthRecord) → IsAllTold b series m → (t : Told) → At b before (begun b m) t →
-    At b before (with_opening b m) (fold (tell b series) t (opening_lines b m))
-opening_stage b series before m a t at =
-    stage b series before (begun b m) (with_opening b m) (λ x. line.Opening x (slice_index m.opening x)) (places_of b.reservoirs) _ (λ x t. refl) (λ x t. refl) (makes_openings b series (λ x. slice_index m.opening x) (places_of b.reservoirs)) (rw a.opening refl) t at
+with_opening b m = with_amounts quantity.Opening (begun b m) m.opening
 
 abbrev pub with_evaporated : Basin → MonthRecord → MonthRecord
-with_evaporated b m = record (with_opening b m) { evaporated = m.evaporated }
-
-abbrev pub evaporated_lines : Basin → MonthRecord → List Item
-evaporated_lines b m = map (λ x. line.Evaporated x (slice_index m.evaporated x)) (places_of b.reservoirs)
-
-evaporated_stage : (b : Basin) (series : Inflows) (before : List MonthRecord) (m : MonthRecord) → IsAllTold b series m → (t : Told) → At b before (with_opening b m) t →
-    At b before (with_evaporated b m) (fold (tell b series) t (evaporated_lines b m))
-evaporated_stage b series before m a t at =
-    stage b series before (with_opening b m) (with_evaporated b m) (λ x. line.Evaporated x (slice_index m.evaporated x)) (places_of b.reservoirs) _ (λ x t. refl) (λ x t. refl) (makes_evaporations b series (λ x. slice_index m.evaporated x) (places_of b.reservoirs)) (rw a.evaporated refl) t at
+with_evaporated b m = with_amounts quantity.Evaporated (with_opening b m) m.evaporated
 
 abbrev pub with_returned : Basin → MonthRecord → MonthRecord
-with_returned b m = record (with_evaporated b m) { returned = m.returned }
-
-abbrev pub returned_lines : Basin → MonthRecord → List Item
-returned_lines b m = map (λ x. line.Returned x (slice_index m.returned x)) (return_nodes b)
-
-returned_stage : (b : Basin) (series : Inflows) (before : List MonthRecord) (m : MonthRecord) → IsAllTold b series m → (t : Told) → At b before (with_evaporated b m) t →
-    At b before (with_returned b m) (fold (tell b series) t (returned_lines b m))
-returned_stage b series before m a t at =
-    stage b series before (with_evaporated b m) (with_returned b m) (λ x. line.Returned x (slice_index m.returned x)) (return_nodes b) _ (λ x t. refl) (λ x t. refl) (makes_returns b series (λ x. slice_index m.returned x) (return_nodes b)) (rw a.returned refl) t at
+with_returned b m = with_amounts quantity.Returned (with_evaporated b m) m.returned
 
 abbrev pub with_used : Basin → MonthRecord → MonthRecord
-with_used b m = record (with_returned b m) { used = m.used }
-
-abbrev pub used_lines : Basin → MonthRecord → List Item
-used_lines b m = map (λ x. line.Used x (slice_index m.used x)) (rights_with_volume b)
-
-used_stage : (b : Basin) (series : Inflows) (before : List MonthRecord) (m : MonthRecord) → IsAllTold b series m → (t : Told) → At b before (with_returned b m) t →
-    At b before (with_used b m) (fold (tell b series) t (used_lines b m))
-used_stage b series before m a t at =
-    stage b series before (with_returned b m) (with_used b m) (λ x. line.Used x (slice_index m.used x)) (rights_with_volume b) _ (λ x t. refl) (λ x t. refl) (makes_used b series (λ x. slice_index m.used x) (rights_with_volume b)) (rw a.used refl) t at
+with_used b m = with_amounts quantity.Used (with_returned b m) m.used
 
 abbrev pub with_flow : Basin → MonthRecord → MonthRecord
-with_flow b m = record (with_used b m) { plan = record (with_used b m).plan { flow = m.plan.flow } }
-
-abbrev pub flow_lines : Basin → MonthRecord → List Item
-flow_lines b m = map (λ x. line.Flow x (slice_index m.plan.flow x)) (places_of b.links)
-
-flow_stage : (b : Basin) (series : Inflows) (before : List MonthRecord) (m : MonthRecord) → IsAllTold b series m → (t : Told) → At b before (with_used b m) t →
-    At b before (with_flow b m) (fold (tell b series) t (flow_lines b m))
-flow_stage b series before m a t at =
-    stage b series before (with_used b m) (with_flow b m) (λ x. line.Flow x (slice_index m.plan.flow x)) (places_of b.links) _ (λ x t. refl) (λ x t. refl) (makes_flows b series (λ x. slice_index m.plan.flow x) (places_of b.links)) (rw a.flow refl) t at
+with_flow b m = with_amounts quantity.Flow (with_used b m) m.plan.flow
 
 abbrev pub with_deliver : Basin → MonthRecord → MonthRecord
-with_deliver b m = record (with_flow b m) { delivered = m.delivered; want = m.want; plan = record (with_flow b m).plan { take = m.plan.take } }
+with_deliver b m = record (with_flow b m) {
+  delivered = m.delivered;
+  want = m.want;
+  plan = record (with_flow b m).plan { take = m.plan.take };
+}
+
+abbrev pub with_out : Basin → MonthRecord → MonthRecord
+with_out b m = with_amounts quantity.Outflow (with_deliver b m) m.plan.out
+
+-- the lines of a quantity, and what they make of a month that has none of its amounts
+abbrev pub lines_of : Basin → MonthRecord → Quantity → List Item
+lines_of b m q = map (λ x. line.Amount q x (slice_index (amounts_of q m) x)) (entries_with_line b q)
+
+amount_stage : (b : Basin) (series : Inflows) (before : List MonthRecord) (m : MonthRecord) → IsAllTold b series m →
+    (q : Quantity) (now : MonthRecord) → amounts_of q now ≡ replicate (count_in (space_of q) b) 0 →
+    (t : Told) → At b before now t → At b before (with_amounts q now (amounts_of q m)) (fold (tell b series) t (lines_of b m q))
+amount_stage b series before m a q now none t at =
+    stage b series before now (with_amounts q now (amounts_of q m)) (λ x. line.Amount q x (slice_index (amounts_of q m) x))
+    (entries_with_line b q) _ (λ x t. refl) (λ x t. refl)
+    (makes_amounts b series q (λ x. slice_index (amounts_of q m) x) (entries_with_line b q))
+    (ap (λ xs. with_amounts q now (set_all (entries_with_line b q) (λ x. slice_index (amounts_of q m) x) xs)) none
+    ∙ ap (with_amounts q now) (a.listed q)) t at
 
 abbrev pub deliver_lines : Basin → MonthRecord → List Item
 deliver_lines b m = map (λ x. line.Deliver x (slice_index m.delivered x) (slice_index m.want x)) (seniors_first b)
 
-deliver_stage : (b : Basin) (series : Inflows) (before : List MonthRecord) (m : MonthRecord) → IsAllTold b series m → (t : Told) → At b before (with_flow b m) t →
-    At b before (with_deliver b m) (fold (tell b series) t (deliver_lines b m))
+deliver_stage : (b : Basin) (series : Inflows) (before : List MonthRecord) (m : MonthRecord) → IsAllTold b series m →
+    (t : Told) → At b before (with_flow b m) t → At b before (with_deliver b m) (fold (tell b series) t (deliver_lines b m))
 deliver_stage b series before m a t at =
-    stage b series before (with_flow b m) (with_deliver b m) (λ x. line.Deliver x (slice_index m.delivered x) (slice_index m.want x)) (seniors_first b) _ (λ x t. refl) (λ x t. refl) (makes_deliveries b series (λ x. slice_index m.delivered x) (λ x. slice_index m.want x) (seniors_first b)) (rw (a.delivered, a.want, a.take) refl) t at
+    stage b series before (with_flow b m) (with_deliver b m)
+    (λ x. line.Deliver x (slice_index m.delivered x) (slice_index m.want x)) (seniors_first b) _ (λ x t. refl) (λ x t. refl)
+    (makes_deliveries b series (λ x. slice_index m.delivered x) (λ x. slice_index m.want x) (seniors_first b))
+    (rw (a.delivered, a.want, a.take) refl) t at
 
-abbrev pub with_out : Basin → MonthRecord → MonthRecord
-with_out b m = record (with_deliver b m) { plan = record (with_deliver b m).plan { out = m.plan.out } }
+abbrev pub opening_lines : Basin → MonthRecord → List Item
+opening_lines b m = lines_of b m quantity.Opening
+
+abbrev pub evaporated_lines : Basin → MonthRecord → List Item
+evaporated_lines b m = lines_of b m quantity.Evaporated
+
+abbrev pub returned_lines : Basin → MonthRecord → List Item
+returned_lines b m = lines_of b m quantity.Returned
+
+abbrev pub used_lines : Basin → MonthRecord → List Item
+used_lines b m = lines_of b m quantity.Used
+
+abbrev pub flow_lines : Basin → MonthRecord → List Item
+flow_lines b m = lines_of b m quantity.Flow
 
 abbrev pub out_lines : Basin → MonthRecord → List Item
-out_lines b m = map (λ x. line.Outflow x (slice_index m.plan.out x)) (outlets b)
-
-out_stage : (b : Basin) (series : Inflows) (before : List MonthRecord) (m : MonthRecord) → IsAllTold b series m → (t : Told) → At b before (with_deliver b m) t →
-    At b before (with_out b m) (fold (tell b series) t (out_lines b m))
-out_stage b series before m a t at =
-    stage b series before (with_deliver b m) (with_out b m) (λ x. line.Outflow x (slice_index m.plan.out x)) (outlets b) _ (λ x t. refl) (λ x t. refl) (makes_outflows b series (λ x. slice_index m.plan.out x) (outlets b)) (rw a.out refl) t at
+out_lines b m = lines_of b m quantity.Outflow
 
 -- the lines of a month's calls, of its callers, and those behind them
 abbrev pub call_lines : Basin → MonthRecord → List Item
 call_lines b m = flat_map (λ r. call_items r (cut_of m r)) (seniors_first b)
 
 abbrev pub closing_lines : Basin → MonthRecord → List Item
-closing_lines b m = map (λ x. line.Closing x (slice_index m.closing x)) (places_of b.reservoirs)
+closing_lines b m = lines_of b m quantity.Closing
 
 abbrev pub due_lines : List (ℕ × ℕ) → List Item
 due_lines dues = map called_line dues
 
+-- the lines of a section, with these `called` lines
+abbrev pub section_lines : Basin → MonthRecord → List (ℕ × ℕ) → Section → List Item
+section_lines b m dues (section.Amounts q) = lines_of b m q
+section_lines b m dues section.Deliveries = deliver_lines b m
+section_lines b m dues section.Calls = call_lines b m
+section_lines b m dues section.Called = due_lines dues
+
 -- the lines of a month behind its `month` line
 abbrev pub inner_lines : Basin → MonthRecord → List (ℕ × ℕ) → List Item
-inner_lines b m dues =
-    opening_lines b m ++ (evaporated_lines b m ++ (returned_lines b m ++ (used_lines b m ++ (flow_lines b m ++ (deliver_lines b m ++ (out_lines b m
-    ++ (call_lines b m ++ (due_lines dues ++ (closing_lines b m ++ line.End ∷ [])))))))))
+inner_lines b m dues = onto (section_lines b m dues) SECTIONS (line.End ∷ [])
 
-pub month_lines : (b : Basin) (m : MonthRecord) (caller_of : ℕ → Option ℕ) →
-    flat_map (λ section. section) (month_sections b m caller_of) ≡ line.Month m.month ∷ inner_lines b m (flat_map (λ r. caller_due r (caller_of r)) (seniors_first b))
-unfolding month_sections
-month_lines b m caller_of =
-    ap (λ xs. line.Month m.month ∷ (opening_lines b m ++ (evaporated_lines b m ++ (returned_lines b m ++ (used_lines b m ++ (flow_lines b m ++ (deliver_lines b m ++ (out_lines b m
-    ++ (call_lines b m ++ (xs ++ (closing_lines b m ++ line.End ∷ []))))))))))) (called_lines caller_of (seniors_first b))
+section_is : (b : Basin) (m : MonthRecord) (caller_of : ℕ → Option ℕ) (k : Section) →
+    lines_in k b m caller_of ≡ section_lines b m (flat_map (λ r. caller_due r (caller_of r)) (seniors_first b)) k
+section_is b m caller_of (section.Amounts q) = amount_lines q b m caller_of
+section_is b m caller_of section.Deliveries =
+    flat_map_one (λ r. line.Deliver r (slice_index m.delivered r) (slice_index m.want r)) (seniors_first b)
+section_is b m caller_of section.Calls = refl
+section_is b m caller_of section.Called = called_lines caller_of (seniors_first b)
+
+pub month_is : (b : Basin) (m : MonthRecord) (caller_of : ℕ → Option ℕ) →
+    month_lines b m caller_of ≡ line.Month m.month ∷ inner_lines b m (flat_map (λ r. caller_due r (caller_of r)) (seniors_first b))
+unfolding month_lines
+month_is b m caller_of =
+    ap (λ xs. line.Month m.month ∷ xs)
+    (spread (λ k. lines_in k b m caller_of) SECTIONS (line.End ∷ [])
+    ∙ onto_same (λ k. lines_in k b m caller_of)
+    (section_lines b m (flat_map (λ r. caller_due r (caller_of r)) (seniors_first b))) (section_is b m caller_of) SECTIONS
+    (line.End ∷ []))
 
 abbrev pub behind_opening : Basin → Inflows → MonthRecord → Told → Told
 behind_opening b series m t = fold (tell b series) t (opening_lines b m)
@@ -201,13 +217,13 @@ pub record Stages (b : Basin) (series : Inflows) (before : List MonthRecord) (m 
 pub stages : (b : Basin) (series : Inflows) (before : List MonthRecord) (m : MonthRecord) → IsAllTold b series m → (t : Told) → At b before (begun b m) t →
     Stages b series before m t
 stages b series before m a t at =
-    let s0 = opening_stage b series before m a t at in
-    let s1 = evaporated_stage b series before m a (behind_opening b series m t) s0 in
-    let s2 = returned_stage b series before m a (behind_evaporated b series m t) s1 in
-    let s3 = used_stage b series before m a (behind_returned b series m t) s2 in
-    let s4 = flow_stage b series before m a (behind_used b series m t) s3 in
+    let s0 = amount_stage b series before m a quantity.Opening (begun b m) refl t at in
+    let s1 = amount_stage b series before m a quantity.Evaporated (with_opening b m) refl (behind_opening b series m t) s0 in
+    let s2 = amount_stage b series before m a quantity.Returned (with_evaporated b m) refl (behind_evaporated b series m t) s1 in
+    let s3 = amount_stage b series before m a quantity.Used (with_returned b m) refl (behind_returned b series m t) s2 in
+    let s4 = amount_stage b series before m a quantity.Flow (with_used b m) refl (behind_used b series m t) s3 in
     let s5 = deliver_stage b series before m a (behind_flow b series m t) s4 in
-    let s6 = out_stage b series before m a (behind_deliver b series m t) s5 in
+    let s6 = amount_stage b series before m a quantity.Outflow (with_deliver b m) refl (behind_deliver b series m t) s5 in
     record {
       opening = s0;
       evaporated = s1;
@@ -220,17 +236,17 @@ stages b series before m a t at =
 
 -- what a month's record has to keep, by the records before it, so that its lines are not refuted
 pub record IsGoodMonth (b : Basin) (series : Inflows) (before : List MonthRecord) (m : MonthRecord) : Type 0 where
-  pub opening : (x : ℕ) → Has (places_of b.reservoirs) x → slice_index m.opening x ≡ slice_index (opening_after b before) x
-  pub evaporated : (x : ℕ) → Has (places_of b.reservoirs) x → slice_index m.evaporated x
+  pub opening : (x : ℕ) → Has (entries_with_line b quantity.Opening) x → slice_index m.opening x ≡ slice_index (opening_after b before) x
+  pub evaporated : (x : ℕ) → Has (entries_with_line b quantity.Evaporated) x → slice_index m.evaporated x
       ≡ of_entry b.reservoirs x (λ r. evaporation r.area (slice_index m.opening x) (slice_index r.rate (in_year b m.index))) 0
-  pub returned : (x : ℕ) → Has (return_nodes b) x → slice_index m.returned x ≡ returned_at b (map (λ k. k.delivered) before) x m.index
-  pub used : (x : ℕ) → Has (rights_with_volume b) x → slice_index m.used x ≡ used_of b (map (λ k. k.delivered) before) x m.index
-  pub flow : (x : ℕ) → Has (places_of b.links) x → nat_lt (carry_of b m.month x) (slice_index m.plan.flow x) ≡ false
+  pub returned : (x : ℕ) → Has (entries_with_line b quantity.Returned) x → slice_index m.returned x ≡ returned_at b (map (λ k. k.delivered) before) x m.index
+  pub used : (x : ℕ) → Has (entries_with_line b quantity.Used) x → slice_index m.used x ≡ used_of b (map (λ k. k.delivered) before) x m.index
+  pub flow : (x : ℕ) → Has (entries_with_line b quantity.Flow) x → nat_lt (carry_of b m.month x) (slice_index m.plan.flow x) ≡ false
   pub deliver : (x : ℕ) → Has (seniors_first b) x → (slice_index m.want x ≡ want_of b series x m.index (slice_index m.used x))
       × (amount_wrong (instream_link b x) m.plan.flow (slice_index m.delivered x) (slice_index m.want x) ≡ false)
   pub balance : (n : ℕ) → n < length b.nodes → balances b m n ≡ true
   pub sets : HasRightSets b m
-  pub closing : (x : ℕ) → Has (places_of b.reservoirs) x → slice_index m.closing x
+  pub closing : (x : ℕ) → Has (entries_with_line b quantity.Closing) x → slice_index m.closing x
       ≡ total_where (length b.rights) (λ r. is_zone_of b r x) (λ r. slice_index m.plan.take r)
 
 -- the balance of a month, by what is told

@@ -1,329 +1,161 @@
 -- The lines that fill what is due for a month.
 use Rattle.std.proofs.Common.{◌≡◌, ℕ, Bool, refl, sym, ap, subst, ◌∙◌, List, [], ◌∷◌, ◌++◌, length, map, append_assoc}
-use Rattle.std.specs.Prelude.{Option, Some}
+use Rattle.std.specs.Prelude.{Option, Some, None, filter, is_some}
 use Rattle.std.specs.List.{flat_map}
-use Rattle.water_model.specs.Places.{places_of, seniors_first, return_nodes, outlets, rights_with_volume}
+use Rattle.water_model.specs.Basin.{taking_node}
+use Rattle.water_model.specs.Entries.{in_order}
+use Rattle.water_model.specs.Places.{seniors_first}
+use Rattle.water_model.specs.Quantities.{entries_with_line, has_line, space_of}
 use Rattle.water_model.specs.Text.{call_items}
 use Rattle.water_model.specs.Valid.{IsValidBasin}
 use Rattle.water_model.specs.declared.item.Item.{Item}
 use Rattle.water_model.specs.declared.item.Item.TheVariants as line
+use Rattle.water_model.specs.declared.item.Section.{Section}
+use Rattle.water_model.specs.declared.item.Section.TheVariants as section
+use Rattle.water_model.specs.declared.item.TheConstants.{SECTIONS}
+use Rattle.water_model.specs.declared.quantity.Quantity.{Quantity}
+use Rattle.water_model.specs.declared.quantity.Quantity.TheVariants as quantity
 use Rattle.water_model.specs.declared.types.Basin.{Basin}
-use Rattle.result_reader.specs.Form.{Fills, due_in_month, takers}
+use Rattle.water_model.proofs.Quantities.{flat_map_if, flat_map_one}
+use Rattle.result_reader.specs.Form.{Fills, due_in_month, shapes_in}
 use Rattle.result_reader.specs.declared.shape.Shape.{Shape}
 use Rattle.result_reader.specs.declared.shape.Shape.TheVariants as shape
 use Rattle.cert_check.proofs.Callers.{called_line}
-use Rattle.cert_check.proofs.Inverts.{Fields, one_line, each_line, each_call, each_called}
-use Rattle.cert_check.proofs.Sheets.{Sheet, sheet_lines, places_apart, filter_apart, seniors_apart}
+use Rattle.cert_check.proofs.Inverts.{Fields, no_fields, one_line, each_line, each_call, each_called}
+use Rattle.cert_check.proofs.Sheets.{Sheet, sheet_lines, filter_apart, in_order_apart, seniors_apart}
+use Rattle.cert_check.proofs.Spread.{onto, spread}
 
--- what is due for a month, and behind it
-abbrev then_due : Basin → List Shape → List Shape
-then_due b ds =
-    map (λ x. shape.Opening x) (places_of b.reservoirs) ++ (map (λ x. shape.Evaporated x) (places_of b.reservoirs) ++ (map (λ x. shape.Returned x) (return_nodes b) ++ (map (λ x. shape.Used x) (rights_with_volume b) ++ (map (λ x. shape.Flow x) (places_of b.links) ++ (map (λ x. shape.Deliver x) (seniors_first b) ++ (map (λ x. shape.Outflow x) (outlets b) ++ (map (λ x. shape.Call x) (seniors_first b) ++ (map (λ x. shape.Called x) (takers b) ++ (map (λ x. shape.Closing x) (places_of b.reservoirs) ++ (shape.End ∷ ds))))))))))
-
-due_then : (b : Basin) (ds : List Shape) → due_in_month b ++ ds ≡ then_due b ds
-unfolding due_in_month
-due_then b ds =
-    append_assoc (map (λ x. shape.Opening x) (places_of b.reservoirs)) (map (λ x. shape.Evaporated x) (places_of b.reservoirs) ++ (map (λ x. shape.Returned x) (return_nodes b) ++ (map (λ x. shape.Used x) (rights_with_volume b) ++ (map (λ x. shape.Flow x) (places_of b.links) ++ (map (λ x. shape.Deliver x) (seniors_first b) ++ (map (λ x. shape.Outflow x) (outlets b) ++ (map (λ x. shape.Call x) (seniors_first b) ++ (map (λ x. shape.Called x) (takers b) ++ (map (λ x. shape.Closing x) (places_of b.reservoirs) ++ (shape.End ∷ [])))))))))) ds ∙ ap (λ ys. map (λ x. shape.Opening x) (places_of b.reservoirs) ++ ys) (append_assoc (map (λ x. shape.Evaporated x) (places_of b.reservoirs)) (map (λ x. shape.Returned x) (return_nodes b) ++ (map (λ x. shape.Used x) (rights_with_volume b) ++ (map (λ x. shape.Flow x) (places_of b.links) ++ (map (λ x. shape.Deliver x) (seniors_first b) ++ (map (λ x. shape.Outflow x) (outlets b) ++ (map (λ x. shape.Call x) (seniors_first b) ++ (map (λ x. shape.Called x) (takers b) ++ (map (λ x. shape.Closing x) (places_of b.reservoirs) ++ (shape.End ∷ []))))))))) ds ∙ ap (λ ys. map (λ x. shape.Evaporated x) (places_of b.reservoirs) ++ ys) (append_assoc (map (λ x. shape.Returned x) (return_nodes b)) (map (λ x. shape.Used x) (rights_with_volume b) ++ (map (λ x. shape.Flow x) (places_of b.links) ++ (map (λ x. shape.Deliver x) (seniors_first b) ++ (map (λ x. shape.Outflow x) (outlets b) ++ (map (λ x. shape.Call x) (seniors_first b) ++ (map (λ x. shape.Called x) (takers b) ++ (map (λ x. shape.Closing x) (places_of b.reservoirs) ++ (shape.End ∷ [])))))))) ds ∙ ap (λ ys. map (λ x. shape.Returned x) (return_nodes b) ++ ys) (append_assoc (map (λ x. shape.Used x) (rights_with_volume b)) (map (λ x. shape.Flow x) (places_of b.links) ++ (map (λ x. shape.Deliver x) (seniors_first b) ++ (map (λ x. shape.Outflow x) (outlets b) ++ (map (λ x. shape.Call x) (seniors_first b) ++ (map (λ x. shape.Called x) (takers b) ++ (map (λ x. shape.Closing x) (places_of b.reservoirs) ++ (shape.End ∷ []))))))) ds ∙ ap (λ ys. map (λ x. shape.Used x) (rights_with_volume b) ++ ys) (append_assoc (map (λ x. shape.Flow x) (places_of b.links)) (map (λ x. shape.Deliver x) (seniors_first b) ++ (map (λ x. shape.Outflow x) (outlets b) ++ (map (λ x. shape.Call x) (seniors_first b) ++ (map (λ x. shape.Called x) (takers b) ++ (map (λ x. shape.Closing x) (places_of b.reservoirs) ++ (shape.End ∷ [])))))) ds ∙ ap (λ ys. map (λ x. shape.Flow x) (places_of b.links) ++ ys) (append_assoc (map (λ x. shape.Deliver x) (seniors_first b)) (map (λ x. shape.Outflow x) (outlets b) ++ (map (λ x. shape.Call x) (seniors_first b) ++ (map (λ x. shape.Called x) (takers b) ++ (map (λ x. shape.Closing x) (places_of b.reservoirs) ++ (shape.End ∷ []))))) ds ∙ ap (λ ys. map (λ x. shape.Deliver x) (seniors_first b) ++ ys) (append_assoc (map (λ x. shape.Outflow x) (outlets b)) (map (λ x. shape.Call x) (seniors_first b) ++ (map (λ x. shape.Called x) (takers b) ++ (map (λ x. shape.Closing x) (places_of b.reservoirs) ++ (shape.End ∷ [])))) ds ∙ ap (λ ys. map (λ x. shape.Outflow x) (outlets b) ++ ys) (append_assoc (map (λ x. shape.Call x) (seniors_first b)) (map (λ x. shape.Called x) (takers b) ++ (map (λ x. shape.Closing x) (places_of b.reservoirs) ++ (shape.End ∷ []))) ds ∙ ap (λ ys. map (λ x. shape.Call x) (seniors_first b) ++ ys) (append_assoc (map (λ x. shape.Called x) (takers b)) (map (λ x. shape.Closing x) (places_of b.reservoirs) ++ (shape.End ∷ [])) ds ∙ ap (λ ys. map (λ x. shape.Called x) (takers b) ++ ys) (append_assoc (map (λ x. shape.Closing x) (places_of b.reservoirs)) (shape.End ∷ []) ds ∙ ap (λ ys. map (λ x. shape.Closing x) (places_of b.reservoirs) ++ ys) (refl))))))))))
-
-glue : (items front tail others rest : List Item) → items ≡ front ++ others → others ≡ tail ++ rest → items ≡ (front ++ tail) ++ rest
-glue items front tail others rest e f = e ∙ (ap (λ ys. front ++ ys) f ∙ sym (append_assoc front tail rest))
-
--- the last line of a month
-record FromEnd (b : Basin) (ds : List Shape) (items : List Item) : Type 0 where
-  others : List Item
-  are : items ≡ (line.End ∷ []) ++ others
-  rest : Fills b ds others
-
-from_end : (b : Basin) → IsValidBasin b → (ds : List Shape) (items : List Item) → Fills b (shape.End ∷ ds) items → FromEnd b ds items
-from_end b valid ds items h =
-    let last = one_line b shape.End ds items refl h in
-    record { others = last.others; are = last.are ∙ ap (λ ms. line.End ∷ (ms ++ last.others)) last.followed; rest = last.rest }
-
--- the lines from here on
-record FromClosing (b : Basin) (ds : List Shape) (items : List Item) : Type 0 where
-  closing : ℕ → Fields
-  others : List Item
-  are : items ≡ (map (λ x. line.Closing x (closing x).one) (places_of b.reservoirs) ++ (line.End ∷ [])) ++ others
-  rest : Fills b ds others
-
-from_closing : (b : Basin) → IsValidBasin b → (ds : List Shape) (items : List Item) → Fills b (map (λ x. shape.Closing x) (places_of b.reservoirs) ++ (shape.End ∷ ds)) items → FromClosing b ds items
-from_closing b valid ds items h =
-    let l = each_line b (λ x. shape.Closing x) (λ x. refl) (λ x f ms e. e) (places_of b.reservoirs) (places_apart 0 (length b.reservoirs)) (shape.End ∷ ds) items h in
-    let t = from_end b valid ds l.others l.rest in
-    record {
-      closing = l.fields;
-      others = t.others;
-      are = glue items _ _ l.others t.others l.are t.are;
-      rest = t.rest;
-    }
-
--- the lines from here on
-record FromCalled (b : Basin) (ds : List Shape) (items : List Item) : Type 0 where
-  dues : List (ℕ × ℕ)
-  closing : ℕ → Fields
-  others : List Item
-  are : items ≡ (map called_line dues ++ (map (λ x. line.Closing x (closing x).one) (places_of b.reservoirs) ++ (line.End ∷ []))) ++ others
-  rest : Fills b ds others
-
-from_called : (b : Basin) → IsValidBasin b → (ds : List Shape) (items : List Item) → Fills b (map (λ x. shape.Called x) (takers b) ++ (map (λ x. shape.Closing x) (places_of b.reservoirs) ++ (shape.End ∷ ds))) items → FromCalled b ds items
-from_called b valid ds items h =
-    let l = each_called b (takers b) (map (λ x. shape.Closing x) (places_of b.reservoirs) ++ (shape.End ∷ ds)) items h in
-    let t = from_closing b valid ds l.others l.rest in
-    record {
-      dues = l.dues;
-      closing = t.closing;
-      others = t.others;
-      are = glue items _ _ l.others t.others l.are t.are;
-      rest = t.rest;
-    }
-
--- the lines from here on
-record FromCall (b : Basin) (ds : List Shape) (items : List Item) : Type 0 where
+-- what the lines of a section give
+record Content : Type 0 where
+  fields : ℕ → Fields
   cut : ℕ → Option (List Bool)
-  sized : (r : ℕ) (set : List Bool) → cut r ≡ Some set → length set ≡ length b.nodes
   dues : List (ℕ × ℕ)
-  closing : ℕ → Fields
+
+-- and the lines that it gives
+abbrev content_lines : Basin → Section → Content → List Item
+content_lines b (section.Amounts q) c = map (λ x. line.Amount q x (c.fields x).one) (entries_with_line b q)
+content_lines b section.Deliveries c = map (λ x. line.Deliver x (c.fields x).one (c.fields x).two) (seniors_first b)
+content_lines b section.Calls c = flat_map (λ r. call_items r (c.cut r)) (seniors_first b)
+content_lines b section.Called c = map called_line c.dues
+
+abbrev AreSized : Basin → Content → Type 0
+AreSized b c = (r : ℕ) (set : List Bool) → c.cut r ≡ Some set → length set ≡ length b.nodes
+
+-- the lines of one section
+record SectionLines (b : Basin) (k : Section) (ds : List Shape) (items : List Item) : Type 0 where
+  content : Content
+  sized : AreSized b content
   others : List Item
-  are : items ≡ (flat_map (λ r. call_items r (cut r)) (seniors_first b) ++ (map called_line dues ++ (map (λ x. line.Closing x (closing x).one) (places_of b.reservoirs) ++ (line.End ∷ [])))) ++ others
+  are : items ≡ content_lines b k content ++ others
   rest : Fills b ds others
 
-from_call : (b : Basin) → IsValidBasin b → (ds : List Shape) (items : List Item) → Fills b (map (λ x. shape.Call x) (seniors_first b) ++ (map (λ x. shape.Called x) (takers b) ++ (map (λ x. shape.Closing x) (places_of b.reservoirs) ++ (shape.End ∷ ds)))) items → FromCall b ds items
-from_call b valid ds items h =
-    let l = each_call b (seniors_first b) (seniors_apart b valid) (map (λ x. shape.Called x) (takers b) ++ (map (λ x. shape.Closing x) (places_of b.reservoirs) ++ (shape.End ∷ ds))) items h in
-    let t = from_called b valid ds l.others l.rest in
+no_set : {X : Type 0} (set : List Bool) → None ≡ Some set → X
+no_set set e = cc
+
+section_filled : (b : Basin) → IsValidBasin b → (k : Section) (ds : List Shape) (items : List Item) →
+    Fills b (shapes_in k b ++ ds) items → SectionLines b k ds items
+section_filled b valid (section.Amounts q) ds items h =
+    let l = each_line b (λ x. shape.Amount q x) (λ x. refl) (λ x f ms e. e) (entries_with_line b q)
+    (filter_apart (λ x. has_line b q x) (in_order (space_of q) b) (in_order_apart b valid (space_of q))) ds items
+    (subst (λ (xs : List Shape). Fills b (xs ++ ds) items)
+    (flat_map_if (λ x. has_line b q x) (λ x. shape.Amount q x) (in_order (space_of q) b)) h) in
     record {
-      cut = l.cut;
+      content = record { fields = l.fields; cut = λ r. None; dues = [] };
+      sized = λ r set e. no_set set e;
+      others = l.others;
+      are = l.are;
+      rest = l.rest;
+    }
+section_filled b valid section.Deliveries ds items h =
+    let l = each_line b (λ x. shape.Deliver x) (λ x. refl) (λ x f ms e. e) (seniors_first b) (seniors_apart b valid) ds items
+    (subst (λ (xs : List Shape). Fills b (xs ++ ds) items) (flat_map_one (λ r. shape.Deliver r) (seniors_first b)) h) in
+    record {
+      content = record { fields = l.fields; cut = λ r. None; dues = [] };
+      sized = λ r set e. no_set set e;
+      others = l.others;
+      are = l.are;
+      rest = l.rest;
+    }
+section_filled b valid section.Calls ds items h =
+    let l = each_call b (seniors_first b) (seniors_apart b valid) ds items
+    (subst (λ (xs : List Shape). Fills b (xs ++ ds) items) (flat_map_one (λ r. shape.Call r) (seniors_first b)) h) in
+    record {
+      content = record { fields = λ x. no_fields; cut = l.cut; dues = [] };
       sized = λ r set e. (l.sized r set e).0;
-      dues = t.dues;
-      closing = t.closing;
-      others = t.others;
-      are = glue items _ _ l.others t.others l.are t.are;
-      rest = t.rest;
+      others = l.others;
+      are = l.are;
+      rest = l.rest;
+    }
+section_filled b valid section.Called ds items h =
+    let l = each_called b (filter (λ r. is_some (taking_node b r)) (seniors_first b)) ds items
+    (subst (λ (xs : List Shape). Fills b (xs ++ ds) items)
+    (flat_map_if (λ r. is_some (taking_node b r)) (λ r. shape.Called r) (seniors_first b)) h) in
+    record {
+      content = record { fields = λ x. no_fields; cut = λ r. None; dues = l.dues };
+      sized = λ r set e. no_set set e;
+      others = l.others;
+      are = l.are;
+      rest = l.rest;
     }
 
--- the lines from here on
-record FromOut (b : Basin) (ds : List Shape) (items : List Item) : Type 0 where
-  out : ℕ → Fields
-  cut : ℕ → Option (List Bool)
-  sized : (r : ℕ) (set : List Bool) → cut r ≡ Some set → length set ≡ length b.nodes
-  dues : List (ℕ × ℕ)
-  closing : ℕ → Fields
+-- what the lines of some sections give, one for each
+abbrev Contents : List Section → Type 0
+Contents [] = Unit {0}
+Contents (k ∷ ks) = Content × Contents ks
+
+abbrev AllSized : (ks : List Section) → Basin → Contents ks → Type 0
+AllSized [] b cs = Unit {0}
+AllSized (k ∷ ks) b cs = AreSized b cs.0 × AllSized ks b cs.1
+
+abbrev all_lines : (ks : List Section) → Basin → Contents ks → List Item → List Item
+all_lines [] b cs ys = ys
+all_lines (k ∷ ks) b cs ys = content_lines b k cs.0 ++ all_lines ks b cs.1 ys
+
+all_lines-then : (ks : List Section) (b : Basin) (cs : Contents ks) (ys zs : List Item) → all_lines ks b cs ys ++ zs ≡ all_lines ks b cs (ys ++ zs)
+all_lines-then [] b cs ys zs = refl
+all_lines-then (k ∷ ks) b cs ys zs =
+    append_assoc (content_lines b k cs.0) (all_lines ks b cs.1 ys) zs
+    ∙ ap (λ xs. content_lines b k cs.0 ++ xs) (all_lines-then ks b cs.1 ys zs)
+
+record AllLines (b : Basin) (ks : List Section) (ds : List Shape) (items : List Item) : Type 0 where
+  contents : Contents ks
+  sized : AllSized ks b contents
   others : List Item
-  are : items ≡ (map (λ x. line.Outflow x (out x).one) (outlets b) ++ (flat_map (λ r. call_items r (cut r)) (seniors_first b) ++ (map called_line dues ++ (map (λ x. line.Closing x (closing x).one) (places_of b.reservoirs) ++ (line.End ∷ []))))) ++ others
+  are : items ≡ all_lines ks b contents others
   rest : Fills b ds others
 
-from_out : (b : Basin) → IsValidBasin b → (ds : List Shape) (items : List Item) → Fills b (map (λ x. shape.Outflow x) (outlets b) ++ (map (λ x. shape.Call x) (seniors_first b) ++ (map (λ x. shape.Called x) (takers b) ++ (map (λ x. shape.Closing x) (places_of b.reservoirs) ++ (shape.End ∷ ds))))) items → FromOut b ds items
-from_out b valid ds items h =
-    let l = each_line b (λ x. shape.Outflow x) (λ x. refl) (λ x f ms e. e) (outlets b) (filter_apart _ (places_of b.nodes) (places_apart 0 (length b.nodes))) (map (λ x. shape.Call x) (seniors_first b) ++ (map (λ x. shape.Called x) (takers b) ++ (map (λ x. shape.Closing x) (places_of b.reservoirs) ++ (shape.End ∷ ds)))) items h in
-    let t = from_call b valid ds l.others l.rest in
+sections_filled : (b : Basin) → IsValidBasin b → (ks : List Section) (ds : List Shape) (items : List Item) →
+    Fills b (onto (λ k. shapes_in k b) ks ds) items → AllLines b ks ds items
+sections_filled b valid [] ds items h = record { contents = tt; sized = tt; others = items; are = refl; rest = h }
+sections_filled b valid (k ∷ ks) ds items h =
+    let first = section_filled b valid k (onto (λ k. shapes_in k b) ks ds) items h in
+    let later = sections_filled b valid ks ds first.others first.rest in
     record {
-      out = l.fields;
-      cut = t.cut;
-      sized = t.sized;
-      dues = t.dues;
-      closing = t.closing;
-      others = t.others;
-      are = glue items _ _ l.others t.others l.are t.are;
-      rest = t.rest;
+      contents = (first.content, later.contents);
+      sized = (first.sized, later.sized);
+      others = later.others;
+      are = first.are ∙ ap (λ xs. content_lines b k first.content ++ xs) later.are;
+      rest = later.rest;
     }
 
--- the lines from here on
-record FromDeliver (b : Basin) (ds : List Shape) (items : List Item) : Type 0 where
-  deliver : ℕ → Fields
-  out : ℕ → Fields
-  cut : ℕ → Option (List Bool)
-  sized : (r : ℕ) (set : List Bool) → cut r ≡ Some set → length set ≡ length b.nodes
-  dues : List (ℕ × ℕ)
-  closing : ℕ → Fields
-  others : List Item
-  are : items ≡ (map (λ x. line.Deliver x (deliver x).one (deliver x).two) (seniors_first b) ++ (map (λ x. line.Outflow x (out x).one) (outlets b) ++ (flat_map (λ r. call_items r (cut r)) (seniors_first b) ++ (map called_line dues ++ (map (λ x. line.Closing x (closing x).one) (places_of b.reservoirs) ++ (line.End ∷ [])))))) ++ others
-  rest : Fills b ds others
+-- The sheet of all sections, in their order.
 
-from_deliver : (b : Basin) → IsValidBasin b → (ds : List Shape) (items : List Item) → Fills b (map (λ x. shape.Deliver x) (seniors_first b) ++ (map (λ x. shape.Outflow x) (outlets b) ++ (map (λ x. shape.Call x) (seniors_first b) ++ (map (λ x. shape.Called x) (takers b) ++ (map (λ x. shape.Closing x) (places_of b.reservoirs) ++ (shape.End ∷ ds)))))) items → FromDeliver b ds items
-from_deliver b valid ds items h =
-    let l = each_line b (λ x. shape.Deliver x) (λ x. refl) (λ x f ms e. e) (seniors_first b) (seniors_apart b valid) (map (λ x. shape.Outflow x) (outlets b) ++ (map (λ x. shape.Call x) (seniors_first b) ++ (map (λ x. shape.Called x) (takers b) ++ (map (λ x. shape.Closing x) (places_of b.reservoirs) ++ (shape.End ∷ ds))))) items h in
-    let t = from_out b valid ds l.others l.rest in
-    record {
-      deliver = l.fields;
-      out = t.out;
-      cut = t.cut;
-      sized = t.sized;
-      dues = t.dues;
-      closing = t.closing;
-      others = t.others;
-      are = glue items _ _ l.others t.others l.are t.are;
-      rest = t.rest;
-    }
+abbrev amount_in : Contents SECTIONS → Quantity → ℕ → ℕ
+amount_in cs quantity.Opening x = (cs.0.fields x).one
+amount_in cs quantity.Evaporated x = (cs.1.0.fields x).one
+amount_in cs quantity.Returned x = (cs.1.1.0.fields x).one
+amount_in cs quantity.Used x = (cs.1.1.1.0.fields x).one
+amount_in cs quantity.Flow x = (cs.1.1.1.1.0.fields x).one
+amount_in cs quantity.Outflow x = (cs.1.1.1.1.1.1.0.fields x).one
+amount_in cs quantity.Closing x = (cs.1.1.1.1.1.1.1.1.1.0.fields x).one
 
--- the lines from here on
-record FromFlow (b : Basin) (ds : List Shape) (items : List Item) : Type 0 where
-  flow : ℕ → Fields
-  deliver : ℕ → Fields
-  out : ℕ → Fields
-  cut : ℕ → Option (List Bool)
-  sized : (r : ℕ) (set : List Bool) → cut r ≡ Some set → length set ≡ length b.nodes
-  dues : List (ℕ × ℕ)
-  closing : ℕ → Fields
-  others : List Item
-  are : items ≡ (map (λ x. line.Flow x (flow x).one) (places_of b.links) ++ (map (λ x. line.Deliver x (deliver x).one (deliver x).two) (seniors_first b) ++ (map (λ x. line.Outflow x (out x).one) (outlets b) ++ (flat_map (λ r. call_items r (cut r)) (seniors_first b) ++ (map called_line dues ++ (map (λ x. line.Closing x (closing x).one) (places_of b.reservoirs) ++ (line.End ∷ []))))))) ++ others
-  rest : Fills b ds others
-
-from_flow : (b : Basin) → IsValidBasin b → (ds : List Shape) (items : List Item) → Fills b (map (λ x. shape.Flow x) (places_of b.links) ++ (map (λ x. shape.Deliver x) (seniors_first b) ++ (map (λ x. shape.Outflow x) (outlets b) ++ (map (λ x. shape.Call x) (seniors_first b) ++ (map (λ x. shape.Called x) (takers b) ++ (map (λ x. shape.Closing x) (places_of b.reservoirs) ++ (shape.End ∷ ds))))))) items → FromFlow b ds items
-from_flow b valid ds items h =
-    let l = each_line b (λ x. shape.Flow x) (λ x. refl) (λ x f ms e. e) (places_of b.links) (places_apart 0 (length b.links)) (map (λ x. shape.Deliver x) (seniors_first b) ++ (map (λ x. shape.Outflow x) (outlets b) ++ (map (λ x. shape.Call x) (seniors_first b) ++ (map (λ x. shape.Called x) (takers b) ++ (map (λ x. shape.Closing x) (places_of b.reservoirs) ++ (shape.End ∷ ds)))))) items h in
-    let t = from_deliver b valid ds l.others l.rest in
-    record {
-      flow = l.fields;
-      deliver = t.deliver;
-      out = t.out;
-      cut = t.cut;
-      sized = t.sized;
-      dues = t.dues;
-      closing = t.closing;
-      others = t.others;
-      are = glue items _ _ l.others t.others l.are t.are;
-      rest = t.rest;
-    }
-
--- the lines from here on
-record FromUsed (b : Basin) (ds : List Shape) (items : List Item) : Type 0 where
-  used : ℕ → Fields
-  flow : ℕ → Fields
-  deliver : ℕ → Fields
-  out : ℕ → Fields
-  cut : ℕ → Option (List Bool)
-  sized : (r : ℕ) (set : List Bool) → cut r ≡ Some set → length set ≡ length b.nodes
-  dues : List (ℕ × ℕ)
-  closing : ℕ → Fields
-  others : List Item
-  are : items ≡ (map (λ x. line.Used x (used x).one) (rights_with_volume b) ++ (map (λ x. line.Flow x (flow x).one) (places_of b.links) ++ (map (λ x. line.Deliver x (deliver x).one (deliver x).two) (seniors_first b) ++ (map (λ x. line.Outflow x (out x).one) (outlets b) ++ (flat_map (λ r. call_items r (cut r)) (seniors_first b) ++ (map called_line dues ++ (map (λ x. line.Closing x (closing x).one) (places_of b.reservoirs) ++ (line.End ∷ [])))))))) ++ others
-  rest : Fills b ds others
-
-from_used : (b : Basin) → IsValidBasin b → (ds : List Shape) (items : List Item) → Fills b (map (λ x. shape.Used x) (rights_with_volume b) ++ (map (λ x. shape.Flow x) (places_of b.links) ++ (map (λ x. shape.Deliver x) (seniors_first b) ++ (map (λ x. shape.Outflow x) (outlets b) ++ (map (λ x. shape.Call x) (seniors_first b) ++ (map (λ x. shape.Called x) (takers b) ++ (map (λ x. shape.Closing x) (places_of b.reservoirs) ++ (shape.End ∷ ds)))))))) items → FromUsed b ds items
-from_used b valid ds items h =
-    let l = each_line b (λ x. shape.Used x) (λ x. refl) (λ x f ms e. e) (rights_with_volume b) (filter_apart _ (seniors_first b) (seniors_apart b valid)) (map (λ x. shape.Flow x) (places_of b.links) ++ (map (λ x. shape.Deliver x) (seniors_first b) ++ (map (λ x. shape.Outflow x) (outlets b) ++ (map (λ x. shape.Call x) (seniors_first b) ++ (map (λ x. shape.Called x) (takers b) ++ (map (λ x. shape.Closing x) (places_of b.reservoirs) ++ (shape.End ∷ ds))))))) items h in
-    let t = from_flow b valid ds l.others l.rest in
-    record {
-      used = l.fields;
-      flow = t.flow;
-      deliver = t.deliver;
-      out = t.out;
-      cut = t.cut;
-      sized = t.sized;
-      dues = t.dues;
-      closing = t.closing;
-      others = t.others;
-      are = glue items _ _ l.others t.others l.are t.are;
-      rest = t.rest;
-    }
-
--- the lines from here on
-record FromReturned (b : Basin) (ds : List Shape) (items : List Item) : Type 0 where
-  returned : ℕ → Fields
-  used : ℕ → Fields
-  flow : ℕ → Fields
-  deliver : ℕ → Fields
-  out : ℕ → Fields
-  cut : ℕ → Option (List Bool)
-  sized : (r : ℕ) (set : List Bool) → cut r ≡ Some set → length set ≡ length b.nodes
-  dues : List (ℕ × ℕ)
-  closing : ℕ → Fields
-  others : List Item
-  are : items ≡ (map (λ x. line.Returned x (returned x).one) (return_nodes b) ++ (map (λ x. line.Used x (used x).one) (rights_with_volume b) ++ (map (λ x. line.Flow x (flow x).one) (places_of b.links) ++ (map (λ x. line.Deliver x (deliver x).one (deliver x).two) (seniors_first b) ++ (map (λ x. line.Outflow x (out x).one) (outlets b) ++ (flat_map (λ r. call_items r (cut r)) (seniors_first b) ++ (map called_line dues ++ (map (λ x. line.Closing x (closing x).one) (places_of b.reservoirs) ++ (line.End ∷ []))))))))) ++ others
-  rest : Fills b ds others
-
-from_returned : (b : Basin) → IsValidBasin b → (ds : List Shape) (items : List Item) → Fills b (map (λ x. shape.Returned x) (return_nodes b) ++ (map (λ x. shape.Used x) (rights_with_volume b) ++ (map (λ x. shape.Flow x) (places_of b.links) ++ (map (λ x. shape.Deliver x) (seniors_first b) ++ (map (λ x. shape.Outflow x) (outlets b) ++ (map (λ x. shape.Call x) (seniors_first b) ++ (map (λ x. shape.Called x) (takers b) ++ (map (λ x. shape.Closing x) (places_of b.reservoirs) ++ (shape.End ∷ ds))))))))) items → FromReturned b ds items
-from_returned b valid ds items h =
-    let l = each_line b (λ x. shape.Returned x) (λ x. refl) (λ x f ms e. e) (return_nodes b) (filter_apart _ (places_of b.nodes) (places_apart 0 (length b.nodes))) (map (λ x. shape.Used x) (rights_with_volume b) ++ (map (λ x. shape.Flow x) (places_of b.links) ++ (map (λ x. shape.Deliver x) (seniors_first b) ++ (map (λ x. shape.Outflow x) (outlets b) ++ (map (λ x. shape.Call x) (seniors_first b) ++ (map (λ x. shape.Called x) (takers b) ++ (map (λ x. shape.Closing x) (places_of b.reservoirs) ++ (shape.End ∷ ds)))))))) items h in
-    let t = from_used b valid ds l.others l.rest in
-    record {
-      returned = l.fields;
-      used = t.used;
-      flow = t.flow;
-      deliver = t.deliver;
-      out = t.out;
-      cut = t.cut;
-      sized = t.sized;
-      dues = t.dues;
-      closing = t.closing;
-      others = t.others;
-      are = glue items _ _ l.others t.others l.are t.are;
-      rest = t.rest;
-    }
-
--- the lines from here on
-record FromEvaporated (b : Basin) (ds : List Shape) (items : List Item) : Type 0 where
-  evaporated : ℕ → Fields
-  returned : ℕ → Fields
-  used : ℕ → Fields
-  flow : ℕ → Fields
-  deliver : ℕ → Fields
-  out : ℕ → Fields
-  cut : ℕ → Option (List Bool)
-  sized : (r : ℕ) (set : List Bool) → cut r ≡ Some set → length set ≡ length b.nodes
-  dues : List (ℕ × ℕ)
-  closing : ℕ → Fields
-  others : List Item
-  are : items ≡ (map (λ x. line.Evaporated x (evaporated x).one) (places_of b.reservoirs) ++ (map (λ x. line.Returned x (returned x).one) (return_nodes b) ++ (map (λ x. line.Used x (used x).one) (rights_with_volume b) ++ (map (λ x. line.Flow x (flow x).one) (places_of b.links) ++ (map (λ x. line.Deliver x (deliver x).one (deliver x).two) (seniors_first b) ++ (map (λ x. line.Outflow x (out x).one) (outlets b) ++ (flat_map (λ r. call_items r (cut r)) (seniors_first b) ++ (map called_line dues ++ (map (λ x. line.Closing x (closing x).one) (places_of b.reservoirs) ++ (line.End ∷ [])))))))))) ++ others
-  rest : Fills b ds others
-
-from_evaporated : (b : Basin) → IsValidBasin b → (ds : List Shape) (items : List Item) → Fills b (map (λ x. shape.Evaporated x) (places_of b.reservoirs) ++ (map (λ x. shape.Returned x) (return_nodes b) ++ (map (λ x. shape.Used x) (rights_with_volume b) ++ (map (λ x. shape.Flow x) (places_of b.links) ++ (map (λ x. shape.Deliver x) (seniors_first b) ++ (map (λ x. shape.Outflow x) (outlets b) ++ (map (λ x. shape.Call x) (seniors_first b) ++ (map (λ x. shape.Called x) (takers b) ++ (map (λ x. shape.Closing x) (places_of b.reservoirs) ++ (shape.End ∷ ds)))))))))) items → FromEvaporated b ds items
-from_evaporated b valid ds items h =
-    let l = each_line b (λ x. shape.Evaporated x) (λ x. refl) (λ x f ms e. e) (places_of b.reservoirs) (places_apart 0 (length b.reservoirs)) (map (λ x. shape.Returned x) (return_nodes b) ++ (map (λ x. shape.Used x) (rights_with_volume b) ++ (map (λ x. shape.Flow x) (places_of b.links) ++ (map (λ x. shape.Deliver x) (seniors_first b) ++ (map (λ x. shape.Outflow x) (outlets b) ++ (map (λ x. shape.Call x) (seniors_first b) ++ (map (λ x. shape.Called x) (takers b) ++ (map (λ x. shape.Closing x) (places_of b.reservoirs) ++ (shape.End ∷ ds))))))))) items h in
-    let t = from_returned b valid ds l.others l.rest in
-    record {
-      evaporated = l.fields;
-      returned = t.returned;
-      used = t.used;
-      flow = t.flow;
-      deliver = t.deliver;
-      out = t.out;
-      cut = t.cut;
-      sized = t.sized;
-      dues = t.dues;
-      closing = t.closing;
-      others = t.others;
-      are = glue items _ _ l.others t.others l.are t.are;
-      rest = t.rest;
-    }
-
--- the lines from here on
-record FromOpening (b : Basin) (ds : List Shape) (items : List Item) : Type 0 where
-  opening : ℕ → Fields
-  evaporated : ℕ → Fields
-  returned : ℕ → Fields
-  used : ℕ → Fields
-  flow : ℕ → Fields
-  deliver : ℕ → Fields
-  out : ℕ → Fields
-  cut : ℕ → Option (List Bool)
-  sized : (r : ℕ) (set : List Bool) → cut r ≡ Some set → length set ≡ length b.nodes
-  dues : List (ℕ × ℕ)
-  closing : ℕ → Fields
-  others : List Item
-  are : items ≡ (map (λ x. line.Opening x (opening x).one) (places_of b.reservoirs) ++ (map (λ x. line.Evaporated x (evaporated x).one) (places_of b.reservoirs) ++ (map (λ x. line.Returned x (returned x).one) (return_nodes b) ++ (map (λ x. line.Used x (used x).one) (rights_with_volume b) ++ (map (λ x. line.Flow x (flow x).one) (places_of b.links) ++ (map (λ x. line.Deliver x (deliver x).one (deliver x).two) (seniors_first b) ++ (map (λ x. line.Outflow x (out x).one) (outlets b) ++ (flat_map (λ r. call_items r (cut r)) (seniors_first b) ++ (map called_line dues ++ (map (λ x. line.Closing x (closing x).one) (places_of b.reservoirs) ++ (line.End ∷ []))))))))))) ++ others
-  rest : Fills b ds others
-
-from_opening : (b : Basin) → IsValidBasin b → (ds : List Shape) (items : List Item) → Fills b (map (λ x. shape.Opening x) (places_of b.reservoirs) ++ (map (λ x. shape.Evaporated x) (places_of b.reservoirs) ++ (map (λ x. shape.Returned x) (return_nodes b) ++ (map (λ x. shape.Used x) (rights_with_volume b) ++ (map (λ x. shape.Flow x) (places_of b.links) ++ (map (λ x. shape.Deliver x) (seniors_first b) ++ (map (λ x. shape.Outflow x) (outlets b) ++ (map (λ x. shape.Call x) (seniors_first b) ++ (map (λ x. shape.Called x) (takers b) ++ (map (λ x. shape.Closing x) (places_of b.reservoirs) ++ (shape.End ∷ ds))))))))))) items → FromOpening b ds items
-from_opening b valid ds items h =
-    let l = each_line b (λ x. shape.Opening x) (λ x. refl) (λ x f ms e. e) (places_of b.reservoirs) (places_apart 0 (length b.reservoirs)) (map (λ x. shape.Evaporated x) (places_of b.reservoirs) ++ (map (λ x. shape.Returned x) (return_nodes b) ++ (map (λ x. shape.Used x) (rights_with_volume b) ++ (map (λ x. shape.Flow x) (places_of b.links) ++ (map (λ x. shape.Deliver x) (seniors_first b) ++ (map (λ x. shape.Outflow x) (outlets b) ++ (map (λ x. shape.Call x) (seniors_first b) ++ (map (λ x. shape.Called x) (takers b) ++ (map (λ x. shape.Closing x) (places_of b.reservoirs) ++ (shape.End ∷ ds)))))))))) items h in
-    let t = from_evaporated b valid ds l.others l.rest in
-    record {
-      opening = l.fields;
-      evaporated = t.evaporated;
-      returned = t.returned;
-      used = t.used;
-      flow = t.flow;
-      deliver = t.deliver;
-      out = t.out;
-      cut = t.cut;
-      sized = t.sized;
-      dues = t.dues;
-      closing = t.closing;
-      others = t.others;
-      are = glue items _ _ l.others t.others l.are t.are;
-      rest = t.rest;
-    }
+abbrev sheet_of : Contents SECTIONS → Sheet
+sheet_of cs = record {
+  amount = amount_in cs;
+  delivered = λ x. (cs.1.1.1.1.1.0.fields x).one;
+  want = λ x. (cs.1.1.1.1.1.0.fields x).two;
+  cut = cs.1.1.1.1.1.1.1.0.cut;
+}
 
 -- the lines of a month give a sheet
 pub record MonthLines (b : Basin) (ds : List Shape) (items : List Item) : Type 0 where
@@ -335,13 +167,23 @@ pub record MonthLines (b : Basin) (ds : List Shape) (items : List Item) : Type 0
   pub rest : Fills b ds others
 
 pub inner_filled : (b : Basin) → IsValidBasin b → (ds : List Shape) (items : List Item) → Fills b (due_in_month b ++ ds) items → MonthLines b ds items
+unfolding due_in_month
 inner_filled b valid ds items h =
-    let t = from_opening b valid ds items (subst (λ (xs : List Shape). Fills b xs items) (due_then b ds) h) in
+    let l = sections_filled b valid SECTIONS (shape.End ∷ ds) items (subst (λ (xs : List Shape). Fills b xs items) due_is h) in
+    let last = one_line b shape.End ds l.others refl l.rest in
+    let end : l.others ≡ line.End ∷ last.others = last.are ∙ ap (λ ms. line.End ∷ (ms ++ last.others)) last.followed in
     record {
-      sheet = record { opening = t.opening; evaporated = t.evaporated; returned = t.returned; used = t.used; flow = t.flow; deliver = t.deliver; out = t.out; closing = t.closing; cut = t.cut };
-      dues = t.dues;
-      sized = t.sized;
-      others = t.others;
-      are = t.are;
-      rest = t.rest;
+      sheet = sheet_of l.contents;
+      dues = l.contents.1.1.1.1.1.1.1.1.0.dues;
+      sized = l.sized.1.1.1.1.1.1.1.0;
+      others = last.others;
+      are = l.are
+          ∙ (ap (λ ys. all_lines SECTIONS b l.contents ys) end
+          ∙ sym (all_lines-then SECTIONS b l.contents (line.End ∷ []) last.others));
+      rest = last.rest;
     }
+  where
+    due_is : (flat_map (λ k. shapes_in k b) SECTIONS ++ shape.End ∷ []) ++ ds ≡ onto (λ k. shapes_in k b) SECTIONS (shape.End ∷ ds)
+    due_is =
+        append_assoc (flat_map (λ k. shapes_in k b) SECTIONS) (shape.End ∷ []) ds
+        ∙ spread (λ k. shapes_in k b) SECTIONS (shape.End ∷ ds)

@@ -11,7 +11,7 @@ use Rattle.water_text.specs.Names.{is_name}
 use Rattle.water_text.specs.Shapes.{has_shape}
 use Rattle.water_model.specs.Places.{numbers_from, members_from, by_seniority}
 use Rattle.water_model.specs.Spelling.{line_of, fields_of}
-use Rattle.water_model.specs.Text.{month_sections, calling_right, calls}
+use Rattle.water_model.specs.Text.{month_lines, calling_right, calls}
 use Rattle.water_model.specs.declared.types.Basin.{Basin}
 use Rattle.water_model.specs.declared.types.Carry.{Carry}
 use Rattle.water_model.specs.declared.types.Carry.TheVariants.{River, Canal}
@@ -76,33 +76,33 @@ abbrev series : Inflows
 series = record { gauged = 0 ∷ []; amount = 2500 ∷ 1200 ∷ []; wanted = []; want = [] }
 
 whole : refusal (verdict basin series (codes "river-result 1" ∷ codes "run 1960-07 2" ∷ codes "month 1960-07" ∷ codes "open lake 8000" ∷ codes "evap lake 440" ∷ codes "return gauge 0" ∷ codes "flow r1 2500" ∷ codes "flow r2 4600" ∷ codes "flow r3 1500" ∷ codes "flow r4 0" ∷ codes "flow r5 1500" ∷ codes "flow c1 3100" ∷ codes "deliver dead 1000 1000" ∷ codes "deliver fish 1500 1500" ∷ codes "deliver canalco 3100 4000" ∷ codes "deliver live 4460 9000" ∷ codes "deliver city 0 400" ∷ codes "out sea 1500" ∷ codes "call canalco" ∷ codes "in farm" ∷ codes "call live" ∷ codes "in upper" ∷ codes "in lake" ∷ codes "in weir" ∷ codes "in farm" ∷ codes "in gauge" ∷ codes "call city" ∷ codes "in upper" ∷ codes "in lake" ∷ codes "in weir" ∷ codes "in farm" ∷ codes "in gauge" ∷ codes "called city live" ∷ codes "close lake 5460" ∷ codes "end" ∷ codes "month 1960-08" ∷ codes "open lake 5460" ∷ codes "evap lake 273" ∷ codes "return gauge 775" ∷ codes "flow r1 1200" ∷ codes "flow r2 3825" ∷ codes "flow r3 725" ∷ codes "flow r4 0" ∷ codes "flow r5 1500" ∷ codes "flow c1 3100" ∷ codes "deliver dead 1000 1000" ∷ codes "deliver fish 1500 1500" ∷ codes "deliver canalco 3100 3800" ∷ codes "deliver live 1562 9000" ∷ codes "deliver city 0 400" ∷ codes "out sea 1500" ∷ codes "call canalco" ∷ codes "in farm" ∷ codes "call live" ∷ codes "in upper" ∷ codes "in lake" ∷ codes "in weir" ∷ codes "in farm" ∷ codes "in gauge" ∷ codes "call city" ∷ codes "in upper" ∷ codes "in lake" ∷ codes "in weir" ∷ codes "in farm" ∷ codes "in gauge" ∷ codes "called city live" ∷ codes "close lake 2562" ∷ codes "end" ∷ codes "done 2" ∷ []) []) ≡ None
-unfolding days_of days_from_civil day_count days_of_years days_of_months digits total greatest_where has_shape read_month read_amount read_plain is_name numbers_from members_from by_seniority line_of fields_of month_sections calling_right calls is_same_shape fits due_in_month due word_of item_with item_of read_line first_row judge
+unfolding days_of days_from_civil day_count days_of_years days_of_months digits total greatest_where has_shape read_month read_amount read_plain is_name numbers_from members_from by_seniority line_of fields_of month_lines calling_right calls is_same_shape fits due_in_month due word_of item_with item_of read_line first_row judge
 whole = refl
 
 other_evaporation : refusal (verdict basin series (codes "river-result 1" ∷ codes "run 1960-07 2" ∷ codes "month 1960-07" ∷ codes "open lake 8000" ∷ codes "evap lake 441" ∷ []) []) ≡ at 5 kind.Evaporation
-unfolding days_of days_from_civil day_count days_of_years days_of_months digits total greatest_where has_shape read_month read_amount read_plain is_name numbers_from members_from by_seniority line_of fields_of month_sections calling_right calls is_same_shape fits due_in_month due word_of item_with item_of read_line first_row judge
+unfolding days_of days_from_civil day_count days_of_years days_of_months digits total greatest_where has_shape read_month read_amount read_plain is_name numbers_from members_from by_seniority line_of fields_of month_lines calling_right calls is_same_shape fits due_in_month due word_of item_with item_of read_line first_row judge
 other_evaporation = refl
 
 other_opening : refusal (verdict basin series (codes "river-result 1" ∷ codes "run 1960-07 2" ∷ codes "month 1960-07" ∷ codes "open lake 8000" ∷ codes "evap lake 440" ∷ codes "return gauge 0" ∷ codes "flow r1 2500" ∷ codes "flow r2 4600" ∷ codes "flow r3 1500" ∷ codes "flow r4 0" ∷ codes "flow r5 1500" ∷ codes "flow c1 3100" ∷ codes "deliver dead 1000 1000" ∷ codes "deliver fish 1500 1500" ∷ codes "deliver canalco 3100 4000" ∷ codes "deliver live 4460 9000" ∷ codes "deliver city 0 400" ∷ codes "out sea 1500" ∷ codes "call canalco" ∷ codes "in farm" ∷ codes "call live" ∷ codes "in upper" ∷ codes "in lake" ∷ codes "in weir" ∷ codes "in farm" ∷ codes "in gauge" ∷ codes "call city" ∷ codes "in upper" ∷ codes "in lake" ∷ codes "in weir" ∷ codes "in farm" ∷ codes "in gauge" ∷ codes "called city live" ∷ codes "close lake 5460" ∷ codes "end" ∷ codes "month 1960-08" ∷ codes "open lake 5461" ∷ []) []) ≡ at 37 kind.Opening
-unfolding days_of days_from_civil day_count days_of_years days_of_months digits total greatest_where has_shape read_month read_amount read_plain is_name numbers_from members_from by_seniority line_of fields_of month_sections calling_right calls is_same_shape fits due_in_month due word_of item_with item_of read_line first_row judge
+unfolding days_of days_from_civil day_count days_of_years days_of_months digits total greatest_where has_shape read_month read_amount read_plain is_name numbers_from members_from by_seniority line_of fields_of month_lines calling_right calls is_same_shape fits due_in_month due word_of item_with item_of read_line first_row judge
 other_opening = refl
 
 other_returns : refusal (verdict basin series (codes "river-result 1" ∷ codes "run 1960-07 2" ∷ codes "month 1960-07" ∷ codes "open lake 8000" ∷ codes "evap lake 440" ∷ codes "return gauge 0" ∷ codes "flow r1 2500" ∷ codes "flow r2 4600" ∷ codes "flow r3 1500" ∷ codes "flow r4 0" ∷ codes "flow r5 1500" ∷ codes "flow c1 3100" ∷ codes "deliver dead 1000 1000" ∷ codes "deliver fish 1500 1500" ∷ codes "deliver canalco 3100 4000" ∷ codes "deliver live 4460 9000" ∷ codes "deliver city 0 400" ∷ codes "out sea 1500" ∷ codes "call canalco" ∷ codes "in farm" ∷ codes "call live" ∷ codes "in upper" ∷ codes "in lake" ∷ codes "in weir" ∷ codes "in farm" ∷ codes "in gauge" ∷ codes "call city" ∷ codes "in upper" ∷ codes "in lake" ∷ codes "in weir" ∷ codes "in farm" ∷ codes "in gauge" ∷ codes "called city live" ∷ codes "close lake 5460" ∷ codes "end" ∷ codes "month 1960-08" ∷ codes "open lake 5460" ∷ codes "evap lake 273" ∷ codes "return gauge 774" ∷ []) []) ≡ at 39 kind.Return
-unfolding days_of days_from_civil day_count days_of_years days_of_months digits total greatest_where has_shape read_month read_amount read_plain is_name numbers_from members_from by_seniority line_of fields_of month_sections calling_right calls is_same_shape fits due_in_month due word_of item_with item_of read_line first_row judge
+unfolding days_of days_from_civil day_count days_of_years days_of_months digits total greatest_where has_shape read_month read_amount read_plain is_name numbers_from members_from by_seniority line_of fields_of month_lines calling_right calls is_same_shape fits due_in_month due word_of item_with item_of read_line first_row judge
 other_returns = refl
 
 other_canal : refusal (verdict basin series (codes "river-result 1" ∷ codes "run 1960-07 2" ∷ codes "month 1960-07" ∷ codes "open lake 8000" ∷ codes "evap lake 440" ∷ codes "return gauge 0" ∷ codes "flow r1 2500" ∷ codes "flow r2 4600" ∷ codes "flow r3 1500" ∷ codes "flow r4 0" ∷ codes "flow r5 1500" ∷ codes "flow c1 3101" ∷ []) []) ≡ at 12 kind.Flow
-unfolding days_of days_from_civil day_count days_of_years days_of_months digits total greatest_where has_shape read_month read_amount read_plain is_name numbers_from members_from by_seniority line_of fields_of month_sections calling_right calls is_same_shape fits due_in_month due word_of item_with item_of read_line first_row judge
+unfolding days_of days_from_civil day_count days_of_years days_of_months digits total greatest_where has_shape read_month read_amount read_plain is_name numbers_from members_from by_seniority line_of fields_of month_lines calling_right calls is_same_shape fits due_in_month due word_of item_with item_of read_line first_row judge
 other_canal = refl
 
 other_instream : refusal (verdict basin series (codes "river-result 1" ∷ codes "run 1960-07 2" ∷ codes "month 1960-07" ∷ codes "open lake 8000" ∷ codes "evap lake 440" ∷ codes "return gauge 0" ∷ codes "flow r1 2500" ∷ codes "flow r2 4600" ∷ codes "flow r3 1500" ∷ codes "flow r4 0" ∷ codes "flow r5 1500" ∷ codes "flow c1 3100" ∷ codes "deliver dead 1000 1000" ∷ codes "deliver fish 1499 1500" ∷ []) []) ≡ at 14 kind.Delivery
-unfolding days_of days_from_civil day_count days_of_years days_of_months digits total greatest_where has_shape read_month read_amount read_plain is_name numbers_from members_from by_seniority line_of fields_of month_sections calling_right calls is_same_shape fits due_in_month due word_of item_with item_of read_line first_row judge
+unfolding days_of days_from_civil day_count days_of_years days_of_months digits total greatest_where has_shape read_month read_amount read_plain is_name numbers_from members_from by_seniority line_of fields_of month_lines calling_right calls is_same_shape fits due_in_month due word_of item_with item_of read_line first_row judge
 other_instream = refl
 
 other_closing : refusal (verdict basin series (codes "river-result 1" ∷ codes "run 1960-07 2" ∷ codes "month 1960-07" ∷ codes "open lake 8000" ∷ codes "evap lake 440" ∷ codes "return gauge 0" ∷ codes "flow r1 2500" ∷ codes "flow r2 4600" ∷ codes "flow r3 1500" ∷ codes "flow r4 0" ∷ codes "flow r5 1500" ∷ codes "flow c1 3100" ∷ codes "deliver dead 1000 1000" ∷ codes "deliver fish 1500 1500" ∷ codes "deliver canalco 3100 4000" ∷ codes "deliver live 4460 9000" ∷ codes "deliver city 0 400" ∷ codes "out sea 1500" ∷ codes "call canalco" ∷ codes "in farm" ∷ codes "call live" ∷ codes "in upper" ∷ codes "in lake" ∷ codes "in weir" ∷ codes "in farm" ∷ codes "in gauge" ∷ codes "call city" ∷ codes "in upper" ∷ codes "in lake" ∷ codes "in weir" ∷ codes "in farm" ∷ codes "in gauge" ∷ codes "called city live" ∷ codes "close lake 5459" ∷ []) []) ≡ at 34 kind.Closing
-unfolding days_of days_from_civil day_count days_of_years days_of_months digits total greatest_where has_shape read_month read_amount read_plain is_name numbers_from members_from by_seniority line_of fields_of month_sections calling_right calls is_same_shape fits due_in_month due word_of item_with item_of read_line first_row judge
+unfolding days_of days_from_civil day_count days_of_years days_of_months digits total greatest_where has_shape read_month read_amount read_plain is_name numbers_from members_from by_seniority line_of fields_of month_lines calling_right calls is_same_shape fits due_in_month due word_of item_with item_of read_line first_row judge
 other_closing = refl
 
 other_caller : refusal (verdict basin series (codes "river-result 1" ∷ codes "run 1960-07 2" ∷ codes "month 1960-07" ∷ codes "open lake 8000" ∷ codes "evap lake 440" ∷ codes "return gauge 0" ∷ codes "flow r1 2500" ∷ codes "flow r2 4600" ∷ codes "flow r3 1500" ∷ codes "flow r4 0" ∷ codes "flow r5 1500" ∷ codes "flow c1 3100" ∷ codes "deliver dead 1000 1000" ∷ codes "deliver fish 1500 1500" ∷ codes "deliver canalco 3100 4000" ∷ codes "deliver live 4460 9000" ∷ codes "deliver city 0 400" ∷ codes "out sea 1500" ∷ codes "call canalco" ∷ codes "in farm" ∷ codes "call live" ∷ codes "in upper" ∷ codes "in lake" ∷ codes "in weir" ∷ codes "in farm" ∷ codes "in gauge" ∷ codes "call city" ∷ codes "in upper" ∷ codes "in lake" ∷ codes "in weir" ∷ codes "in farm" ∷ codes "in gauge" ∷ codes "called live canalco" ∷ []) []) ≡ at 33 kind.Called
-unfolding days_of days_from_civil day_count days_of_years days_of_months digits total greatest_where has_shape read_month read_amount read_plain is_name numbers_from members_from by_seniority line_of fields_of month_sections calling_right calls is_same_shape fits due_in_month due word_of item_with item_of read_line first_row judge
+unfolding days_of days_from_civil day_count days_of_years days_of_months digits total greatest_where has_shape read_month read_amount read_plain is_name numbers_from members_from by_seniority line_of fields_of month_lines calling_right calls is_same_shape fits due_in_month due word_of item_with item_of read_line first_row judge
 other_caller = refl

@@ -6,12 +6,12 @@ use Rattle.std.proofs.lemmas.Bool.Decides.{nat_tests}
 use Rattle.water_model.specs.Basin.{is_outlet}
 use Rattle.water_model.specs.Places.{numbers_from, places_of, outlets}
 use Rattle.water_model.specs.declared.item.Item.TheVariants as line
+use Rattle.water_model.specs.declared.quantity.Quantity.TheVariants as quantity
 use Rattle.water_model.specs.declared.types.Basin.{Basin}
 use Rattle.water_model.specs.declared.types.Inflows.{Inflows}
 use Rattle.water_model.specs.declared.types.MonthRecord.{MonthRecord}
-use Rattle.water_model.proofs.Order.{Has, numbers_from-has, numbers_from-below}
+use Rattle.water_model.proofs.Order.{Has, filter-has, numbers_from-has, numbers_from-below}
 use Rattle.result_reader.specs.Telling.{Told, tell, with_supply}
-use Rattle.result_reader.proofs.AllTold.{filter-has}
 use Rattle.cert_check.specs.Checking.{rows, balances}
 use Rattle.cert_check.proofs.Rows.{NoneHolds, AreGood, nothing_passed}
 
@@ -90,14 +90,14 @@ fails_none b m (x ∷ xs) h n k = by_place k (parts (balances b m x) (list_any (
     by_place (inr l) p further = further p.1 l
 
 out_good : (b : Basin) (series : Inflows) (t : Told) (n amount : ℕ) → t.calling ≡ None →
-    list_all (λ other. nat_le other n) (outlets b) && list_any (λ node. not (balances b (with_supply b series (tell b series t (line.Outflow n amount)).now) node)) (places_of b.nodes) ≡ false →
-    NoneHolds (rows b series t (line.Outflow n amount))
+    list_all (λ other. nat_le other n) (outlets b) && list_any (λ node. not (balances b (with_supply b series (tell b series t (line.Amount quantity.Outflow n amount)).now) node)) (places_of b.nodes) ≡ false →
+    NoneHolds (rows b series t (line.Amount quantity.Outflow n amount))
 out_good b series t n amount h balance =
-    (rw h refl, (nothing_passed b t (line.Outflow n amount) (λ r. refl) (places_of b.rights), (refl, (refl, (refl, (refl, (refl, (refl, (refl, (refl, (refl, (balance, (refl, tt)))))))))))))
+    (rw h refl, (nothing_passed b t (line.Amount quantity.Outflow n amount) (λ r. refl) (places_of b.rights), (refl, (refl, (balance, tt)))))
 
 -- `out` lines aren't refuted where all nodes are in balance behind them
 pub outflows_good : (b : Basin) (series : Inflows) (a : ℕ → ℕ) (xs done : List ℕ) (t : Told) → outlets b ≡ done ++ xs → Rises xs → t.calling ≡ None →
-    IsInBalance b series (fold (tell b series) t (map (λ n. line.Outflow n (a n)) xs)).now → AreGood b series t (map (λ n. line.Outflow n (a n)) xs)
+    IsInBalance b series (fold (tell b series) t (map (λ n. line.Amount quantity.Outflow n (a n)) xs)).now → AreGood b series t (map (λ n. line.Amount quantity.Outflow n (a n)) xs)
 unfolding IsInBalance
 outflows_good b series a [] done t is rises h balance = tt
 outflows_good b series a (x ∷ []) done t is rises h balance =
@@ -107,12 +107,12 @@ outflows_good b series a (x ∷ []) done t is rises h balance =
     never true = refl
     never false = refl
 
-    in_balance : list_any (λ node. not (balances b (with_supply b series (tell b series t (line.Outflow x (a x))).now) node)) (places_of b.nodes) ≡ false
-    in_balance = none_fails b (with_supply b series (tell b series t (line.Outflow x (a x))).now) (places_of b.nodes)
+    in_balance : list_any (λ node. not (balances b (with_supply b series (tell b series t (line.Amount quantity.Outflow x (a x))).now) node)) (places_of b.nodes) ≡ false
+    in_balance = none_fails b (with_supply b series (tell b series t (line.Amount quantity.Outflow x (a x))).now) (places_of b.nodes)
         (λ n k. balance n (omega (arith, (numbers_from-below 0 (length b.nodes) n k).1)))
 outflows_good b series a (x ∷ y ∷ ys) done t is rises h balance = (
-  out_good b series t x (a x) h (ap (λ q. q && list_any (λ node. not (balances b (with_supply b series (tell b series t (line.Outflow x (a x))).now) node)) (places_of b.nodes)) not_last),
-  outflows_good b series a (y ∷ ys) (done ++ x ∷ []) (tell b series t (line.Outflow x (a x))) (is ∙ sym (append_assoc done (x ∷ []) (y ∷ ys))) rises.1 refl balance,
+  out_good b series t x (a x) h (ap (λ q. q && list_any (λ node. not (balances b (with_supply b series (tell b series t (line.Amount quantity.Outflow x (a x))).now) node)) (places_of b.nodes)) not_last),
+  outflows_good b series a (y ∷ ys) (done ++ x ∷ []) (tell b series t (line.Amount quantity.Outflow x (a x))) (is ∙ sym (append_assoc done (x ∷ []) (y ∷ ys))) rises.1 refl balance,
 )
   where
     not_last : list_all (λ other. nat_le other x) (outlets b) ≡ false
@@ -120,12 +120,12 @@ outflows_good b series a (x ∷ y ∷ ys) done t is rises h balance = (
 
 -- and where they aren't refuted, all nodes are in balance behind the last
 pub outflows_told : (b : Basin) (series : Inflows) (a : ℕ → ℕ) (x : ℕ) (xs done : List ℕ) (t : Told) → outlets b ≡ done ++ (x ∷ xs) →
-    AreGood b series t (map (λ n. line.Outflow n (a n)) (x ∷ xs)) → IsInBalance b series (fold (tell b series) t (map (λ n. line.Outflow n (a n)) (x ∷ xs))).now
+    AreGood b series t (map (λ n. line.Amount quantity.Outflow n (a n)) (x ∷ xs)) → IsInBalance b series (fold (tell b series) t (map (λ n. line.Amount quantity.Outflow n (a n)) (x ∷ xs))).now
 unfolding IsInBalance
 outflows_told b series a x [] done t is g n l =
-    fails_none b (with_supply b series (tell b series t (line.Outflow x (a x))).now) (places_of b.nodes)
-    (second (list_all (λ other. nat_le other x) (outlets b)) (list_any (λ node. not (balances b (with_supply b series (tell b series t (line.Outflow x (a x))).now) node)) (places_of b.nodes))
-    is_last g.0.1.1.1.1.1.1.1.1.1.1.1.0) n (numbers_from-has 0 (length b.nodes) n n l (omega arith))
+    fails_none b (with_supply b series (tell b series t (line.Amount quantity.Outflow x (a x))).now) (places_of b.nodes)
+    (second (list_all (λ other. nat_le other x) (outlets b)) (list_any (λ node. not (balances b (with_supply b series (tell b series t (line.Amount quantity.Outflow x (a x))).now) node)) (places_of b.nodes))
+    is_last g.0.1.1.1.1.0) n (numbers_from-has 0 (length b.nodes) n n l (omega arith))
   where
     second : (p q : Bool) → p ≡ true → p && q ≡ false → q ≡ false
     second true q e h = h
@@ -134,4 +134,4 @@ outflows_told b series a x [] done t is g n l =
     is_last : list_all (λ other. nat_le other x) (outlets b) ≡ true
     is_last = all_at_most (outlets b) x (λ y m. last_greatest done x y (rw (← is) (outlets_rise b)) (rw (← is) m))
 outflows_told b series a x (y ∷ ys) done t is g n l =
-    outflows_told b series a y ys (done ++ x ∷ []) (tell b series t (line.Outflow x (a x))) (is ∙ sym (append_assoc done (x ∷ []) (y ∷ ys))) g.1 n l
+    outflows_told b series a y ys (done ++ x ∷ []) (tell b series t (line.Amount quantity.Outflow x (a x))) (is ∙ sym (append_assoc done (x ∷ []) (y ∷ ys))) g.1 n l

@@ -103,7 +103,7 @@ same_is x y h = grind (arith, nat_tests)
 -- an `in` line is never refuted
 pub member_good : (b : Basin) (series : Inflows) (t : Told) (n : ℕ) → NoneHolds (rows b series t (line.Member n))
 member_good b series t n =
-    (refl, (nothing_passed b t (line.Member n) (λ r. refl) (places_of b.rights), (refl, (refl, (refl, (refl, (refl, (refl, (refl, (refl, (refl, (refl, (refl, tt)))))))))))))
+    (refl, (nothing_passed b t (line.Member n) (λ r. refl) (places_of b.rights), (refl, (refl, tt))))
 
 pub members_good : (b : Basin) (series : Inflows) (xs : List ℕ) (t : Told) → AreGood b series t (map (λ n. line.Member n) xs)
 members_good b series [] t = tt

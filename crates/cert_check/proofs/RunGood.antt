@@ -6,12 +6,16 @@ use Rattle.std.proofs.lemmas.List.{length-map}
 use Rattle.std.proofs.lemmas.List.Folds.{list_any-append}
 use Rattle.water_model.specs.History.{IsPartialHistory, IsHistory, Follows, cut_of, opening_after}
 use Rattle.water_model.specs.Lookups.{of_entry}
-use Rattle.water_model.specs.Places.{members_from, places_of, seniors_first, return_nodes, outlets, rights_with_volume}
+use Rattle.water_model.specs.Places.{members_from, seniors_first}
+use Rattle.water_model.specs.Quantities.{amounts_of, entries_with_line}
 use Rattle.water_model.specs.Spelling.{line_of}
 use Rattle.water_model.specs.Text.{call_items, calling_right, items_of_month, items_of_head, items_of}
 use Rattle.water_model.specs.Valid.{IsValidBasin}
 use Rattle.water_model.specs.declared.item.Item.{Item}
 use Rattle.water_model.specs.declared.item.Item.TheVariants as line
+use Rattle.water_model.specs.declared.item.Section.{Section}
+use Rattle.water_model.specs.declared.item.Section.TheVariants as section
+use Rattle.water_model.specs.declared.item.TheConstants.{SECTIONS}
 use Rattle.water_model.specs.declared.types.Basin.{Basin}
 use Rattle.water_model.specs.declared.types.Inflows.{Inflows}
 use Rattle.water_model.specs.declared.types.MonthRecord.{MonthRecord}
@@ -24,9 +28,10 @@ use Rattle.result_reader.proofs.WholeMonth.{AreAllTold, month_told}
 use Rattle.cert_check.specs.Checking.{callers_due, is_done, is_whole, verdict}
 use Rattle.cert_check.proofs.Callers.{called_line}
 use Rattle.cert_check.proofs.Follows.{follows_good}
-use Rattle.cert_check.proofs.Month.{At, IsGoodMonth, begun, month_lines, inner_lines, opening_lines, evaporated_lines, returned_lines, used_lines, flow_lines, deliver_lines, out_lines, call_lines, due_lines, closing_lines}
+use Rattle.cert_check.proofs.Month.{At, IsGoodMonth, begun, month_is, inner_lines, section_lines}
 use Rattle.cert_check.proofs.MonthGood.{inner_good}
 use Rattle.cert_check.proofs.Rows.{AreGood, good_both}
+use Rattle.cert_check.proofs.Spread.{onto}
 use Rattle.cert_check.proofs.Sections.{title_good, run_good, month_good, last_good}
 use Rattle.cert_check.proofs.Verdicts.{verdict_good, says_yes}
 
@@ -71,11 +76,13 @@ end_calm : (b : Basin) (series : Inflows) → Calm b series (line.End ∷ [])
 unfolding Calm
 end_calm b series t = refl
 
+calm_onto : (b : Basin) (series : Inflows) (f : Section → List Item) (ks : List Section) (ys : List Item) →
+    Calm b series ys → Calm b series (onto f ks ys)
+calm_onto b series f [] ys h = h
+calm_onto b series f (k ∷ ks) ys h = calm_behind b series (f k) (onto f ks ys) (calm_onto b series f ks ys h)
+
 pub inner_calm : (b : Basin) (series : Inflows) (m : MonthRecord) (dues : List (ℕ × ℕ)) → Calm b series (inner_lines b m dues)
-inner_calm b series m dues =
-    calm_behind b series (opening_lines b m) _ (calm_behind b series (evaporated_lines b m) _ (calm_behind b series (returned_lines b m) _ (calm_behind b series (used_lines b m) _
-    (calm_behind b series (flow_lines b m) _ (calm_behind b series (deliver_lines b m) _ (calm_behind b series (out_lines b m) _ (calm_behind b series (call_lines b m) _
-    (calm_behind b series (due_lines dues) _ (calm_behind b series (closing_lines b m) _ (end_calm b series))))))))))
+inner_calm b series m dues = calm_onto b series (section_lines b m dues) SECTIONS (line.End ∷ []) (end_calm b series)
 
 pub calm : (b : Basin) (series : Inflows) (items : List Item) (t : Told) → Calm b series items → (fold (tell b series) t items).calling ≡ None
 unfolding Calm
@@ -98,7 +105,7 @@ follows_of b series records before ms m h is =
     (h.each (length before) m (ap (λ xs. slice_get xs (length before)) is ∙ get_behind before ms m))
 
 pub items_are : (b : Basin) (m : MonthRecord) → items_of_month b m ≡ line.Month m.month ∷ inner_lines b m (callers_due b m)
-items_are b m = month_lines b m (calling_right b m)
+items_are b m = month_is b m (calling_right b m)
 
 months_good : (b : Basin) (series : Inflows) (records before ms : List MonthRecord) → IsValidBasin b → IsPartialHistory b series records → AreTextMonths b series records →
     records ≡ before ++ ms → AreAllTold b series (length before) ms → (t : Told) → t.calling ≡ None → t.months ≡ map without_room before →
@@ -164,12 +171,21 @@ open_calls m (x ∷ xs) = by_set (cut_of m x) (open_calls m xs)
     by_set None h = h
     by_set (Some set) h = open_both (map (λ n. line.Member n) (members_from 0 set)) (flat_map (λ r. call_items r (cut_of m r)) xs) (open_each (λ n. line.Member n) (λ n. refl) (members_from 0 set)) h
 
+open_section : (b : Basin) (m : MonthRecord) (dues : List (ℕ × ℕ)) (k : Section) → is_whole (section_lines b m dues k) ≡ false
+open_section b m dues (section.Amounts q) =
+    open_each {X = ℕ} (λ x. line.Amount q x (slice_index (amounts_of q m) x)) (λ x. refl) (entries_with_line b q)
+open_section b m dues section.Deliveries =
+    open_each {X = ℕ} (λ x. line.Deliver x (slice_index m.delivered x) (slice_index m.want x)) (λ x. refl) (seniors_first b)
+open_section b m dues section.Calls = open_calls m (seniors_first b)
+open_section b m dues section.Called = open_each called_line (λ x. refl) dues
+
+open_onto : (f : Section → List Item) → ((k : Section) → is_whole (f k) ≡ false) → (ks : List Section) (ys : List Item) →
+    is_whole ys ≡ false → is_whole (onto f ks ys) ≡ false
+open_onto f h [] ys k = k
+open_onto f h (x ∷ xs) ys k = open_both (f x) (onto f xs ys) (h x) (open_onto f h xs ys k)
+
 pub inner_open : (b : Basin) (m : MonthRecord) (dues : List (ℕ × ℕ)) → is_whole (inner_lines b m dues) ≡ false
-inner_open b m dues =
-    open_both (opening_lines b m) _ (open_each {X = ℕ} (λ x. line.Opening x (slice_index m.opening x)) (λ x. refl) (places_of b.reservoirs)) (open_both (evaporated_lines b m) _ (open_each {X = ℕ} (λ x. line.Evaporated x (slice_index m.evaporated x)) (λ x. refl) (places_of b.reservoirs)) (open_both (returned_lines b m) _ (open_each {X = ℕ} (λ x. line.Returned x (slice_index m.returned x)) (λ x. refl) (return_nodes b))
-    (open_both (used_lines b m) _ (open_each {X = ℕ} (λ x. line.Used x (slice_index m.used x)) (λ x. refl) (rights_with_volume b)) (open_both (flow_lines b m) _ (open_each {X = ℕ} (λ x. line.Flow x (slice_index m.plan.flow x)) (λ x. refl) (places_of b.links)) (open_both (deliver_lines b m) _ (open_each {X = ℕ} (λ x. line.Deliver x (slice_index m.delivered x) (slice_index m.want x)) (λ x. refl) (seniors_first b))
-    (open_both (out_lines b m) _ (open_each {X = ℕ} (λ x. line.Outflow x (slice_index m.plan.out x)) (λ x. refl) (outlets b)) (open_both (call_lines b m) _ (open_calls m (seniors_first b)) (open_both (due_lines dues) _ (open_each called_line (λ x. refl) dues)
-    (open_both (closing_lines b m) _ (open_each {X = ℕ} (λ x. line.Closing x (slice_index m.closing x)) (λ x. refl) (places_of b.reservoirs)) refl)))))))))
+inner_open b m dues = open_onto (section_lines b m dues) (open_section b m dues) SECTIONS (line.End ∷ []) refl
 
 months_open : (b : Basin) (ms : List MonthRecord) → is_whole (flat_map (items_of_month b) ms) ≡ false
 months_open b [] = refl

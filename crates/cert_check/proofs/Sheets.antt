@@ -1,5 +1,5 @@
 -- The lines of a month, from its form, are those of a record.
-use Rattle.std.proofs.Common.{◌≡◌, ℕ, zero, suc, ◌+◌, ◌<◌, Bool, true, false, refl, sym, ap, ◌∙◌, arith, inl, inr, List, [], ◌∷◌, ◌++◌, length, map, replicate, filter}
+use Rattle.std.proofs.Common.{◌≡◌, ℕ, zero, suc, ◌+◌, ◌<◌, Bool, true, false, refl, sym, ap, ◌∙◌, arith, inl, inr, List, [], ◌∷◌, length, map, replicate, filter}
 use Rattle.std.specs.Prelude.{Option, Some, None, option_map, unwrap_or, slice_index, slice_set, is_some, if◌then◌else◌}
 use Rattle.std.specs.List.{flat_map}
 use Rattle.std.proofs.lemmas.Bool.{cases_lt}
@@ -8,23 +8,33 @@ use Rattle.std.proofs.lemmas.Option.{slice_get_past}
 use Rattle.water_model.specs.Basin.{taking_node}
 use Rattle.water_model.specs.History.{cut_of}
 use Rattle.water_model.specs.Hydrology.{run_month, inflow_at, stored_at}
-use Rattle.water_model.specs.Places.{numbers_from, places_of, seniors_first, return_nodes, outlets, rights_with_volume}
+use Rattle.water_model.specs.Entries.{count_in, in_order}
+use Rattle.water_model.specs.Places.{numbers_from, places_of, seniors_first}
+use Rattle.water_model.specs.Quantities.{amounts_of, entries_with_line, space_of}
 use Rattle.water_model.specs.Text.{call_items}
 use Rattle.water_model.specs.Valid.{IsValidBasin}
 use Rattle.water_model.specs.declared.item.Item.{Item}
 use Rattle.water_model.specs.declared.item.Item.TheVariants as line
+use Rattle.water_model.specs.declared.item.Section.{Section}
+use Rattle.water_model.specs.declared.item.Section.TheVariants as section
+use Rattle.water_model.specs.declared.item.TheConstants.{SECTIONS}
+use Rattle.water_model.specs.declared.quantity.Quantity.{Quantity}
+use Rattle.water_model.specs.declared.quantity.Quantity.TheVariants as quantity
+use Rattle.water_model.specs.declared.space.Space.{Space}
+use Rattle.water_model.specs.declared.space.Space.TheVariants as space
 use Rattle.water_model.specs.declared.types.Basin.{Basin}
 use Rattle.water_model.specs.declared.types.Inflows.{Inflows}
 use Rattle.water_model.specs.declared.types.MonthRecord.{MonthRecord}
-use Rattle.water_model.proofs.Order.{Has, IsOrdered, numbers_from-below, seniors_have, seniors_below, seniors_ordered}
-use Rattle.result_reader.proofs.AllTold.{filter-has}
+use Rattle.water_model.proofs.Order.{Has, IsOrdered, filter-has, numbers_from-below, seniors_have, seniors_below, seniors_ordered}
+use Rattle.water_model.proofs.Quantities.{has-with_line}
 use Rattle.result_reader.proofs.MonthTold.{put_sets, take_of}
 use Rattle.result_reader.proofs.Telling.{set_all, set_all-has}
 use Rattle.result_reader.proofs.WholeMonth.{IsAllTold}
 use Rattle.cert_check.proofs.Callers.{called_line}
 use Rattle.cert_check.proofs.Calls.{once_in_order}
-use Rattle.cert_check.proofs.Inverts.{Fields, AreApart, map_same, flat_same}
-use Rattle.cert_check.proofs.Month.{inner_lines}
+use Rattle.cert_check.proofs.Inverts.{AreApart, map_same, flat_same}
+use Rattle.cert_check.proofs.Month.{inner_lines, section_lines}
+use Rattle.cert_check.proofs.Spread.{onto, onto_same}
 use Rattle.cert_check.proofs.Sets.{set_in, length-put_sets, put_sets-has, put_sets-same, no_sets}
 
 -- No place comes twice in the lists that sections go over.
@@ -49,22 +59,28 @@ ordered_apart b (x ∷ xs) h = (once_in_order b x xs h, ordered_apart b xs h.1)
 pub seniors_apart : (b : Basin) → IsValidBasin b → AreApart (seniors_first b)
 seniors_apart b valid = ordered_apart b (seniors_first b) (seniors_ordered b.rights valid.roll.strict)
 
+pub in_order_apart : (b : Basin) → IsValidBasin b → (s : Space) → AreApart (in_order s b)
+in_order_apart b valid space.Nodes = places_apart 0 (length b.nodes)
+in_order_apart b valid space.Links = places_apart 0 (length b.links)
+in_order_apart b valid space.Reservoirs = places_apart 0 (length b.reservoirs)
+in_order_apart b valid space.Rights = seniors_apart b valid
+
 -- what a month's lines give
 pub record Sheet : Type 0 where
-  pub opening : ℕ → Fields
-  pub evaporated : ℕ → Fields
-  pub returned : ℕ → Fields
-  pub used : ℕ → Fields
-  pub flow : ℕ → Fields
-  pub deliver : ℕ → Fields
-  pub out : ℕ → Fields
+  pub amount : Quantity → ℕ → ℕ
+  pub delivered : ℕ → ℕ
+  pub want : ℕ → ℕ
   pub cut : ℕ → Option (List Bool)
-  pub closing : ℕ → Fields
 
 -- the lines that a sheet gives
+abbrev pub sheet_section : Basin → Sheet → List (ℕ × ℕ) → Section → List Item
+sheet_section b s dues (section.Amounts q) = map (λ x. line.Amount q x (s.amount q x)) (entries_with_line b q)
+sheet_section b s dues section.Deliveries = map (λ x. line.Deliver x (s.delivered x) (s.want x)) (seniors_first b)
+sheet_section b s dues section.Calls = flat_map (λ r. call_items r (s.cut r)) (seniors_first b)
+sheet_section b s dues section.Called = map called_line dues
+
 abbrev pub sheet_lines : Basin → Sheet → List (ℕ × ℕ) → List Item
-sheet_lines b s dues =
-    map (λ x. line.Opening x (s.opening x).one) (places_of b.reservoirs) ++ (map (λ x. line.Evaporated x (s.evaporated x).one) (places_of b.reservoirs) ++ (map (λ x. line.Returned x (s.returned x).one) (return_nodes b) ++ (map (λ x. line.Used x (s.used x).one) (rights_with_volume b) ++ (map (λ x. line.Flow x (s.flow x).one) (places_of b.links) ++ (map (λ x. line.Deliver x (s.deliver x).one (s.deliver x).two) (seniors_first b) ++ (map (λ x. line.Outflow x (s.out x).one) (outlets b) ++ (flat_map (λ r. call_items r (s.cut r)) (seniors_first b) ++ (map called_line dues ++ (map (λ x. line.Closing x (s.closing x).one) (places_of b.reservoirs) ++ line.End ∷ [])))))))))
+sheet_lines b s dues = onto (sheet_section b s dues) SECTIONS (line.End ∷ [])
 
 -- the record of a sheet
 abbrev pub zeros : ℕ → List ℕ
@@ -73,25 +89,37 @@ zeros n = replicate n 0
 abbrev pub supplied : Basin → Inflows → MonthRecord → MonthRecord
 supplied b series m = record m { supply = map (λ n. inflow_at b series n m.index + slice_index m.returned n + stored_at b m.opening m.evaporated n) (places_of b.nodes) }
 
+abbrev pub listed : Basin → Sheet → Quantity → List ℕ
+listed b s q = set_all (entries_with_line b q) (s.amount q) (zeros (count_in (space_of q) b))
+
 abbrev pub record_of : Basin → Inflows → ℕ → Sheet → MonthRecord
 record_of b series i s = supplied b series (record {
   index = i;
   month = run_month b i;
-  opening = set_all (places_of b.reservoirs) (λ x. (s.opening x).one) (zeros (length b.reservoirs));
-  evaporated = set_all (places_of b.reservoirs) (λ x. (s.evaporated x).one) (zeros (length b.reservoirs));
-  returned = set_all (return_nodes b) (λ x. (s.returned x).one) (zeros (length b.nodes));
-  used = set_all (rights_with_volume b) (λ x. (s.used x).one) (zeros (length b.rights));
+  opening = listed b s quantity.Opening;
+  evaporated = listed b s quantity.Evaporated;
+  returned = listed b s quantity.Returned;
+  used = listed b s quantity.Used;
   supply = [];
-  want = set_all (seniors_first b) (λ x. (s.deliver x).two) (zeros (length b.rights));
+  want = set_all (seniors_first b) s.want (zeros (length b.rights));
   plan = record {
-    flow = set_all (places_of b.links) (λ x. (s.flow x).one) (zeros (length b.links));
-    take = set_all (seniors_first b) (take_of b (λ x. (s.deliver x).one)) (zeros (length b.rights));
-    out = set_all (outlets b) (λ x. (s.out x).one) (zeros (length b.nodes));
+    flow = listed b s quantity.Flow;
+    take = set_all (seniors_first b) (take_of b s.delivered) (zeros (length b.rights));
+    out = listed b s quantity.Outflow;
   };
-  delivered = set_all (seniors_first b) (λ x. (s.deliver x).one) (zeros (length b.rights));
+  delivered = set_all (seniors_first b) s.delivered (zeros (length b.rights));
   cuts = record { nodes = length b.nodes; sets = put_sets (seniors_first b) s.cut (replicate (length b.rights) None); room = [] };
-  closing = set_all (places_of b.reservoirs) (λ x. (s.closing x).one) (zeros (length b.reservoirs));
+  closing = listed b s quantity.Closing;
 })
+
+pub amounts_are : (b : Basin) (series : Inflows) (i : ℕ) (s : Sheet) (q : Quantity) → amounts_of q (record_of b series i s) ≡ listed b s q
+amounts_are b series i s quantity.Opening = refl
+amounts_are b series i s quantity.Evaporated = refl
+amounts_are b series i s quantity.Returned = refl
+amounts_are b series i s quantity.Used = refl
+amounts_are b series i s quantity.Flow = refl
+amounts_are b series i s quantity.Outflow = refl
+amounts_are b series i s quantity.Closing = refl
 
 told_is : (xs : List ℕ) (a : ℕ → ℕ) (n k : ℕ) → ((x : ℕ) → Has xs x → x < n) → Has xs k → slice_index (set_all xs a (zeros n)) k ≡ a k
 told_is xs a n k below h = (let l = below k h in set_all-has xs a (zeros n) k (omega (arith, length-replicate {A = ℕ} n 0)) h)
@@ -105,17 +133,8 @@ told_again : (xs : List ℕ) (a : ℕ → ℕ) (n : ℕ) → ((x : ℕ) → Has 
     set_all xs (λ k. slice_index (set_all xs a (zeros n)) k) (zeros n) ≡ set_all xs a (zeros n)
 told_again xs a n below = set_all-same xs (λ k. slice_index (set_all xs a (zeros n)) k) a (zeros n) (λ k h. told_is xs a n k below h)
 
-place_below : {X : Type 0} (xs : List X) (k : ℕ) → Has (places_of xs) k → k < length xs
-place_below xs k h = omega (arith, (numbers_from-below 0 (length xs) k h).1)
-
-node_below : (b : Basin) (p : ℕ → Bool) (k : ℕ) → Has (filter p (places_of b.nodes)) k → k < length b.nodes
-node_below b p k h = place_below b.nodes k (filter-has p (places_of b.nodes) k h).0
-
 right_below : (b : Basin) (k : ℕ) → Has (seniors_first b) k → k < length b.rights
 right_below b k h = seniors_below b.rights k h
-
-used_below : (b : Basin) (k : ℕ) → Has (rights_with_volume b) k → k < length b.rights
-used_below b k h = right_below b k (filter-has _ (seniors_first b) k h).0
 
 cut_is : (b : Basin) (cut : ℕ → Option (List Bool)) (k : ℕ) → Has (seniors_first b) k → set_in (put_sets (seniors_first b) cut (replicate (length b.rights) None)) k ≡ cut k
 cut_is b cut k h =
@@ -124,17 +143,14 @@ cut_is b cut k h =
 -- the record of a sheet tells all of itself
 pub record_told : (b : Basin) (series : Inflows) (i : ℕ) (s : Sheet) → ((r : ℕ) (set : List Bool) → s.cut r ≡ Some set → length set ≡ length b.nodes) → IsAllTold b series (record_of b series i s)
 record_told b series i s sized = record {
-  opening = told_again (places_of b.reservoirs) (λ x. (s.opening x).one) (length b.reservoirs) (place_below b.reservoirs);
-  evaporated = told_again (places_of b.reservoirs) (λ x. (s.evaporated x).one) (length b.reservoirs) (place_below b.reservoirs);
-  returned = told_again (return_nodes b) (λ x. (s.returned x).one) (length b.nodes) (node_below b _);
-  used = told_again (rights_with_volume b) (λ x. (s.used x).one) (length b.rights) (used_below b);
-  flow = told_again (places_of b.links) (λ x. (s.flow x).one) (length b.links) (place_below b.links);
-  out = told_again (outlets b) (λ x. (s.out x).one) (length b.nodes) (node_below b _);
-  closing = told_again (places_of b.reservoirs) (λ x. (s.closing x).one) (length b.reservoirs) (place_below b.reservoirs);
-  delivered = told_again (seniors_first b) (λ x. (s.deliver x).one) (length b.rights) (right_below b);
-  want = told_again (seniors_first b) (λ x. (s.deliver x).two) (length b.rights) (right_below b);
-  take = set_all-same (seniors_first b) (take_of b (λ r. slice_index (record_of b series i s).delivered r)) (take_of b (λ x. (s.deliver x).one)) (zeros (length b.rights))
-      (λ k h. ap (λ n. if is_some (taking_node b k) then n else 0) (told_is (seniors_first b) (λ x. (s.deliver x).one) (length b.rights) k (right_below b) h));
+  listed = λ q. ap (λ (xs : List ℕ). set_all (entries_with_line b q) (λ x. slice_index xs x) (zeros (count_in (space_of q) b)))
+      (amounts_are b series i s q)
+      ∙ (told_again (entries_with_line b q) (s.amount q) (count_in (space_of q) b) (λ x h. (has-with_line b q x h).0)
+      ∙ sym (amounts_are b series i s q));
+  delivered = told_again (seniors_first b) s.delivered (length b.rights) (right_below b);
+  want = told_again (seniors_first b) s.want (length b.rights) (right_below b);
+  take = set_all-same (seniors_first b) (take_of b (λ r. slice_index (record_of b series i s).delivered r)) (take_of b s.delivered) (zeros (length b.rights))
+      (λ k h. ap (λ n. if is_some (taking_node b k) then n else 0) (told_is (seniors_first b) s.delivered (length b.rights) k (right_below b) h));
   sets = put_sets-same (seniors_first b) (λ r. cut_of (record_of b series i s) r) s.cut (replicate (length b.rights) None) (λ r h. cut_is b s.cut r h);
   nodes = refl;
   supply = refl;
@@ -153,13 +169,32 @@ record_told b series i s sized = record {
           let never : None ≡ Some set = sym none ∙ e in cc)
     ]
 
-join : (xs ys is js : List Item) → xs ≡ ys → is ≡ js → xs ++ is ≡ ys ++ js
-join xs ys is js e f = rw (e, f) refl
-
 -- and its lines are those of the sheet
-pub record_lines : (b : Basin) (series : Inflows) (i : ℕ) (s : Sheet) (dues : List (ℕ × ℕ)) → sheet_lines b s dues ≡ inner_lines b (record_of b series i s) dues
+pub record_lines : (b : Basin) (series : Inflows) (i : ℕ) (s : Sheet) (dues : List (ℕ × ℕ)) →
+    sheet_lines b s dues ≡ inner_lines b (record_of b series i s) dues
 record_lines b series i s dues =
-    join _ _ _ _ (map_same (λ x. line.Opening x (s.opening x).one) (λ x. line.Opening x (slice_index (record_of b series i s).opening x)) (places_of b.reservoirs) (λ k h. ap (λ n. line.Opening k n) (sym (told_is (places_of b.reservoirs) (λ x. (s.opening x).one) (length b.reservoirs) k (place_below b.reservoirs) h)))) (join _ _ _ _ (map_same (λ x. line.Evaporated x (s.evaporated x).one) (λ x. line.Evaporated x (slice_index (record_of b series i s).evaporated x)) (places_of b.reservoirs) (λ k h. ap (λ n. line.Evaporated k n) (sym (told_is (places_of b.reservoirs) (λ x. (s.evaporated x).one) (length b.reservoirs) k (place_below b.reservoirs) h)))) (join _ _ _ _ (map_same (λ x. line.Returned x (s.returned x).one) (λ x. line.Returned x (slice_index (record_of b series i s).returned x)) (return_nodes b) (λ k h. ap (λ n. line.Returned k n) (sym (told_is (return_nodes b) (λ x. (s.returned x).one) (length b.nodes) k (node_below b _) h)))) (join _ _ _ _ (map_same (λ x. line.Used x (s.used x).one) (λ x. line.Used x (slice_index (record_of b series i s).used x)) (rights_with_volume b) (λ k h. ap (λ n. line.Used k n) (sym (told_is (rights_with_volume b) (λ x. (s.used x).one) (length b.rights) k (used_below b) h)))) (join _ _ _ _ (map_same (λ x. line.Flow x (s.flow x).one) (λ x. line.Flow x (slice_index (record_of b series i s).plan.flow x)) (places_of b.links) (λ k h. ap (λ n. line.Flow k n) (sym (told_is (places_of b.links) (λ x. (s.flow x).one) (length b.links) k (place_below b.links) h)))) (join _ _ _ _ (map_same (λ x. line.Deliver x (s.deliver x).one (s.deliver x).two) (λ x. line.Deliver x (slice_index (record_of b series i s).delivered x) (slice_index (record_of b series i s).want x)) (seniors_first b) (λ k h. deliver k h)) (join _ _ _ _ (map_same (λ x. line.Outflow x (s.out x).one) (λ x. line.Outflow x (slice_index (record_of b series i s).plan.out x)) (outlets b) (λ k h. ap (λ n. line.Outflow k n) (sym (told_is (outlets b) (λ x. (s.out x).one) (length b.nodes) k (node_below b _) h)))) (join _ _ _ _ (flat_same (λ r. call_items r (s.cut r)) (λ r. call_items r (cut_of (record_of b series i s) r)) (seniors_first b) (λ k h. ap (call_items k) (sym (cut_is b s.cut k h)))) (join _ _ _ _ refl (join _ _ _ _ (map_same (λ x. line.Closing x (s.closing x).one) (λ x. line.Closing x (slice_index (record_of b series i s).closing x)) (places_of b.reservoirs) (λ k h. ap (λ n. line.Closing k n) (sym (told_is (places_of b.reservoirs) (λ x. (s.closing x).one) (length b.reservoirs) k (place_below b.reservoirs) h)))) refl)))))))))
+    onto_same (sheet_section b s dues) (section_lines b (record_of b series i s) dues) by_section SECTIONS (line.End ∷ [])
   where
-    deliver : (k : ℕ) → Has (seniors_first b) k → line.Deliver k (s.deliver k).one (s.deliver k).two ≡ line.Deliver k (slice_index (record_of b series i s).delivered k) (slice_index (record_of b series i s).want k)
-    deliver k h = rw (told_is (seniors_first b) (λ x. (s.deliver x).one) (length b.rights) k (right_below b) h, told_is (seniors_first b) (λ x. (s.deliver x).two) (length b.rights) k (right_below b) h) refl
+    deliver : (k : ℕ) → Has (seniors_first b) k → line.Deliver k (s.delivered k) (s.want k)
+        ≡ line.Deliver k (slice_index (record_of b series i s).delivered k) (slice_index (record_of b series i s).want k)
+    deliver k h =
+        rw (
+          told_is (seniors_first b) s.delivered (length b.rights) k (right_below b) h,
+          told_is (seniors_first b) s.want (length b.rights) k (right_below b) h,
+        ) refl
+
+    by_section : (k : Section) → sheet_section b s dues k ≡ section_lines b (record_of b series i s) dues k
+    by_section (section.Amounts q) =
+        map_same (λ x. line.Amount q x (s.amount q x)) (λ x. line.Amount q x (slice_index (amounts_of q (record_of b series i s)) x))
+        (entries_with_line b q)
+        (λ k h. ap (λ n. line.Amount q k n)
+        (sym (ap (λ (xs : List ℕ). slice_index xs k) (amounts_are b series i s q)
+        ∙ told_is (entries_with_line b q) (s.amount q) (count_in (space_of q) b) k (λ x l. (has-with_line b q x l).0) h)))
+    by_section section.Deliveries =
+        map_same (λ x. line.Deliver x (s.delivered x) (s.want x))
+        (λ x. line.Deliver x (slice_index (record_of b series i s).delivered x) (slice_index (record_of b series i s).want x))
+        (seniors_first b) deliver
+    by_section section.Calls =
+        flat_same (λ r. call_items r (s.cut r)) (λ r. call_items r (cut_of (record_of b series i s) r)) (seniors_first b)
+        (λ k h. ap (call_items k) (sym (cut_is b s.cut k h)))
+    by_section section.Called = refl

@@ -10,8 +10,7 @@ use Rattle.water_model.specs.Places.{places_of, outlets}
 use Rattle.water_model.specs.Valid.{IsValidBasin}
 use Rattle.water_model.specs.declared.types.Basin.{Basin}
 use Rattle.water_model.proofs.Balance.{ends}
-use Rattle.water_model.proofs.Order.{Has, numbers_from-has}
-use Rattle.result_reader.proofs.AllTold.{has-filter}
+use Rattle.water_model.proofs.Order.{Has, has-filter, numbers_from-has}
 use Rattle.cert_check.proofs.GoodMonth.{HasOutlet}
 
 -- without an outlet, water would rise without end

@@ -47,11 +47,11 @@ few_lines b series k lines valid s =
     let fits = run_fits_more (length (due_in_month b)) b.months (length b.nodes) (length b.rights) (few_due b valid) valid.run.months.1 valid.few.nodes valid.few.rights in
     omega (arith, left, run, fits, s.counts.read)
   where
-    run_fits_more : (dues count nodes rights : ℕ) → dues ≤ 30000 → count ≤ 1200 → nodes ≤ 2000 → rights ≤ 2000 → count * (1 + dues + rights * nodes) + 3 + 1 < 2 ^ 64
+    run_fits_more : (dues count nodes rights : ℕ) → dues ≤ 50000 → count ≤ 1200 → nodes ≤ 2000 → rights ≤ 2000 → count * (1 + dues + rights * nodes) + 3 + 1 < 2 ^ 64
     run_fits_more dues count nodes rights d m n r =
         let members : rights * nodes ≤ 2000 * 2000 = mul-le-mul r n in
-        let month : 1 + dues + rights * nodes ≤ 1 + 30000 + 2000 * 2000 = omega arith in
-        let all : count * (1 + dues + rights * nodes) ≤ 1200 * (1 + 30000 + 2000 * 2000) = mul-le-mul m month in
+        let month : 1 + dues + rights * nodes ≤ 1 + 50000 + 2000 * 2000 = omega arith in
+        let all : count * (1 + dues + rights * nodes) ≤ 1200 * (1 + 50000 + 2000 * 2000) = mul-le-mul m month in
         omega arith
 
 -- The verdict with one line more.

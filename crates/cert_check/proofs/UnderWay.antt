@@ -10,14 +10,18 @@ use Rattle.water_model.specs.History.{opening_after, cut_of}
 use Rattle.water_model.specs.Hydrology.{run_month, in_year, evaporation, returned_at, want_of}
 use Rattle.water_model.specs.Lookups.{of_entry}
 use Rattle.water_model.specs.Plans.{carry_of}
+use Rattle.water_model.specs.CutSets.{set_of}
+use Rattle.water_model.specs.Quantities.{amounts_of}
 use Rattle.water_model.specs.Valid.{IsValidBasin}
+use Rattle.water_model.proofs.Quantities.{cuts_with}
 use Rattle.water_model.specs.declared.item.Item.{Item}
 use Rattle.water_model.specs.declared.item.Item.TheVariants as line
+use Rattle.water_model.specs.declared.quantity.Quantity.TheVariants as quantity
 use Rattle.water_model.specs.declared.types.Basin.{Basin}
 use Rattle.water_model.specs.declared.types.Inflows.{Inflows}
 use Rattle.water_model.specs.declared.types.MonthRecord.{MonthRecord}
 use Rattle.water_model.specs.declared.types.Reservoir.{Reservoir}
-use Rattle.result_text.proofs.Whole.{IsMonth-run_month}
+use Rattle.water_model.proofs.Histories.{IsMonth-run_month}
 use Rattle.result_reader.specs.Telling.{Told, tell, with_member}
 use Rattle.month_terms.proofs.Adds.{no_numbers}
 use Rattle.month_terms.proofs.Amounts.{want_is, want_most}
@@ -30,22 +34,16 @@ use Rattle.cert_check.proofs.Rows.{NoneHolds, AreGood, is_same}
 -- a line within a month, but not its last
 abbrev pub is_amid : Item → Bool
 is_amid (line.Called r caller) = true
-is_amid (line.Closing v amount) = true
+is_amid (line.Amount q entry amount) = true
 is_amid other = is_before_called other
 
 pub before_is_amid : (i : Item) → is_before_called i ≡ true → is_amid i ≡ true
 before_is_amid (line.Called r caller) h = refl
-before_is_amid (line.Closing v amount) h = refl
+before_is_amid (line.Amount q entry amount) h = refl
 before_is_amid line.Title h = h
 before_is_amid (line.Run first months) h = h
 before_is_amid (line.Month month) h = h
-before_is_amid (line.Opening v amount) h = h
-before_is_amid (line.Evaporated v amount) h = h
-before_is_amid (line.Returned n amount) h = h
-before_is_amid (line.Used r amount) h = h
-before_is_amid (line.Flow e amount) h = h
 before_is_amid (line.Deliver r amount want) h = h
-before_is_amid (line.Outflow n amount) h = h
 before_is_amid (line.Call r) h = h
 before_is_amid (line.Member n) h = h
 before_is_amid line.End h = h
@@ -116,8 +114,8 @@ pub in_month_more : (b : Basin) → IsValidBasin b → (series : Inflows) (befor
 in_month_more b valid series before i at l t line.Title h n m = m
 in_month_more b valid series before i at l t (line.Run first months) h n m = m
 in_month_more b valid series before i at l t (line.Month month) h n m = (let never : false ≡ true = h in cc)
-in_month_more b valid series before i at l t (line.Opening v amount) h n m =
-    let is : amount ≡ slice_index (opening_after b before) v = is_same amount (slice_index (opening_after b t.months) v) n.1.1.1.1.1.0 ∙ ap (λ ms. slice_index (opening_after b ms) v) m.months in
+in_month_more b valid series before i at l t (line.Amount quantity.Opening v amount) h n m =
+    let is : amount ≡ slice_index (opening_after b before) v = is_same amount (slice_index (opening_after b t.months) v) n.1.1.1.1.0 ∙ ap (λ ms. slice_index (opening_after b ms) v) m.months in
     record {
       months = m.months;
       index = m.index;
@@ -131,8 +129,8 @@ in_month_more b valid series before i at l t (line.Opening v amount) h n m =
         delivered = m.bounded.delivered;
       };
     }
-in_month_more b valid series before i at l t (line.Evaporated v amount) h n m =
-    let is = is_same amount (of_entry b.reservoirs v (λ r. evaporation r.area (slice_index t.now.opening v) (slice_index r.rate (in_year b t.now.index))) 0) n.1.1.1.1.1.1.0 in
+in_month_more b valid series before i at l t (line.Amount quantity.Evaporated v amount) h n m =
+    let is = is_same amount (of_entry b.reservoirs v (λ r. evaporation r.area (slice_index t.now.opening v) (slice_index r.rate (in_year b t.now.index))) 0) n.1.1.1.1.0 in
     record {
       months = m.months;
       index = m.index;
@@ -146,8 +144,8 @@ in_month_more b valid series before i at l t (line.Evaporated v amount) h n m =
         delivered = m.bounded.delivered;
       };
     }
-in_month_more b valid series before i at l t (line.Returned k amount) h n m =
-    let is = is_same amount (returned_at b (map (λ m. m.delivered) t.months) k t.now.index) n.1.1.1.1.1.1.1.0 in
+in_month_more b valid series before i at l t (line.Amount quantity.Returned k amount) h n m =
+    let is = is_same amount (returned_at b (map (λ m. m.delivered) t.months) k t.now.index) n.1.1.1.1.0 in
     let same : returned_at b (map (λ m. m.delivered) t.months) k t.now.index ≡ returned_at b (map (λ m. m.delivered) before) k (length before) = rw (m.months, m.index, at) refl in
     record {
       months = m.months;
@@ -162,14 +160,14 @@ in_month_more b valid series before i at l t (line.Returned k amount) h n m =
         delivered = m.bounded.delivered;
       };
     }
-in_month_more b valid series before i at l t (line.Used r amount) h n m = record {
+in_month_more b valid series before i at l t (line.Amount quantity.Used r amount) h n m = record {
   months = m.months;
   index = m.index;
   month = m.month;
   bounded = record { opening = m.bounded.opening; evaporated = m.bounded.evaporated; returned = m.bounded.returned; flow = m.bounded.flow; take = m.bounded.take; delivered = m.bounded.delivered };
 }
-in_month_more b valid series before i at l t (line.Flow e amount) h n m =
-    let most = at_most (carry_of b t.now.month e) amount n.1.1.1.1.1.1.1.1.1.0 in
+in_month_more b valid series before i at l t (line.Amount quantity.Flow e amount) h n m =
+    let most = at_most (carry_of b t.now.month e) amount n.1.1.1.1.0 in
     let same : carry_of b t.now.month e ≡ carry_of b (run_month b i) e = ap (λ k. carry_of b k e) m.month in
     record {
       months = m.months;
@@ -185,7 +183,7 @@ in_month_more b valid series before i at l t (line.Flow e amount) h n m =
       };
     }
 in_month_more b valid series before i at l t (line.Deliver r amount want) h n m =
-    let two = both_fail (want == want_of b series r t.now.index (slice_index t.now.used r)) (amount_wrong (instream_link b r) t.now.plan.flow amount want) n.1.1.1.1.1.1.1.1.1.1.0 in
+    let two = both_fail (want == want_of b series r t.now.index (slice_index t.now.used r)) (amount_wrong (instream_link b r) t.now.plan.flow amount want) n.1.1.1.1.0 in
     let is = equal want (want_of b series r t.now.index (slice_index t.now.used r)) two.0 in
     let small : amount ≤ 10 ^ 9 = omega (arith, is, wanted_most b valid series t.now.index r (slice_index t.now.used r), amount_most (instream_link b r) t.now.plan.flow amount want two.1) in
     record {
@@ -204,7 +202,7 @@ in_month_more b valid series before i at l t (line.Deliver r amount want) h n m 
   where
     equal : (x y : ℕ) → x == y ≡ true → x ≡ y
     equal x y e = grind (arith, nat_tests)
-in_month_more b valid series before i at l t (line.Outflow k amount) h n m = record {
+in_month_more b valid series before i at l t (line.Amount quantity.Outflow k amount) h n m = record {
   months = m.months;
   index = m.index;
   month = m.month;
@@ -227,7 +225,7 @@ in_month_more b valid series before i at l t (line.Member k) h n m = by_call t.c
       bounded = record { opening = m.bounded.opening; evaporated = m.bounded.evaporated; returned = m.bounded.returned; flow = m.bounded.flow; take = m.bounded.take; delivered = m.bounded.delivered };
     }
 in_month_more b valid series before i at l t (line.Called r caller) h n m = record { months = m.months; index = m.index; month = m.month; bounded = m.bounded }
-in_month_more b valid series before i at l t (line.Closing v amount) h n m = record {
+in_month_more b valid series before i at l t (line.Amount quantity.Closing v amount) h n m = record {
   months = m.months;
   index = m.index;
   month = m.month;
@@ -271,13 +269,8 @@ uncalled_more : (b : Basin) (series : Inflows) (t : Told) (item : Item) → is_b
 uncalled_more b series t line.Title h = refl
 uncalled_more b series t (line.Run first months) h = refl
 uncalled_more b series t (line.Month month) h = (let never : false ≡ true = h in cc)
-uncalled_more b series t (line.Opening v amount) h = refl
-uncalled_more b series t (line.Evaporated v amount) h = refl
-uncalled_more b series t (line.Returned n amount) h = refl
-uncalled_more b series t (line.Used r amount) h = refl
-uncalled_more b series t (line.Flow e amount) h = refl
+uncalled_more b series t (line.Amount q entry amount) h = refl
 uncalled_more b series t (line.Deliver r amount want) h = refl
-uncalled_more b series t (line.Outflow n amount) h = refl
 uncalled_more b series t (line.Call r) h = refl
 uncalled_more b series t (line.Member n) h = by_call t.calling
   where
@@ -285,7 +278,6 @@ uncalled_more b series t (line.Member n) h = by_call t.calling
     by_call None = refl
     by_call (Some right) = refl
 uncalled_more b series t (line.Called r caller) h = (let never : false ≡ true = h in cc)
-uncalled_more b series t (line.Closing v amount) h = refl
 uncalled_more b series t line.End h = refl
 uncalled_more b series t (line.Done months) h = refl
 
@@ -318,13 +310,11 @@ free_more b series r t (line.Month month) h f = record { none = no_sets (length 
     no_sets zero r = refl
     no_sets (suc n) zero = refl
     no_sets (suc n) (suc r) = no_sets n r
-free_more b series r t (line.Opening v amount) h f = record { none = f.none; other = λ e. (let never : None ≡ Some r = e in cc) }
-free_more b series r t (line.Evaporated v amount) h f = record { none = f.none; other = λ e. (let never : None ≡ Some r = e in cc) }
-free_more b series r t (line.Returned n amount) h f = record { none = f.none; other = λ e. (let never : None ≡ Some r = e in cc) }
-free_more b series r t (line.Used s amount) h f = record { none = f.none; other = λ e. (let never : None ≡ Some r = e in cc) }
-free_more b series r t (line.Flow e amount) h f = record { none = f.none; other = λ e. (let never : None ≡ Some r = e in cc) }
+free_more b series r t (line.Amount q entry amount) h f = record {
+  none = ap (λ cuts. set_of cuts r) (cuts_with q t.now (slice_set (amounts_of q t.now) entry amount)) ∙ f.none;
+  other = λ e. (let never : None ≡ Some r = e in cc);
+}
 free_more b series r t (line.Deliver s amount want) h f = record { none = f.none; other = λ e. (let never : None ≡ Some r = e in cc) }
-free_more b series r t (line.Outflow n amount) h f = record { none = f.none; other = λ e. (let never : None ≡ Some r = e in cc) }
 free_more b series r t (line.Call s) h f = record {
   none = set_apart t.now.cuts s r (Some (replicate (length b.nodes) false)) (λ e. apart s r h (sym e)) ∙ f.none;
   other = λ e. (let same : Some s ≡ Some r = e in let is : s ≡ r = cc in apart s r h is);
@@ -341,7 +331,6 @@ free_more b series r t (line.Member n) h f = by_call t.calling refl
       other = f.other;
     }
 free_more b series r t (line.Called s caller) h f = record { none = f.none; other = λ e. (let never : None ≡ Some r = e in cc) }
-free_more b series r t (line.Closing v amount) h f = record { none = f.none; other = λ e. (let never : None ≡ Some r = e in cc) }
 free_more b series r t line.End h f = record { none = f.none; other = λ e. (let never : None ≡ Some r = e in cc) }
 free_more b series r t (line.Done months) h f = f
 

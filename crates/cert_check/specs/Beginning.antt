@@ -18,5 +18,5 @@ pub record HasRoom (rights nodes : ℕ) (cuts : CutSets) : Type 0 where
 pub record IsBlank (b : Basin) (m : MonthRecord) : Type 0 where
   pub fits : FitsRecord b m
   pub calendar : IsMonth m.month
-  pub shows : Shows m (nothing_told b)
+  pub shows : Shows m (nothing_told b).now
   pub room : (r : ℕ) → r < length b.rights → has_room m.cuts r ≡ true

@@ -14,6 +14,8 @@ use Rattle.water_model.specs.Plans.{carry_of, inflow_to, outflow_from, taken_at}
 use Rattle.water_model.specs.Text.{calling_right}
 use Rattle.water_model.specs.declared.item.Item.{Item}
 use Rattle.water_model.specs.declared.item.Item.TheVariants as line
+use Rattle.water_model.specs.declared.quantity.Quantity.{Quantity}
+use Rattle.water_model.specs.declared.quantity.Quantity.TheVariants as quantity
 use Rattle.water_model.specs.declared.types.Basin.{Basin}
 use Rattle.water_model.specs.declared.types.Inflows.{Inflows}
 use Rattle.water_model.specs.declared.types.MonthRecord.{MonthRecord}
@@ -39,10 +41,15 @@ is_tight b m r cut =
     length cut == length b.nodes && separates b (taking_node b r) (instream_link b r) cut
     && cut_capacity b m.month m.supply cut == slice_index m.delivered r + cut_kept b m.delivered r cut
 
--- whether a line stands behind the `call` lines of a month
+-- whether the lines of a quantity stand behind the `call` lines of a month
+abbrev pub is_closing : Quantity → Bool
+is_closing quantity.Closing = true
+is_closing other = false
+
+-- whether a line stands behind them
 abbrev pub is_behind_calls : Item → Bool
 is_behind_calls (line.Called r caller) = true
-is_behind_calls (line.Closing v amount) = true
+is_behind_calls (line.Amount q entry amount) = is_closing q
 is_behind_calls line.End = true
 is_behind_calls other = false
 
@@ -85,40 +92,20 @@ called_wrong b t other = is_behind_calls other && nat_lt t.called (length (calle
 abbrev pub is_same_month : Month → Month → Bool
 is_same_month m n = m.year == n.year && m.month == n.month
 
-abbrev pub head_wrong : Basin → Item → Bool
-head_wrong b (line.Run first months) = not (is_same_month first b.first && months == b.months)
-head_wrong b other = false
+-- The rows of the amounts. An amount is wrong by what the lines before it tell, and of the last `out` line by what is
+-- told with it.
 
-abbrev pub opening_wrong : Basin → Told → Item → Bool
-opening_wrong b t (line.Opening v amount) = not (amount == slice_index (opening_after b t.months) v)
-opening_wrong b t other = false
-
-abbrev pub evaporation_wrong : Basin → Told → Item → Bool
-evaporation_wrong b t (line.Evaporated v amount) =
-    not (amount == of_entry b.reservoirs v (λ r. evaporation r.area (slice_index t.now.opening v) (slice_index r.rate (in_year b t.now.index))) 0)
-evaporation_wrong b t other = false
-
-abbrev pub return_wrong : Basin → Told → Item → Bool
-return_wrong b t (line.Returned n amount) = not (amount == returned_at b (map (λ m. m.delivered) t.months) n t.now.index)
-return_wrong b t other = false
-
-abbrev pub used_wrong : Basin → Told → Item → Bool
-used_wrong b t (line.Used r amount) = not (amount == used_of b (map (λ m. m.delivered) t.months) r t.now.index)
-used_wrong b t other = false
-
-abbrev pub flow_wrong : Basin → Told → Item → Bool
-flow_wrong b t (line.Flow e amount) = nat_lt (carry_of b t.now.month e) amount
-flow_wrong b t other = false
+abbrev pub head_wrong : Basin → Month → ℕ → Bool
+head_wrong b first months = not (is_same_month first b.first && months == b.months)
 
 abbrev pub amount_wrong : Option ℕ → List ℕ → ℕ → ℕ → Bool
 amount_wrong None flow amount want = nat_lt want amount
 amount_wrong (Some link) flow amount want = not (amount == min want (slice_index flow link))
 
-abbrev pub delivery_wrong : Basin → Inflows → Told → Item → Bool
-delivery_wrong b series t (line.Deliver r amount want) =
+abbrev pub delivery_wrong : Basin → Inflows → Told → ℕ → ℕ → ℕ → Bool
+delivery_wrong b series t r amount want =
     not (want == want_of b series r t.now.index (slice_index t.now.used r))
     || amount_wrong (instream_link b r) t.now.plan.flow amount want
-delivery_wrong b series t other = false
 
 -- whether a node is in balance
 abbrev pub balances : Basin → MonthRecord → ℕ → Bool
@@ -127,28 +114,56 @@ balances b m n =
     == outflow_from b m.plan.flow n + taken_at b m.plan.take n + slice_index m.plan.out n
 
 -- at the last `out` line, with its amount
-abbrev pub balance_wrong : Basin → Inflows → Told → Item → Bool
-balance_wrong b series with_line (line.Outflow n amount) =
+abbrev pub balance_wrong : Basin → Inflows → Told → ℕ → Bool
+balance_wrong b series with_line n =
     list_all (λ other. nat_le other n) (outlets b)
     && list_any (λ node. not (balances b (with_supply b series with_line.now) node)) (places_of b.nodes)
-balance_wrong b series with_line other = false
 
-abbrev pub closing_wrong : Basin → Told → Item → Bool
-closing_wrong b t (line.Closing v amount) =
+-- whether the amount of an entry is wrong
+abbrev pub quantity_wrong : Basin → Inflows → Told → Quantity → ℕ → ℕ → Bool
+quantity_wrong b series t quantity.Opening v amount = not (amount == slice_index (opening_after b t.months) v)
+quantity_wrong b series t quantity.Evaporated v amount =
+    not (amount == of_entry b.reservoirs v
+    (λ r. evaporation r.area (slice_index t.now.opening v) (slice_index r.rate (in_year b t.now.index))) 0)
+quantity_wrong b series t quantity.Returned n amount =
+    not (amount == returned_at b (map (λ m. m.delivered) t.months) n t.now.index)
+quantity_wrong b series t quantity.Used r amount =
+    not (amount == used_of b (map (λ m. m.delivered) t.months) r t.now.index)
+quantity_wrong b series t quantity.Flow e amount = nat_lt (carry_of b t.now.month e) amount
+quantity_wrong b series t quantity.Outflow n amount =
+    balance_wrong b series (tell b series t (line.Amount quantity.Outflow n amount)) n
+quantity_wrong b series t quantity.Closing v amount =
     not (amount == total_where (length b.rights) (λ r. is_zone_of b r v) (λ r. slice_index t.now.plan.take r))
-closing_wrong b t other = false
+
+-- what it is refuted for
+abbrev pub kind_of : Quantity → RefutedKind
+kind_of quantity.Opening = kind.Opening
+kind_of quantity.Evaporated = kind.Evaporation
+kind_of quantity.Returned = kind.Return
+kind_of quantity.Used = kind.Used
+kind_of quantity.Flow = kind.Flow
+kind_of quantity.Outflow = kind.Balance
+kind_of quantity.Closing = kind.Closing
 
 abbrev pub Row : Type 0
 Row = RefutedKind × Bool
 
+-- the row of a line's own kind, if it has one
+abbrev pub own_rows : Basin → Inflows → Told → Item → List Row
+own_rows b series t (line.Run first months) = (kind.Head, head_wrong b first months) ∷ []
+own_rows b series t (line.Amount q entry amount) = (kind_of q, quantity_wrong b series t q entry amount) ∷ []
+own_rows b series t (line.Deliver r amount want) = (kind.Delivery, delivery_wrong b series t r amount want) ∷ []
+own_rows b series t other = []
+
+-- the rows of the calls, which hold of any line
+abbrev pub call_rows : Basin → Inflows → Told → Item → List Row
+call_rows b series t item =
+    (kind.CutLoose, cut_loose b series t item) ∷ (kind.CutMissing, cut_missing b t item)
+    ∷ (kind.CutNeedless, cut_needless t item) ∷ (kind.Called, called_wrong b t item) ∷ []
+
 -- the rows in their order
 abbrev pub rows : Basin → Inflows → Told → Item → List Row
-rows b series t item =
-    (kind.CutLoose, cut_loose b series t item) ∷ (kind.CutMissing, cut_missing b t item) ∷ (kind.CutNeedless, cut_needless t item)
-    ∷ (kind.Called, called_wrong b t item) ∷ (kind.Head, head_wrong b item) ∷ (kind.Opening, opening_wrong b t item)
-    ∷ (kind.Evaporation, evaporation_wrong b t item) ∷ (kind.Return, return_wrong b t item) ∷ (kind.Used, used_wrong b t item)
-    ∷ (kind.Flow, flow_wrong b t item) ∷ (kind.Delivery, delivery_wrong b series t item)
-    ∷ (kind.Balance, balance_wrong b series (tell b series t item) item) ∷ (kind.Closing, closing_wrong b t item) ∷ []
+rows b series t item = call_rows b series t item ++ own_rows b series t item
 
 -- the first row that holds of a line, by what the lines before it tell
 unfoldable pub first_row : Basin → Inflows → Told → Item → Option RefutedKind

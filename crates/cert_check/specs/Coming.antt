@@ -1,5 +1,5 @@
 -- What is known of a line that may come behind good ones.
-use Rattle.std.specs.Prelude.{◌≡◌, ℕ, ◌^◌, ◌<◌, ◌≤◌, Bool, true, false, List, map, length, slice_index, None}
+use Rattle.std.specs.Prelude.{◌≡◌, ℕ, ◌^◌, ◌<◌, ◌≤◌, Bool, true, false, not, List, map, length, slice_index, None}
 use Rattle.water_model.specs.History.{IsPartialHistory, opening_after, cut_of}
 use Rattle.water_model.specs.Hydrology.{run_month, returned_at}
 use Rattle.water_model.specs.declared.item.Item.{Item}
@@ -8,6 +8,7 @@ use Rattle.water_model.specs.declared.types.Basin.{Basin}
 use Rattle.water_model.specs.declared.types.Inflows.{Inflows}
 use Rattle.water_model.specs.declared.types.MonthRecord.{MonthRecord}
 use Rattle.result_reader.specs.Telling.{Told}
+use Rattle.cert_check.specs.Checking.{is_closing}
 use Rattle.cert_check.specs.Keeping.{Keeps}
 use Rattle.cert_check.specs.declared.account.Account.{Account}
 
@@ -21,13 +22,8 @@ is_within other = true
 
 -- whether such a line stands before the `called` lines
 abbrev pub is_before_called : Item → Bool
-is_before_called (line.Opening v amount) = true
-is_before_called (line.Evaporated v amount) = true
-is_before_called (line.Returned n amount) = true
-is_before_called (line.Used r amount) = true
-is_before_called (line.Flow e amount) = true
+is_before_called (line.Amount q entry amount) = not (is_closing q)
 is_before_called (line.Deliver r amount want) = true
-is_before_called (line.Outflow n amount) = true
 is_before_called (line.Call r) = true
 is_before_called (line.Member n) = true
 is_before_called other = false

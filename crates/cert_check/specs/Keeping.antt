@@ -8,6 +8,8 @@ use Rattle.water_model.specs.History.{cut_of, opening_after, is_zone_of}
 use Rattle.water_model.specs.Hydrology.{returned_at}
 use Rattle.water_model.specs.Places.{seniors_first}
 use Rattle.water_model.specs.Text.{calling_right}
+use Rattle.water_model.specs.declared.quantity.Quantity.{Quantity}
+use Rattle.water_model.specs.declared.quantity.Quantity.TheVariants as quantity
 use Rattle.water_model.specs.declared.types.Basin.{Basin}
 use Rattle.water_model.specs.declared.types.Inflows.{Inflows}
 use Rattle.water_model.specs.declared.types.MonthRecord.{MonthRecord}
@@ -37,6 +39,13 @@ pub record FitsAccount (b : Basin) (a : Account) : Type 0 where
 abbrev pub with_outflow : MonthRecord → ℕ → ℕ → MonthRecord
 with_outflow m n amount = record m { plan = record m.plan { out = slice_set m.plan.out n amount } }
 
+-- whether the supply is made of a quantity
+abbrev pub is_supplied : Quantity → Bool
+is_supplied quantity.Opening = true
+is_supplied quantity.Evaporated = true
+is_supplied quantity.Returned = true
+is_supplied other = false
+
 -- whether a right is short and has no set
 abbrev pub lacks_call : MonthRecord → ℕ → Bool
 lacks_call m r = is_short m r && is_none (cut_of m r)
@@ -48,7 +57,7 @@ callers_of b m rights = flat_map (λ r. caller_due r (calling_right b m r)) righ
 -- the account keeps what is told, and what follows from it
 pub record Keeps (b : Basin) (series : Inflows) (a : Account) (t : Told) : Type 0 where
   pub fits : FitsAccount b a
-  pub shows : Shows a.month t
+  pub shows : Shows a.month t.now
   pub calling : a.calling ≡ t.calling
   pub done : a.done ≡ length t.months
   pub lags : lag.StandsFor a.lags b.returns (map (λ m. m.delivered) t.months)

@@ -1,6 +1,6 @@
 //! What a checker keeps of lines that are good, and how it takes the next.
 ghost use Rattle.std.specs.Prelude.{ℕ, ◌≡◌, ◌+◌, ◌^◌, ◌<◌, ◌++◌, ◌∷◌, [], List};
-ghost use Rattle.result_text.specs.Range.{IsOfBasin};
+ghost use Rattle.water_model.specs.OfBasin.{IsOfBasin};
 ghost use Rattle.water_model.specs.declared.item.Item.{Item};
 ghost use Rattle.cert_check.specs.Checking.{named_line};
 ghost use Rattle.cert_check.specs.Means.{AreMeans};

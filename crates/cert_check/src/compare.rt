@@ -1,25 +1,24 @@
 //! The rows of a verdict that compare one line with what the lines before it tell.
 //!
 //! `month` is a record that shows what is told of the month under way. A row answers whether it holds of the line.
-ghost use Rattle.std.specs.Prelude.{ℕ, ◌≡◌, ◌<◌, length, nat_lt, slice_index, map};
-ghost use Rattle.result_text.specs.Range.{IsOfBasin};
-ghost use Rattle.place_sums.specs.Sums.{total_where};
+ghost use Rattle.std.specs.Prelude.{◌≡◌, ◌<◌, ◌==◌, length, map, not, slice_index};
+ghost use Rattle.water_model.specs.OfBasin.{IsOfBasin};
 ghost use Rattle.result_reader.specs.Due.{is_member};
 ghost use Rattle.result_reader.specs.Telling.{Told};
 ghost use Rattle.water_text.specs.Months.{IsMonth};
 ghost use Rattle.water_model.specs.Basin.{instream_link};
-ghost use Rattle.water_model.specs.History.{FitsBasin, is_zone_of, opening_after};
-ghost use Rattle.water_model.specs.Hydrology.{evaporation, returned_at, run_month};
+ghost use Rattle.water_model.specs.History.{FitsBasin};
+ghost use Rattle.water_model.specs.Hydrology.{evaporation, run_month};
 ghost use Rattle.water_model.specs.Lookups.{of_entry};
 ghost use Rattle.water_model.specs.declared.types.Inflows.{Inflows};
 ghost use Rattle.water_model.specs.Valid.{IsValidBasin};
 ghost use Rattle.cert_check.specs.Checking as checking;
-ghost use Rattle.cert_check.specs.Coming.{is_within};
 ghost use Rattle.cert_check.specs.Shows.{Shows};
 
 use reservoirs::AreaTable;
 use water_model::calls::{carry_of, want_of};
 use water_model::item::Item;
+use water_model::quantity::Quantity;
 use water_model::types::{Basin, MonthRecord, RightKind};
 use water_text::month::Month;
 
@@ -43,13 +42,12 @@ pub fn is_done(item: &Item) -> bool
     }
 }
 
-/// Whether a line stands within a month, behind its `month` line.
-pub fn is_within(item: &Item) -> bool
-    ensures { result ≡ is_within item.now }
+fn is_closing(quantity: Quantity) -> bool
+    ensures { result ≡ checking.is_closing quantity }
 {
-    match *item {
-        Item::Title | Item::Run { .. } | Item::Month { .. } | Item::Done { .. } => false,
-        _ => true,
+    match quantity {
+        Quantity::Closing => true,
+        _ => false,
     }
 }
 
@@ -58,7 +56,8 @@ pub fn is_behind_calls(item: &Item) -> bool
     ensures { result ≡ checking.is_behind_calls item.now }
 {
     match *item {
-        Item::Called { .. } | Item::Closing { .. } | Item::End => true,
+        Item::Called { .. } | Item::End => true,
+        Item::Amount { quantity, .. } => is_closing(quantity),
         _ => false,
     }
 }
@@ -69,16 +68,11 @@ fn is_same_month(one: Month, other: Month) -> bool
     one.year == other.year && one.month == other.month
 }
 
-/// Whether a `run` line names another first month or number of months than the basin has.
-pub fn head_wrong(basin: &Basin, item: &Item) -> bool
-    ensures { result ≡ checking.head_wrong basin.now item.now }
+/// Whether a run has another first month or number of months than the basin.
+pub fn head_wrong(basin: &Basin, first: Month, months: u32) -> bool
+    ensures { result ≡ checking.head_wrong basin.now first months }
 {
-    match *item {
-        Item::Run { first, months } => {
-            !(is_same_month(first, basin.first) && months == basin.months)
-        }
-        _ => false,
-    }
+    !(is_same_month(first, basin.first) && months == basin.months)
 }
 
 /// Whether a right was delivered less than its want.
@@ -94,7 +88,7 @@ pub fn is_short(month: &MonthRecord, right: u32) -> bool
 pub fn cut_needless(basin: &Basin, month: &MonthRecord, item: &Item) -> bool
     requires fits { FitsBasin basin.now month.now }
     requires item { IsOfBasin basin.now item.now }
-    ensures { (t : Told) → Shows month.now t → result ≡ checking.cut_needless t item.now }
+    ensures { (t : Told) → Shows month.now t.now → result ≡ checking.cut_needless t item.now }
 {
     match *item {
         Item::Call { right } => !is_short(month, right),
@@ -102,57 +96,23 @@ pub fn cut_needless(basin: &Basin, month: &MonthRecord, item: &Item) -> bool
     }
 }
 
-/// Whether an `open` line gives another amount than the reservoir held when the month before closed, or at first.
-pub fn opening_wrong(basin: &Basin, opens: &[u64], item: &Item) -> bool
-    requires opens { length opens.now ≡ length basin.now.reservoirs }
-    requires item { IsOfBasin basin.now item.now }
-    ensures { (t : Told) → opens.now ≡ opening_after basin.now t.months → result ≡ checking.opening_wrong basin.now t item.now }
+/// Whether an amount is another than that of the entry in a list.
+pub fn differs(amounts: &[u64], entry: u32, amount: u64) -> bool
+    requires { entry < length amounts.now }
+    ensures { result ≡ not (amount == slice_index amounts.now entry) }
 {
-    match *item {
-        Item::Opening { reservoir, amount } => !(amount == opens[reservoir as usize]),
-        _ => false,
-    }
+    !(amount == amounts[entry as usize])
 }
 
-/// Whether a `flow` line gives more than the link carries.
-pub fn flow_wrong(basin: &Basin, month: &MonthRecord, item: &Item) -> bool
+/// Whether a flow is more than the link carries.
+pub fn flow_wrong(basin: &Basin, month: &MonthRecord, link: u32, amount: u64) -> bool
     requires basin { IsValidBasin basin.now }
     requires month { IsMonth month.now.month }
-    requires item { IsOfBasin basin.now item.now }
-    ensures { (t : Told) → Shows month.now t → result ≡ checking.flow_wrong basin.now t item.now }
+    requires link { link < length basin.now.links }
+    ensures { (series : Inflows) (t : Told) → Shows month.now t.now →
+        result ≡ checking.quantity_wrong basin.now series t Quantity.Flow link amount }
 {
-    match *item {
-        Item::Flow { link, amount } => carry_of(basin, link, month.month) < amount,
-        _ => false,
-    }
-}
-
-/// Whether a `close` line gives another amount than the zones take, by these sums of each reservoir's.
-pub fn closing_wrong(basin: &Basin, closes: &[u64], item: &Item) -> bool
-    requires closes { length closes.now ≡ length basin.now.reservoirs }
-    requires item { IsOfBasin basin.now item.now }
-    ensures { (t : Told) → ((v : ℕ) → v < length basin.now.reservoirs → slice_index closes.now v
-        ≡ total_where (length basin.now.rights) (λ r. is_zone_of basin.now r v) (λ r. slice_index t.now.plan.take r)) →
-        result ≡ checking.closing_wrong basin.now t item.now }
-{
-    match *item {
-        Item::Closing { reservoir, amount } => !(amount == closes[reservoir as usize]),
-        _ => false,
-    }
-}
-
-/// Whether a `return` line gives another amount than comes back to the node, by these amounts of each.
-pub fn return_wrong(basin: &Basin, comes: &[u64], item: &Item) -> bool
-    requires comes { length comes.now ≡ length basin.now.nodes }
-    requires item { IsOfBasin basin.now item.now }
-    ensures { (t : Told) → ((n : ℕ) → n < length basin.now.nodes → slice_index comes.now n
-        ≡ returned_at basin.now (map (λ m. m.delivered) t.months) n t.now.index) →
-        result ≡ checking.return_wrong basin.now t item.now }
-{
-    match *item {
-        Item::Returned { node, amount } => !(amount == comes[node as usize]),
-        _ => false,
-    }
+    carry_of(basin, link, month.month) < amount
 }
 
 /// What evaporates from a reservoir that opens with an amount, in the month at this place of a list of twelve.
@@ -172,41 +132,25 @@ fn evaporation_of(
     tables[reservoir as usize].evaporation(storage, rate)
 }
 
-/// Whether an `evap` line gives another amount than evaporates from what the reservoir opens with. `tables` has the area
-/// table of each.
+/// Whether an amount is another than evaporates from what the reservoir opens with. `tables` has the area table of each.
 pub fn evaporation_wrong(
     basin: &Basin,
     tables: &[AreaTable],
     month: &MonthRecord,
-    item: &Item,
+    reservoir: u32,
+    amount: u64,
 ) -> bool
     requires tables { tables.now ≡ map (λ v. v.area) basin.now.reservoirs }
     requires fits { FitsBasin basin.now month.now }
     requires calendar { IsMonth month.now.month }
     requires month { month.now.month ≡ run_month basin.now month.now.index }
-    requires item { IsOfBasin basin.now item.now }
-    ensures { (t : Told) → Shows month.now t → result ≡ checking.evaporation_wrong basin.now t item.now }
+    requires reservoir { reservoir < length basin.now.reservoirs }
+    ensures { (series : Inflows) (t : Told) → Shows month.now t.now →
+        result ≡ checking.quantity_wrong basin.now series t Quantity.Evaporated reservoir amount }
 {
-    match *item {
-        Item::Evaporated { reservoir, amount } => {
-            let place = month.month.month as usize - 1;
-            let storage = month.opening[reservoir as usize];
-            !(amount == evaporation_of(basin, tables, reservoir, place, storage))
-        }
-        _ => false,
-    }
-}
-
-/// Whether a `used` line gives another amount than the right used of its volume. In a valid basin no right has one.
-pub fn used_wrong(basin: &Basin, item: &Item) -> bool
-    requires basin { IsValidBasin basin.now }
-    requires item { IsOfBasin basin.now item.now }
-    ensures { (t : Told) → result ≡ checking.used_wrong basin.now t item.now }
-{
-    match *item {
-        Item::Used { amount, .. } => !(amount == 0),
-        _ => false,
-    }
+    let place = month.month.month as usize - 1;
+    let storage = month.opening[reservoir as usize];
+    !(amount == evaporation_of(basin, tables, reservoir, place, storage))
 }
 
 /// Whether an amount that is delivered is wrong by the want: a take above it, or of an instream right another amount
@@ -224,24 +168,22 @@ fn amount_wrong(basin: &Basin, flow: &[u64], right: u32, amount: u64, want: u64)
     }
 }
 
-/// Whether a `deliver` line gives another want than the right's, or an amount that is wrong by it.
-pub fn delivery_wrong(basin: &Basin, month: &MonthRecord, item: &Item) -> bool
+/// Whether a right's want is another, or what it is delivered is wrong by it.
+pub fn delivery_wrong(
+    basin: &Basin,
+    month: &MonthRecord,
+    right: u32,
+    amount: u64,
+    want: u64,
+) -> bool
     requires basin { IsValidBasin basin.now }
     requires flow { length month.now.plan.flow ≡ length basin.now.links }
     requires calendar { IsMonth month.now.month }
     requires month { month.now.month ≡ run_month basin.now month.now.index }
-    requires item { IsOfBasin basin.now item.now }
-    ensures { (series : Inflows) (t : Told) → Shows month.now t → result ≡ checking.delivery_wrong basin.now series t item.now }
+    requires right { right < length basin.now.rights }
+    ensures { (series : Inflows) (t : Told) → Shows month.now t.now →
+        result ≡ checking.delivery_wrong basin.now series t right amount want }
 {
-    match *item {
-        Item::Deliver {
-            right,
-            amount,
-            want,
-        } => {
-            !(want == want_of(basin, right, month.month))
-                || amount_wrong(basin, month.plan.flow.as_slice(), right, amount, want)
-        }
-        _ => false,
-    }
+    !(want == want_of(basin, right, month.month))
+        || amount_wrong(basin, month.plan.flow.as_slice(), right, amount, want)
 }

@@ -1,18 +1,19 @@
 //! Enters what a line tells into an account.
-ghost use Rattle.std.specs.Prelude.{ℕ, ◌≡◌, ◌+◌, ◌^◌, ◌<◌, ◌≤◌, ◌++◌, ◌∷◌, [], List, Some, None, true, false, Bool, All, Option, IfSome, IsSome, length, replicate, slice_set, is_some, if◌then◌else◌};
+ghost use Rattle.std.specs.Prelude.{ℕ, ◌≡◌, ◌+◌, ◌^◌, ◌<◌, ◌≤◌, ◌&&◌, not, ◌++◌, ◌∷◌, [], List, Some, None, true, false, Bool, All, Option, IfSome, IsSome, length, replicate, slice_set, is_some, if◌then◌else◌};
 ghost use Rattle.lag_returns.specs.Lags.{return_rows};
 ghost use Rattle.lag_returns.specs.Lags as lag;
 ghost use Rattle.month_terms.specs.Terms.{HasReturned};
 ghost use Rattle.water_model.specs.Basin.{taking_node};
 ghost use Rattle.water_model.specs.CutSets.{set_of, with_set, with_room, without_sets, has_room};
+ghost use Rattle.water_model.specs.Quantities.{amounts_of, with_amounts};
 ghost use Rattle.water_model.specs.Valid.{IsValidBasin};
-ghost use Rattle.result_text.specs.Range.{IsOfBasin};
+ghost use Rattle.water_model.specs.OfBasin.{IsOfBasin};
 ghost use Rattle.result_reader.specs.Telling.{Told, tell};
 ghost use Rattle.rights_roll.specs.Rolls.{IsRollOf};
 ghost use Rattle.water_model.specs.History.{FitsBasin};
 ghost use Rattle.cert_check.specs.Checking.{first_row};
 ghost use Rattle.cert_check.specs.Coming.{Awaits, MayCome};
-ghost use Rattle.cert_check.specs.Keeping.{Keeps};
+ghost use Rattle.cert_check.specs.Keeping.{Keeps, is_supplied};
 ghost use Rattle.cert_check.specs.Means.{AreMeans};
 ghost use Rattle.cert_check.specs.Walks.{IsDueFrom, behind};
 ghost use Rattle.cert_check.specs.declared.answering.Due.{Due};
@@ -23,6 +24,7 @@ use crate::told;
 use lag_returns::Lags;
 use rights_roll::roll::Roll;
 use water_model::item::Item;
+use water_model::quantity::Quantity;
 use water_model::rows::Rows;
 use water_model::types::{Basin, MonthRecord};
 use water_text::month::Month;
@@ -105,70 +107,28 @@ pub fn enter_month(account: &mut Account, calendar: Month)
     account.answered = 0;
 }
 
-/// Enters an `open` line.
-pub fn enter_opening(account: &mut Account, reservoir: u32, amount: u64)
-    requires { reservoir < length account.old.month.opening }
-    ensures { account.new ≡ record account.old {
-      month = record account.old.month { opening = slice_set account.old.month.opening reservoir amount };
-      calling = None;
-      has_supply = false;
-    } }
+/// Whether the supply is made of a quantity.
+fn is_supplied(quantity: Quantity) -> bool
+    ensures { result ≡ is_supplied quantity }
 {
-    told::tell_opening(&mut account.month, reservoir, amount);
-    account.calling = None;
-    account.has_supply = false;
+    match quantity {
+        Quantity::Opening | Quantity::Evaporated | Quantity::Returned => true,
+        Quantity::Used | Quantity::Flow | Quantity::Outflow | Quantity::Closing => false,
+    }
 }
 
-/// Enters an `evap` line.
-pub fn enter_evaporated(account: &mut Account, reservoir: u32, amount: u64)
-    requires { reservoir < length account.old.month.evaporated }
+/// Enters the line of an amount.
+pub fn enter_amount(account: &mut Account, quantity: Quantity, entry: u32, amount: u64)
+    requires { entry < length (amounts_of quantity account.old.month) }
     ensures { account.new ≡ record account.old {
-      month = record account.old.month { evaporated = slice_set account.old.month.evaporated reservoir amount };
+      month = with_amounts quantity account.old.month (slice_set (amounts_of quantity account.old.month) entry amount);
       calling = None;
-      has_supply = false;
+      has_supply = account.old.has_supply && not (is_supplied quantity);
     } }
 {
-    told::tell_evaporated(&mut account.month, reservoir, amount);
+    told::tell_amount(&mut account.month, quantity, entry, amount);
     account.calling = None;
-    account.has_supply = false;
-}
-
-/// Enters a `return` line.
-pub fn enter_returned(account: &mut Account, node: u32, amount: u64)
-    requires { node < length account.old.month.returned }
-    ensures { account.new ≡ record account.old {
-      month = record account.old.month { returned = slice_set account.old.month.returned node amount };
-      calling = None;
-      has_supply = false;
-    } }
-{
-    told::tell_returned(&mut account.month, node, amount);
-    account.calling = None;
-    account.has_supply = false;
-}
-
-/// Enters a `used` line.
-pub fn enter_used(account: &mut Account, right: u32, amount: u64)
-    requires { right < length account.old.month.used }
-    ensures { account.new ≡ record account.old {
-      month = record account.old.month { used = slice_set account.old.month.used right amount };
-      calling = None;
-    } }
-{
-    told::tell_used(&mut account.month, right, amount);
-    account.calling = None;
-}
-
-/// Enters a `flow` line.
-pub fn enter_flow(account: &mut Account, link: u32, amount: u64)
-    requires { link < length account.old.month.plan.flow }
-    ensures { account.new ≡ record account.old {
-      month = record account.old.month { plan = record account.old.month.plan { flow = slice_set account.old.month.plan.flow link amount } };
-      calling = None;
-    } }
-{
-    told::tell_flow(&mut account.month, link, amount);
-    account.calling = None;
+    account.has_supply = account.has_supply && !is_supplied(quantity);
 }
 
 /// Enters a `deliver` line. It comes before the month's `call` lines, so no right is passed over yet.
@@ -195,18 +155,6 @@ pub fn enter_delivery(basin: &Basin, account: &mut Account, right: u32, amount: 
     account.has_closes = false;
     account.passed = 0;
     account.answered = 0;
-}
-
-/// Enters an `out` line.
-pub fn enter_outflow(account: &mut Account, node: u32, amount: u64)
-    requires { node < length account.old.month.plan.out }
-    ensures { account.new ≡ record account.old {
-      month = record account.old.month { plan = record account.old.month.plan { out = slice_set account.old.month.plan.out node amount } };
-      calling = None;
-    } }
-{
-    told::tell_outflow(&mut account.month, node, amount);
-    account.calling = None;
 }
 
 /// Enters a `call` line. The right has room for a set and has none yet.
@@ -257,18 +205,6 @@ pub fn enter_called(basin: &Basin, roll: &Roll, account: &mut Account)
         Some(due) => account.answered = due.place + 1,
         None => {}
     }
-}
-
-/// Enters a `close` line.
-pub fn enter_closing(account: &mut Account, reservoir: u32, amount: u64)
-    requires { reservoir < length account.old.month.closing }
-    ensures { account.new ≡ record account.old {
-      month = record account.old.month { closing = slice_set account.old.month.closing reservoir amount };
-      calling = None;
-    } }
-{
-    told::tell_closing(&mut account.month, reservoir, amount);
-    account.calling = None;
 }
 
 /// Writes what comes back to each node next.
@@ -327,21 +263,19 @@ pub fn enter(means: &Means, account: &mut Account, item: &Item)
         Item::Title => {}
         Item::Run { .. } => {}
         Item::Month { month } => enter_month(account, month),
-        Item::Opening { reservoir, amount } => enter_opening(account, reservoir, amount),
-        Item::Evaporated { reservoir, amount } => enter_evaporated(account, reservoir, amount),
-        Item::Returned { node, amount } => enter_returned(account, node, amount),
-        Item::Used { right, amount } => enter_used(account, right, amount),
-        Item::Flow { link, amount } => enter_flow(account, link, amount),
+        Item::Amount {
+            quantity,
+            entry,
+            amount,
+        } => { enter_amount(account, quantity, entry, amount) }
         Item::Deliver {
             right,
             amount,
             want,
         } => enter_delivery(means.basin, account, right, amount, want),
-        Item::Outflow { node, amount } => enter_outflow(account, node, amount),
         Item::Call { right } => enter_call(account, right),
         Item::Member { node } => enter_member(account, node),
         Item::Called { .. } => enter_called(means.basin, &means.roll, account),
-        Item::Closing { reservoir, amount } => enter_closing(account, reservoir, amount),
         Item::End => enter_end(means.basin, account),
         Item::Done { .. } => {}
     }

@@ -1,12 +1,15 @@
 //! The first row of the verdict that holds of a line, by what is told before it.
-ghost use Rattle.std.specs.Prelude.{ℕ, ◌≡◌, ◌<◌, ◌≤◌, ◌==◌, ◌&&◌, Bool, true, false, not, length, nat_lt, slice_get, Option, Some};
+ghost use Rattle.std.specs.Prelude.{◌≡◌, ◌<◌, ◌==◌, ◌&&◌, ◌∷◌, [], true, not, length, nat_lt, slice_get, Some};
 ghost use Rattle.std.specs.List.{list_any};
-ghost use Rattle.result_text.specs.Range.{IsOfBasin};
-ghost use Rattle.result_reader.specs.Telling.{Told, tell, with_supply};
+ghost use Rattle.water_model.specs.OfBasin.{IsOfBasin};
+ghost use Rattle.result_reader.specs.Telling.{Told, with_supply};
+ghost use Rattle.water_model.specs.Entries.{count_in};
 ghost use Rattle.water_model.specs.Places.{places_of};
+ghost use Rattle.water_model.specs.Quantities.{space_of};
 ghost use Rattle.cert_check.specs.Checking as checking;
-ghost use Rattle.cert_check.specs.Coming.{Awaits, HasMonth, HasTold, IsUnderWay, MayCome, is_within};
-ghost use Rattle.cert_check.specs.FirstRows.{first_of, call_rows, amount_rows, sum_rows};
+ghost use Rattle.cert_check.specs.Checking.{call_rows, own_rows};
+ghost use Rattle.cert_check.specs.Coming.{Awaits, HasMonth, HasTold, IsUnderWay, MayCome};
+ghost use Rattle.cert_check.specs.FirstRows.{first_of};
 ghost use Rattle.cert_check.specs.Keeping.{Keeps, with_outflow};
 ghost use Rattle.cert_check.specs.Means.{AreMeans};
 
@@ -20,6 +23,7 @@ use crate::supplying::make_supply;
 use cut_cert::tight;
 use month_terms::closing::close_zones;
 use water_model::item::Item;
+use water_model::quantity::Quantity;
 
 /// Makes the supply that is told, unless the record has it.
 fn know_supply(means: &Means, account: &mut Account)
@@ -149,8 +153,7 @@ fn called_wrong(means: &Means, account: &mut Account, item: &Item) -> bool
 {
     match *item {
         Item::Called { right, by } => is_not_due(means, account, right, by),
-        Item::Closing { .. } | Item::End => has_due(means, account),
-        _ => false,
+        _ => compare::is_behind_calls(item) && has_due(means, account),
     }
 }
 
@@ -174,43 +177,35 @@ fn is_uneven(means: &Means, account: &mut Account, node: u32, amount: u64) -> bo
     )
 }
 
-/// Whether a line is the last `out` line of a month in which some node isn't in balance.
-fn balance_wrong(means: &Means, account: &mut Account, item: &Item) -> bool
+/// Whether a node is the last outlet, and some node isn't in balance, where this amount leaves the basin at it.
+fn balance_wrong(means: &Means, account: &mut Account, node: u32, amount: u64) -> bool
     requires means { AreMeans means.now }
-    requires item { IsOfBasin means.now.basin.now item.now }
+    requires node { node < length means.now.basin.now.nodes }
     requires month { HasMonth means.now.basin.now means.now.series.now account.old }
-    ensures value { (t : Told) → Keeps means.now.basin.now means.now.series.now account.old t → result ≡ checking.balance_wrong means.now.basin.now means.now.series.now (tell means.now.basin.now means.now.series.now t item.now) item.now }
+    ensures value { (t : Told) → Keeps means.now.basin.now means.now.series.now account.old t →
+        result ≡ checking.quantity_wrong means.now.basin.now means.now.series.now t Quantity.Outflow node amount }
     ensures keeps { (t : Told) → Keeps means.now.basin.now means.now.series.now account.old t → Keeps means.now.basin.now means.now.series.now account.new t }
 {
-    match *item {
-        Item::Outflow { node, amount } => {
-            if node < means.last_outlet {
-                return false;
-            }
-            is_uneven(means, account, node, amount)
-        }
-        _ => false,
+    if node < means.last_outlet {
+        return false;
     }
+    is_uneven(means, account, node, amount)
 }
 
-/// Whether a `close` line gives another amount than the reservoir's zones take.
-fn closing_wrong(means: &Means, account: &mut Account, item: &Item) -> bool
+/// Whether an amount is another than the reservoir's zones take.
+fn closing_wrong(means: &Means, account: &mut Account, reservoir: u32, amount: u64) -> bool
     requires means { AreMeans means.now }
-    requires item { IsOfBasin means.now.basin.now item.now }
+    requires reservoir { reservoir < length means.now.basin.now.reservoirs }
     requires month { HasMonth means.now.basin.now means.now.series.now account.old }
-    ensures value { (t : Told) → Keeps means.now.basin.now means.now.series.now account.old t → result ≡ checking.closing_wrong means.now.basin.now t item.now }
+    ensures value { (t : Told) → Keeps means.now.basin.now means.now.series.now account.old t →
+        result ≡ checking.quantity_wrong means.now.basin.now means.now.series.now t Quantity.Closing reservoir amount }
     ensures keeps { (t : Told) → Keeps means.now.basin.now means.now.series.now account.old t → Keeps means.now.basin.now means.now.series.now account.new t }
 {
-    match *item {
-        Item::Closing { .. } => {
-            know_closes(means, account);
-            compare::closing_wrong(means.basin, account.closes.as_slice(), item)
-        }
-        _ => false,
-    }
+    know_closes(means, account);
+    compare::differs(account.closes.as_slice(), reservoir, amount)
 }
 
-/// The first of the rows of the calls and of the head that holds of a line.
+/// The first of the rows of the calls that holds of a line.
 fn call_row(means: &Means, account: &mut Account, item: &Item) -> Option<RefutedKind>
     requires means { AreMeans means.now }
     requires item { IsOfBasin means.now.basin.now item.now }
@@ -230,57 +225,96 @@ fn call_row(means: &Means, account: &mut Account, item: &Item) -> Option<Refuted
     if called_wrong(means, account, item) {
         return Some(RefutedKind::Called);
     }
-    if compare::head_wrong(means.basin, item) {
-        return Some(RefutedKind::Head);
-    }
     None
 }
 
-/// The first of the rows that compare one amount that holds of a line within a month.
-fn amount_row(means: &Means, account: &Account, item: &Item) -> Option<RefutedKind>
+/// Whether the amount of an entry is wrong.
+fn quantity_wrong(
+    means: &Means,
+    account: &mut Account,
+    quantity: Quantity,
+    entry: u32,
+    amount: u64,
+) -> bool
     requires means { AreMeans means.now }
-    requires item { IsOfBasin means.now.basin.now item.now }
-    requires month { HasMonth means.now.basin.now means.now.series.now account.now }
-    ensures { (t : Told) → Keeps means.now.basin.now means.now.series.now account.now t → IsUnderWay means.now.basin.now means.now.series.now t → result ≡ first_of (amount_rows means.now.basin.now means.now.series.now t item.now) }
-{
-    let basin = means.basin;
-    let month = &account.month;
-    if compare::opening_wrong(basin, account.opens.as_slice(), item) {
-        return Some(RefutedKind::Opening);
-    }
-    if compare::evaporation_wrong(basin, &means.tables, month, item) {
-        return Some(RefutedKind::Evaporation);
-    }
-    if compare::return_wrong(basin, account.comes.as_slice(), item) {
-        return Some(RefutedKind::Return);
-    }
-    if compare::used_wrong(basin, item) {
-        return Some(RefutedKind::Used);
-    }
-    if compare::flow_wrong(basin, month, item) {
-        return Some(RefutedKind::Flow);
-    }
-    if compare::delivery_wrong(basin, month, item) {
-        return Some(RefutedKind::Delivery);
-    }
-    None
-}
-
-/// The first of the rows that compare sums that holds of a line within a month.
-fn sum_row(means: &Means, account: &mut Account, item: &Item) -> Option<RefutedKind>
-    requires means { AreMeans means.now }
-    requires item { IsOfBasin means.now.basin.now item.now }
+    requires entry { entry < count_in (space_of quantity) means.now.basin.now }
     requires month { HasMonth means.now.basin.now means.now.series.now account.old }
-    ensures value { (t : Told) → Keeps means.now.basin.now means.now.series.now account.old t → result ≡ first_of (sum_rows means.now.basin.now means.now.series.now t item.now) }
+    ensures value { (t : Told) → Keeps means.now.basin.now means.now.series.now account.old t → IsUnderWay means.now.basin.now means.now.series.now t →
+        result ≡ checking.quantity_wrong means.now.basin.now means.now.series.now t quantity entry amount }
     ensures keeps { (t : Told) → Keeps means.now.basin.now means.now.series.now account.old t → Keeps means.now.basin.now means.now.series.now account.new t }
 {
-    if balance_wrong(means, account, item) {
-        return Some(RefutedKind::Balance);
+    let basin = means.basin;
+    match quantity {
+        Quantity::Opening => compare::differs(account.opens.as_slice(), entry, amount),
+        Quantity::Evaporated => {
+            compare::evaporation_wrong(basin, &means.tables, &account.month, entry, amount)
+        }
+        Quantity::Returned => compare::differs(account.comes.as_slice(), entry, amount),
+        Quantity::Used => !(amount == 0),
+        Quantity::Flow => compare::flow_wrong(basin, &account.month, entry, amount),
+        Quantity::Outflow => balance_wrong(means, account, entry, amount),
+        Quantity::Closing => closing_wrong(means, account, entry, amount),
     }
-    if closing_wrong(means, account, item) {
-        return Some(RefutedKind::Closing);
+}
+
+/// What a wrong amount is refuted for.
+fn kind_of(quantity: Quantity) -> RefutedKind
+    ensures { result ≡ checking.kind_of quantity }
+{
+    match quantity {
+        Quantity::Opening => RefutedKind::Opening,
+        Quantity::Evaporated => RefutedKind::Evaporation,
+        Quantity::Returned => RefutedKind::Return,
+        Quantity::Used => RefutedKind::Used,
+        Quantity::Flow => RefutedKind::Flow,
+        Quantity::Outflow => RefutedKind::Balance,
+        Quantity::Closing => RefutedKind::Closing,
     }
-    None
+}
+
+/// The kind, where a row of it holds.
+fn kind_if(holds: bool, kind: RefutedKind) -> Option<RefutedKind>
+    ensures { result ≡ first_of ((kind, holds) ∷ []) }
+{
+    if holds { Some(kind) } else { None }
+}
+
+/// The row of a line's own kind, if it has one and it holds.
+fn own_row(means: &Means, account: &mut Account, item: &Item) -> Option<RefutedKind>
+    requires means { AreMeans means.now }
+    requires item { IsOfBasin means.now.basin.now item.now }
+    requires awaits { Awaits means.now.basin.now means.now.series.now account.old item.now }
+    ensures value { (t : Told) → Keeps means.now.basin.now means.now.series.now account.old t → MayCome means.now.basin.now means.now.series.now t item.now →
+        result ≡ first_of (own_rows means.now.basin.now means.now.series.now t item.now) }
+    ensures keeps { (t : Told) → Keeps means.now.basin.now means.now.series.now account.old t → Keeps means.now.basin.now means.now.series.now account.new t }
+{
+    match *item {
+        Item::Run { first, months } => {
+            kind_if(
+                compare::head_wrong(means.basin, first, months),
+                RefutedKind::Head,
+            )
+        }
+        Item::Amount {
+            quantity,
+            entry,
+            amount,
+        } => {
+            kind_if(
+                quantity_wrong(means, account, quantity, entry, amount),
+                kind_of(quantity),
+            )
+        }
+        Item::Deliver {
+            right,
+            amount,
+            want,
+        } => kind_if(
+            compare::delivery_wrong(means.basin, &account.month, right, amount, want),
+            RefutedKind::Delivery,
+        ),
+        _ => None,
+    }
 }
 
 /// The first row of the verdict that holds of a line. What is told stays.
@@ -288,19 +322,12 @@ pub fn first_row(means: &Means, account: &mut Account, item: &Item) -> Option<Re
     requires means { AreMeans means.now }
     requires item { IsOfBasin means.now.basin.now item.now }
     requires awaits { Awaits means.now.basin.now means.now.series.now account.old item.now }
-    ensures value { (t : Told) → Keeps means.now.basin.now means.now.series.now account.old t → MayCome means.now.basin.now means.now.series.now t item.now → result ≡ checking.first_row means.now.basin.now means.now.series.now t item.now }
+    ensures value { (t : Told) → Keeps means.now.basin.now means.now.series.now account.old t → MayCome means.now.basin.now means.now.series.now t item.now →
+        result ≡ checking.first_row means.now.basin.now means.now.series.now t item.now }
     ensures keeps { (t : Told) → Keeps means.now.basin.now means.now.series.now account.old t → Keeps means.now.basin.now means.now.series.now account.new t }
 {
     match call_row(means, account, item) {
-        Some(kind) => return Some(kind),
-        None => {}
+        Some(kind) => Some(kind),
+        None => own_row(means, account, item),
     }
-    if !compare::is_within(item) {
-        return None;
-    }
-    match amount_row(means, account, item) {
-        Some(kind) => return Some(kind),
-        None => {}
-    }
-    sum_row(means, account, item)
 }

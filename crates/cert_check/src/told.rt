@@ -1,6 +1,7 @@
 //! What a line tells of the month under way.
 ghost use Rattle.std.specs.Prelude.{◌≡◌, ◌<◌, length, slice_set, is_some, if◌then◌else◌};
 ghost use Rattle.water_model.specs.Basin.{taking_node};
+ghost use Rattle.water_model.specs.Quantities.{amounts_of, with_amounts};
 ghost use Rattle.water_model.specs.Valid.{IsValidBasin};
 ghost use Rattle.result_reader.specs.Telling.{Told, tell};
 ghost use Rattle.water_model.specs.declared.item.Item.TheVariants as line;
@@ -8,6 +9,7 @@ ghost use Rattle.water_model.specs.declared.types.Basin.{Basin};
 ghost use Rattle.water_model.specs.declared.types.Inflows.{Inflows};
 ghost use Rattle.cert_check.specs.Shows.{Shows};
 
+use water_model::quantity::Quantity;
 use water_model::types::{Basin, MonthRecord, RightKind};
 
 /// Writes an amount at a place of a list.
@@ -18,67 +20,22 @@ fn put(list: &mut [u64], place: u32, amount: u64)
     list[place as usize] = amount;
 }
 
-/// Tells what a reservoir opens with.
-pub fn tell_opening(month: &mut MonthRecord, reservoir: u32, amount: u64)
-    requires { reservoir < length month.old.opening }
-    ensures exact { month.new ≡ record month.old { opening = slice_set month.old.opening reservoir amount } }
-    ensures shows { (b : Basin) (series : Inflows) (t : Told) → Shows month.old t → Shows month.new (tell b series t (line.Opening reservoir amount)) }
+/// Tells an amount of an entry.
+pub fn tell_amount(month: &mut MonthRecord, quantity: Quantity, entry: u32, amount: u64)
+    requires { entry < length (amounts_of quantity month.old) }
+    ensures exact { month.new ≡ with_amounts quantity month.old (slice_set (amounts_of quantity month.old) entry amount) }
+    ensures shows { (b : Basin) (series : Inflows) (t : Told) → Shows month.old t.now →
+        Shows month.new (tell b series t (line.Amount quantity entry amount)).now }
 {
-    put(month.opening.as_mut_slice(), reservoir, amount);
-}
-
-/// Tells what evaporates from a reservoir.
-pub fn tell_evaporated(month: &mut MonthRecord, reservoir: u32, amount: u64)
-    requires { reservoir < length month.old.evaporated }
-    ensures exact { month.new ≡ record month.old { evaporated = slice_set month.old.evaporated reservoir amount } }
-    ensures shows { (b : Basin) (series : Inflows) (t : Told) → Shows month.old t → Shows month.new (tell b series t (line.Evaporated reservoir amount)) }
-{
-    put(month.evaporated.as_mut_slice(), reservoir, amount);
-}
-
-/// Tells what comes back to a node.
-pub fn tell_returned(month: &mut MonthRecord, node: u32, amount: u64)
-    requires { node < length month.old.returned }
-    ensures exact { month.new ≡ record month.old { returned = slice_set month.old.returned node amount } }
-    ensures shows { (b : Basin) (series : Inflows) (t : Told) → Shows month.old t → Shows month.new (tell b series t (line.Returned node amount)) }
-{
-    put(month.returned.as_mut_slice(), node, amount);
-}
-
-/// Tells the flow on a link.
-pub fn tell_flow(month: &mut MonthRecord, link: u32, amount: u64)
-    requires { link < length month.old.plan.flow }
-    ensures exact { month.new ≡ record month.old { plan = record month.old.plan { flow = slice_set month.old.plan.flow link amount } } }
-    ensures shows { (b : Basin) (series : Inflows) (t : Told) → Shows month.old t → Shows month.new (tell b series t (line.Flow link amount)) }
-{
-    put(month.plan.flow.as_mut_slice(), link, amount);
-}
-
-/// Tells what leaves the basin at a node.
-pub fn tell_outflow(month: &mut MonthRecord, node: u32, amount: u64)
-    requires { node < length month.old.plan.out }
-    ensures exact { month.new ≡ record month.old { plan = record month.old.plan { out = slice_set month.old.plan.out node amount } } }
-    ensures shows { (b : Basin) (series : Inflows) (t : Told) → Shows month.old t → Shows month.new (tell b series t (line.Outflow node amount)) }
-{
-    put(month.plan.out.as_mut_slice(), node, amount);
-}
-
-/// Tells what a right used of its volume.
-pub fn tell_used(month: &mut MonthRecord, right: u32, amount: u64)
-    requires { right < length month.old.used }
-    ensures exact { month.new ≡ record month.old { used = slice_set month.old.used right amount } }
-    ensures shows { (b : Basin) (series : Inflows) (t : Told) → Shows month.old t → Shows month.new (tell b series t (line.Used right amount)) }
-{
-    put(month.used.as_mut_slice(), right, amount);
-}
-
-/// Tells what a reservoir closes with.
-pub fn tell_closing(month: &mut MonthRecord, reservoir: u32, amount: u64)
-    requires { reservoir < length month.old.closing }
-    ensures exact { month.new ≡ record month.old { closing = slice_set month.old.closing reservoir amount } }
-    ensures shows { (b : Basin) (series : Inflows) (t : Told) → Shows month.old t → Shows month.new (tell b series t (line.Closing reservoir amount)) }
-{
-    put(month.closing.as_mut_slice(), reservoir, amount);
+    match quantity {
+        Quantity::Opening => put(month.opening.as_mut_slice(), entry, amount),
+        Quantity::Evaporated => put(month.evaporated.as_mut_slice(), entry, amount),
+        Quantity::Returned => put(month.returned.as_mut_slice(), entry, amount),
+        Quantity::Used => put(month.used.as_mut_slice(), entry, amount),
+        Quantity::Flow => put(month.plan.flow.as_mut_slice(), entry, amount),
+        Quantity::Outflow => put(month.plan.out.as_mut_slice(), entry, amount),
+        Quantity::Closing => put(month.closing.as_mut_slice(), entry, amount),
+    }
 }
 
 /// What a right takes of what it is delivered: all, or of an instream right nothing.
@@ -106,7 +63,8 @@ pub fn tell_delivery(basin: &Basin, month: &mut MonthRecord, right: u32, amount:
       want = slice_set month.old.want right want;
       plan = record month.old.plan { take = slice_set month.old.plan.take right (if is_some (taking_node basin.now right) then amount else 0) };
     } }
-    ensures shows { (series : Inflows) (t : Told) → Shows month.old t → Shows month.new (tell basin.now series t (line.Deliver right amount want)) }
+    ensures shows { (series : Inflows) (t : Told) → Shows month.old t.now →
+        Shows month.new (tell basin.now series t (line.Deliver right amount want)).now }
 {
     let take = take_of(basin, right, amount);
     put(month.delivered.as_mut_slice(), right, amount);

@@ -6,7 +6,7 @@ use Rattle.water_model.specs.Places.{seniors_first}
 use Rattle.water_model.specs.Valid.{IsValidBasin}
 use Rattle.water_model.specs.declared.types.Basin.{Basin}
 use Rattle.water_model.specs.declared.types.MonthRecord.{MonthRecord}
-use Rattle.rights_roll.proofs.Seniors.{length-by_seniority}
+use Rattle.water_model.proofs.Order.{length-by_seniority}
 use Rattle.injury.specs.Common.{HaveDeliveries, common_rights}
 use Rattle.injury.specs.Injuries.{injuries_of, injuries}
 use Rattle.injury.proofs.Pairs.{Each, IsPair, common_have_one_name, pairs_few}

@@ -7,6 +7,7 @@ use result_reader::{BadLine, Item, ResultReader};
 use rights_roll::roll::Roll;
 use std::alloc::{AllocError, Global};
 use std::process::Abort;
+use water_model::quantity::Quantity;
 use water_model::types::Basin;
 use water_text::month::Month;
 
@@ -44,8 +45,9 @@ const LINES: &[(&str, Result<Item, BadLine>)] = &[
     ("flow a  60", Err(BadLine::BadField)),
     (
         "flow a 60",
-        Ok(Item::Flow {
-            link: 0,
+        Ok(Item::Amount {
+            quantity: Quantity::Flow,
+            entry: 0,
             amount: 60,
         }),
     ),
@@ -53,8 +55,9 @@ const LINES: &[(&str, Result<Item, BadLine>)] = &[
     ("end", Err(BadLine::OutOfPlace)),
     (
         "out sea 60",
-        Ok(Item::Outflow {
-            node: 1,
+        Ok(Item::Amount {
+            quantity: Quantity::Outflow,
+            entry: 1,
             amount: 60,
         }),
     ),

@@ -9,7 +9,7 @@ use Rattle.water_model.specs.Valid.{IsValidBasin, IsSeriesOf}
 use Rattle.water_model.specs.declared.types.Basin.{Basin}
 use Rattle.water_model.specs.declared.types.Inflows.{Inflows}
 use Rattle.month_terms.proofs.Bounds.{inflows_small}
-use Rattle.result_text.proofs.Entries.{few_reservoirs}
+use Rattle.water_model.proofs.Entries.{few_reservoirs}
 
 -- one node's inflow more is within the month's
 pub inflow_fits : (b : Basin) (series : Inflows) (i n : ℕ) → IsValidBasin b → IsSeriesOf b series → n < length b.nodes →

@@ -2,18 +2,22 @@
 use Rattle.std.proofs.Common.{◌≡◌, ◌≢◌, ℕ, zero, suc, ◌+◌, ◌<◌, ◌≤◌, Bool, true, false, refl, sym, ap, subst, ◌∙◌, arith, inl, inr, List, [], ◌∷◌, ◌++◌, length, map, replicate, take, append_assoc, zero-add, length-append}
 use Rattle.std.specs.Prelude.{Option, Some, None, option_map, ◌⊎◌, is_some, slice_index, slice_get, slice_set, filter, unwrap_or, ◌==◌, ◌||◌, if◌then◌else◌}
 use Rattle.std.specs.List.{list_any}
-use Rattle.std.proofs.Math.ListN.{length-set}
 use Rattle.std.proofs.lemmas.Bool.{cases_eq, cases_lt, cases_Bool}
 use Rattle.std.proofs.lemmas.Option.{slice_get_past}
 use Rattle.std.proofs.lemmas.List.{length-replicate}
 use Rattle.place_sums.proofs.Totals.{total_zero}
-use Rattle.water_model.proofs.Order.{Has, numbers_from-has, seniors_have, seniors_below}
-use Rattle.water_model.specs.Basin.{taking_node, taking_node_of_kind, instream_link, link_of_kind, is_outlet}
+use Rattle.water_model.proofs.Entries.{in_order-has}
+use Rattle.water_model.proofs.Order.{Has, filter-has, has-filter, seniors_have, seniors_below}
+use Rattle.water_model.specs.Basin.{taking_node, taking_node_of_kind, instream_link, link_of_kind}
 use Rattle.water_model.specs.History.{cut_of}
 use Rattle.water_model.specs.Hydrology.{returned_at, returned_by, used_of, used_by_volume, used_in_year, inflow_at, stored_at}
 use Rattle.water_model.specs.Lookups.{of_entry}
-use Rattle.water_model.specs.Places.{numbers_from, places_of, seniors_first, return_nodes, outlets, rights_with_volume}
+use Rattle.water_model.specs.Entries.{count_in, in_order}
+use Rattle.water_model.specs.Places.{numbers_from, seniors_first}
+use Rattle.water_model.specs.Quantities.{amounts_of, entries_with_line, has_line, space_of}
 use Rattle.water_model.specs.Plans.{delivery_by_link}
+use Rattle.water_model.specs.declared.quantity.Quantity.{Quantity}
+use Rattle.water_model.specs.declared.quantity.Quantity.TheVariants as quantity
 use Rattle.water_model.specs.declared.types.Basin.{Basin}
 use Rattle.water_model.specs.declared.types.Inflows.{Inflows}
 use Rattle.water_model.specs.declared.types.MonthRecord.{MonthRecord}
@@ -21,8 +25,8 @@ use Rattle.water_model.specs.declared.types.ReturnRow.{ReturnRow}
 use Rattle.water_model.specs.declared.types.Right.{Right}
 use Rattle.water_model.specs.declared.types.RightKind.{RightKind}
 use Rattle.water_model.specs.declared.types.RightKind.TheVariants as kind
-use Rattle.result_reader.specs.Records.{IsTextMonth, AreTextMonths}
-use Rattle.result_reader.proofs.MonthTold.{put_sets, take_of}
+use Rattle.result_reader.specs.Records.{IsMonthBehind, IsTextMonth, AreTextMonths}
+use Rattle.result_reader.proofs.MonthTold.{put_sets, put_one, length-put_one, put_sets-step, length-put_sets, take_of}
 use Rattle.result_reader.proofs.NameLaws.{get_there}
 use Rattle.result_reader.proofs.Telling.{set_all, set_all-whole, Sets, entry_set}
 use Rattle.result_reader.proofs.WholeMonth.{IsAllTold, AreAllTold}
@@ -50,28 +54,6 @@ set_all-same [] a c ys h = refl
 set_all-same (x ∷ xs) a c ys h =
     ap (λ n. set_all xs a (slice_set ys x n)) (h x (inl refl)) ∙ set_all-same xs a c (slice_set ys x (c x)) (λ k m. h k (inr m))
 
-pub has-filter : (p : ℕ → Bool) (xs : List ℕ) (k : ℕ) → Has xs k → p k ≡ true → Has (filter p xs) k
-has-filter p [] k h e = absurd h
-has-filter p (x ∷ xs) k h e = by_test (p x) refl h (λ m. has-filter p xs k m e)
-  where
-    by_test : (t : Bool) → p x ≡ t → Has (x ∷ xs) k → (Has xs k → Has (filter p xs) k) → Has (filter p (x ∷ xs)) k
-    by_test true f (inl is) further = rw f (inl is)
-    by_test true f (inr m) further = rw f (inr (further m))
-    by_test false f (inl is) further = let no_pass : false ≡ true = sym f ∙ (ap p (sym is) ∙ e) in cc
-    by_test false f (inr m) further = rw f (further m)
-
-pub filter-has : (p : ℕ → Bool) (xs : List ℕ) (k : ℕ) → Has (filter p xs) k → Has xs k × (p k ≡ true)
-filter-has p [] k h = absurd h
-filter-has p (x ∷ xs) k h = by_test (p x) refl (λ m. filter-has p xs k m)
-  where
-    by_test : (t : Bool) → p x ≡ t → (Has (filter p xs) k → Has xs k × (p k ≡ true)) → Has (x ∷ xs) k × (p k ≡ true)
-    by_test true f further = here (rw f at h)
-      where
-        here : Has (x ∷ filter p xs) k → Has (x ∷ xs) k × (p k ≡ true)
-        here (inl is) = (inl is, ap p is ∙ f)
-        here (inr m) = let r = further m in (inr r.0, r.1)
-    by_test false f further = let r = further (rw f at h) in (inr r.0, r.1)
-
 -- a place that passes a test is told, and one that doesn't has 0
 by_filter : (p : ℕ → Bool) (xs zs : List ℕ) (k : ℕ) → Has xs k → (p k ≡ false → slice_index zs k ≡ 0) →
     Has (filter p xs) k ⊎ ((Has (filter p xs) k → ⊥) × (slice_index zs k ≡ 0))
@@ -79,9 +61,6 @@ by_filter p xs zs k h none = elim (cases_Bool (p k)) [
   | inl passes ↦ inl (has-filter p xs k h passes)
   | inr fails ↦ inr (λ m. (let both : false ≡ true = sym fails ∙ (filter-has p xs k m).1 in cc), none fails)
 ]
-
-has_place : {X : Type 0} (xs : List X) (k : ℕ) → k < length xs → Has (places_of xs) k
-has_place xs k l = numbers_from-has 0 (length xs) k k l (omega arith)
 
 map-numbers : (f : ℕ → ℕ) (from n : ℕ) (ys : List ℕ) → length ys ≡ n → ((k : ℕ) → k < n → slice_index ys k ≡ f (from + k)) → map f (numbers_from from n) ≡ ys
 unfolding numbers_from
@@ -112,29 +91,6 @@ set_other (x ∷ xs) zero zero v h = absurd (h refl)
 set_other (x ∷ xs) zero (suc k) v h = refl
 set_other (x ∷ xs) (suc r) zero v h = refl
 set_other (x ∷ xs) (suc r) (suc k) v h = set_other xs r k v (λ e. h (ap suc e))
-
--- the sets of one right more
-put_one : (r : ℕ) (o : Option (List Bool)) → Sets → Sets
-put_one r None ys = ys
-put_one r (Some set) ys = slice_set ys r (Some set)
-
-length-put_one : (r : ℕ) (o : Option (List Bool)) (ys : Sets) → length (put_one r o ys) ≡ length ys
-unfolding put_one
-length-put_one r None ys = refl
-length-put_one r (Some set) ys = length-set ys r (Some set)
-
-put_sets-step : (r : ℕ) (rs : List ℕ) (cut : ℕ → Option (List Bool)) (ys : Sets) → put_sets (r ∷ rs) cut ys ≡ put_sets rs cut (put_one r (cut r) ys)
-unfolding put_one
-put_sets-step r rs cut ys = by_set (cut r) refl
-  where
-    by_set : (o : Option (List Bool)) → cut r ≡ o → put_sets (r ∷ rs) cut ys ≡ put_sets rs cut (put_one r (cut r) ys)
-    by_set None e = rw e refl
-    by_set (Some set) e = rw e refl
-
-length-put_sets : (rs : List ℕ) (cut : ℕ → Option (List Bool)) (ys : Sets) → length (put_sets rs cut ys) ≡ length ys
-length-put_sets [] cut ys = refl
-length-put_sets (r ∷ rs) cut ys =
-    ap length (put_sets-step r rs cut ys) ∙ (length-put_sets rs cut (put_one r (cut r) ys) ∙ length-put_one r (cut r) ys)
 
 put_one-keeps : (r k : ℕ) (cut : ℕ → Option (List Bool)) (ys : Sets) → k < length ys → set_in ys k ≡ cut k → set_in (put_one r (cut r) ys) k ≡ cut k
 unfolding put_one
@@ -267,24 +223,42 @@ has_set b series before m t r set e = by_range (cases_lt r (length b.rights))
       | inr met ↦ (let none : cut_of m r ≡ None = t.sets.met r l met in cc)
     ]
 
-all_told : (b : Basin) (series : Inflows) (before : List MonthRecord) (m : MonthRecord) → IsTextMonth b series before m → IsAllTold b series m
+-- each list has a number for each entry
+pub amounts_sized : (b : Basin) (series : Inflows) (before : List MonthRecord) (m : MonthRecord) →
+    IsMonthBehind b series before m → (q : Quantity) → length (amounts_of q m) ≡ count_in (space_of q) b
+amounts_sized b series before m t quantity.Opening = t.fits.opening
+amounts_sized b series before m t quantity.Evaporated = t.fits.evaporated
+amounts_sized b series before m t quantity.Returned = t.fits.returned
+amounts_sized b series before m t quantity.Used = t.fits.used
+amounts_sized b series before m t quantity.Flow = t.plan.flow_len
+amounts_sized b series before m t quantity.Outflow = t.plan.out_len
+amounts_sized b series before m t quantity.Closing = t.fits.closing
+
+-- where a month has no line, the amount is 0
+none_untold : (b : Basin) (series : Inflows) (before : List MonthRecord) (m : MonthRecord) →
+    IsMonthBehind b series before m → (q : Quantity) (k : ℕ) → k < count_in (space_of q) b → has_line b q k ≡ false →
+    slice_index (amounts_of q m) k ≡ 0
+none_untold b series before m t quantity.Opening k l h = cc
+none_untold b series before m t quantity.Evaporated k l h = cc
+none_untold b series before m t quantity.Returned k l h =
+    t.returned k l ∙ nothing_returns b (map (λ j. j.delivered) before) k m.index h
+none_untold b series before m t quantity.Used k l h =
+    t.used k l ∙ nothing_used b (map (λ j. j.delivered) before) k m.index h
+none_untold b series before m t quantity.Flow k l h = cc
+none_untold b series before m t quantity.Outflow k l h = t.plan.outlets k l h
+none_untold b series before m t quantity.Closing k l h = cc
+
+all_told : (b : Basin) (series : Inflows) (before : List MonthRecord) (m : MonthRecord) →
+    IsTextMonth b series before m → IsAllTold b series m
 all_told b series before m t = record {
-  opening = told_list (places_of b.reservoirs) m.opening (length b.reservoirs) t.month.fits.opening (λ k l. inl (has_place b.reservoirs k l));
-  evaporated = told_list (places_of b.reservoirs) m.evaporated (length b.reservoirs) t.month.fits.evaporated (λ k l. inl (has_place b.reservoirs k l));
-  returned = told_list (return_nodes b) m.returned (length b.nodes) t.month.fits.returned
-      (λ k l. by_filter (λ n. list_any (λ row. row.node == n) b.returns) (places_of b.nodes) m.returned k (has_place b.nodes k l)
-      (λ none. t.month.returned k l ∙ nothing_returns b (map (λ j. j.delivered) before) k m.index none));
-  used = told_list (rights_with_volume b) m.used (length b.rights) t.month.fits.used
-      (λ k l. by_filter (λ r. of_entry b.rights r (λ right. is_some right.volume) false) (seniors_first b) m.used k (seniors_have b.rights k l)
-      (λ none. t.month.used k l ∙ nothing_used b (map (λ j. j.delivered) before) k m.index none));
-  flow = told_list (places_of b.links) m.plan.flow (length b.links) t.month.plan.flow_len (λ k l. inl (has_place b.links k l));
+  listed = λ q. told_list (entries_with_line b q) (amounts_of q m) (count_in (space_of q) b)
+      (amounts_sized b series before m t.month q)
+      (λ k l. by_filter (λ entry. has_line b q entry) (in_order (space_of q) b) (amounts_of q m) k
+      (in_order-has (space_of q) b k l) (none_untold b series before m t.month q k l));
   delivered = told_list (seniors_first b) m.delivered (length b.rights) t.month.fits.delivered (λ k l. inl (seniors_have b.rights k l));
   want = told_list (seniors_first b) m.want (length b.rights) t.month.fits.want (λ k l. inl (seniors_have b.rights k l));
   take = set_all-same (seniors_first b) (take_of b (λ r. slice_index m.delivered r)) (λ r. slice_index m.plan.take r) (replicate (length b.rights) 0) (λ k h. taken k (seniors_below b.rights k h))
       ∙ told_list (seniors_first b) m.plan.take (length b.rights) t.month.plan.take_len (λ k l. inl (seniors_have b.rights k l));
-  out = told_list (outlets b) m.plan.out (length b.nodes) t.month.plan.out_len
-      (λ k l. by_filter (λ n. is_outlet b n) (places_of b.nodes) m.plan.out k (has_place b.nodes k l) (λ none. t.month.plan.outlets k l none));
-  closing = told_list (places_of b.reservoirs) m.closing (length b.reservoirs) t.month.fits.closing (λ k l. inl (has_place b.reservoirs k l));
   sets = all_sets (seniors_first b) (length b.rights) m.cuts.sets t.month.fits.cuts (λ k l. seniors_have b.rights k l);
   nodes = t.month.fits.cut_nodes;
   supply = map-numbers (λ n. inflow_at b series n m.index + slice_index m.returned n + stored_at b m.opening m.evaporated n) 0 (length b.nodes) m.supply t.month.fits.supply

@@ -9,6 +9,7 @@ use Rattle.water_text.specs.Shapes.{has_shape}
 use Rattle.water_model.specs.Places.{numbers_from, by_seniority}
 use Rattle.water_model.specs.declared.item.Item.{Item}
 use Rattle.water_model.specs.declared.item.Item.TheVariants as line
+use Rattle.water_model.specs.declared.quantity.Quantity.TheVariants as quantity
 use Rattle.water_model.specs.declared.types.Basin.{Basin}
 use Rattle.water_model.specs.declared.types.Carry.TheVariants.{River}
 use Rattle.water_model.specs.declared.types.Inflow.TheVariants.{Monthly}
@@ -89,14 +90,14 @@ no_such_link : read_line basin january (codes "flow c 0") ≡ Err bad.OutOfPlace
 unfolding digits read_amount read_plain is_name numbers_from by_seniority is_same_shape fits due_in_month due word_of item_with item_of read_line
 no_such_link = refl
 
-its_link : read_line basin january (codes "flow a 60") ≡ Ok (line.Flow 0 60)
+its_link : read_line basin january (codes "flow a 60") ≡ Ok (line.Amount quantity.Flow 0 60)
 unfolding digits read_amount read_plain is_name numbers_from by_seniority is_same_shape fits due_in_month due word_of item_with item_of read_line
 its_link = refl
 
 -- behind the outflows: calls, and the nodes of their sets
 
 abbrev outflows : List Item
-outflows = january ++ line.Flow 0 50 ∷ line.Flow 1 0 ∷ line.Deliver 1 50 60 ∷ line.Deliver 0 0 50 ∷ line.Outflow 2 0 ∷ []
+outflows = january ++ line.Amount quantity.Flow 0 50 ∷ line.Amount quantity.Flow 1 0 ∷ line.Deliver 1 50 60 ∷ line.Deliver 0 0 50 ∷ line.Amount quantity.Outflow 2 0 ∷ []
 
 no_call : read_line basin outflows (codes "in top") ≡ Err bad.OutOfPlace
 unfolding digits is_name numbers_from by_seniority is_same_shape fits due_in_month due word_of item_with item_of read_line

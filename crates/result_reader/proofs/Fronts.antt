@@ -1,24 +1,27 @@
 -- The machine accepts the fronts of what has the form.
 use Rattle.std.proofs.Common.{◌≡◌, ℕ, zero, suc, ◌<◌, Bool, true, false, refl, sym, ◌∙◌, ap, subst, arith, List, [], ◌∷◌, ◌++◌, map, length, inl}
-use Rattle.std.specs.Prelude.{◌&&◌, not, Option, Some, None}
-use Rattle.std.specs.List.{list_all, flat_map}
+use Rattle.std.specs.Prelude.{◌&&◌, not, Option, Some, None, is_some, if◌then◌else◌}
+use Rattle.std.specs.List.{flat_map}
 use Rattle.std.specs.Option.{option_and_then}
 use Rattle.std.proofs.lemmas.List.Folds.{list_all-append}
 use Rattle.water_model.specs.declared.types.Basin.{Basin}
-use Rattle.water_model.specs.Places.{numbers_from, places_of, seniors_first, return_nodes, outlets, rights_with_volume}
-use Rattle.result_reader.specs.Form.{shape_of, is_optional, is_allowed, fits, takers, due, due_in_month, due_for_month, due_from, IsFront}
+use Rattle.water_model.specs.Basin.{taking_node}
+use Rattle.water_model.specs.Entries.{in_order}
+use Rattle.water_model.specs.Places.{numbers_from}
+use Rattle.water_model.specs.Quantities.{has_line}
+use Rattle.water_model.specs.Text.{section_space}
+use Rattle.result_reader.specs.Form.{shape_of, is_optional, is_allowed, fits, shapes_at, shapes_in, due, due_in_month, due_for_month, due_from, IsFront}
 use Rattle.result_reader.specs.Due.{is_call, is_member, is_member_shape, opened, take_line, step, Due, all_due, due_after}
 use Rattle.water_model.specs.declared.item.Item.{Item}
 use Rattle.water_model.specs.declared.item.Item.TheVariants as line
+use Rattle.water_model.specs.declared.item.Section.{Section}
+use Rattle.water_model.specs.declared.item.Section.TheVariants as section
+use Rattle.water_model.specs.declared.item.TheConstants.{SECTIONS}
 use Rattle.result_reader.specs.declared.shape.Shape.{Shape}
 use Rattle.result_reader.specs.declared.shape.Shape.TheVariants as shape
 use Rattle.result_reader.proofs.Grammar.{accepts, accepts_step, steps_to, StepsTo, accepts_within, within_itself, fits_itself, take_fits, step_open, step_shut, has_no_members, fills_accepted, accepted_fills, plain, IsPlain, call, other, take_skips, take_stops}
 
 -- No `in` line is due at first.
-
-map_no_members : {X : Type 0} (f : X → Shape) → ((x : X) → is_member_shape (f x) ≡ false) → (xs : List X) → has_no_members (map f xs) ≡ true
-map_no_members f h [] = refl
-map_no_members f h (x ∷ xs) = rw (h x) (map_no_members f h xs)
 
 pub append_no_members : (xs ys : List Shape) → has_no_members xs ≡ true → has_no_members ys ≡ true → has_no_members (xs ++ ys) ≡ true
 append_no_members xs ys h k = list_all-append (λ d. not (is_member_shape d)) xs ys ∙ rw (h, k) refl
@@ -27,47 +30,22 @@ flat_no_members : {X : Type 0} (f : X → List Shape) → ((x : X) → has_no_me
 flat_no_members f h [] = refl
 flat_no_members f h (x ∷ xs) = append_no_members (f x) (flat_map f xs) (h x) (flat_no_members f h xs)
 
-sections_no_members : (xss : List (List Shape)) → list_all has_no_members xss ≡ true → has_no_members (flat_map (λ section. section) xss) ≡ true
-sections_no_members [] h = refl
-sections_no_members (xs ∷ xss) h =
-    append_no_members xs (flat_map (λ section. section) xss) (first (has_no_members xs) (list_all has_no_members xss) h)
-    (sections_no_members xss (second (has_no_members xs) (list_all has_no_members xss) h))
-  where
-    second : (p q : Bool) → p && q ≡ true → q ≡ true
-    second true q h = h
-    second false q h = cc
+one_if : (p : Bool) (d : Shape) → is_member_shape d ≡ false → has_no_members (if p then d ∷ [] else []) ≡ true
+one_if true d h = rw h refl
+one_if false d h = refl
 
-    first : (p q : Bool) → p && q ≡ true → p ≡ true
-    first true q h = refl
-    first false q h = cc
+at_no_members : (section : Section) (b : Basin) (entry : ℕ) → has_no_members (shapes_at section b entry) ≡ true
+at_no_members (section.Amounts q) b entry = one_if (has_line b q entry) (shape.Amount q entry) refl
+at_no_members section.Deliveries b entry = refl
+at_no_members section.Calls b entry = refl
+at_no_members section.Called b entry = one_if (is_some (taking_node b entry)) (shape.Called entry) refl
 
 pub in_month_no_members : (b : Basin) → has_no_members (due_in_month b) ≡ true
 unfolding due_in_month
-in_month_no_members b = sections_no_members (
-    map (λ v. shape.Opening v) (places_of b.reservoirs)
-    ∷ map (λ v. shape.Evaporated v) (places_of b.reservoirs)
-    ∷ map (λ n. shape.Returned n) (return_nodes b)
-    ∷ map (λ r. shape.Used r) (rights_with_volume b)
-    ∷ map (λ e. shape.Flow e) (places_of b.links)
-    ∷ map (λ r. shape.Deliver r) (seniors_first b)
-    ∷ map (λ n. shape.Outflow n) (outlets b)
-    ∷ map (λ r. shape.Call r) (seniors_first b)
-    ∷ map (λ r. shape.Called r) (takers b)
-    ∷ map (λ v. shape.Closing v) (places_of b.reservoirs)
-    ∷ (shape.End ∷ [])
-    ∷ [])
-    (rw (
-      map_no_members (λ v. shape.Opening v) (λ v. refl) (places_of b.reservoirs),
-      map_no_members (λ v. shape.Evaporated v) (λ v. refl) (places_of b.reservoirs),
-      map_no_members (λ n. shape.Returned n) (λ n. refl) (return_nodes b),
-      map_no_members (λ r. shape.Used r) (λ r. refl) (rights_with_volume b),
-      map_no_members (λ e. shape.Flow e) (λ e. refl) (places_of b.links),
-      map_no_members (λ r. shape.Deliver r) (λ r. refl) (seniors_first b),
-      map_no_members (λ n. shape.Outflow n) (λ n. refl) (outlets b),
-      map_no_members (λ r. shape.Call r) (λ r. refl) (seniors_first b),
-      map_no_members (λ r. shape.Called r) (λ r. refl) (takers b),
-      map_no_members (λ v. shape.Closing v) (λ v. refl) (places_of b.reservoirs),
-    ) refl)
+in_month_no_members b =
+    append_no_members (flat_map (λ s. shapes_in s b) SECTIONS) (shape.End ∷ [])
+    (flat_no_members (λ s. shapes_in s b)
+    (λ s. flat_no_members (shapes_at s b) (at_no_members s b) (in_order (section_space s) b)) SECTIONS) refl
 
 pub from_no_members : (b : Basin) (i count : ℕ) → has_no_members (due_from b i count) ≡ true
 from_no_members b i count =
@@ -85,17 +63,11 @@ abbrev filler : Shape → Item
 filler shape.Title = line.Title
 filler shape.Run = line.Run (record { year = 1800; month = 1 }) 1
 filler (shape.Month month) = line.Month month
-filler (shape.Opening reservoir) = line.Opening reservoir 0
-filler (shape.Evaporated reservoir) = line.Evaporated reservoir 0
-filler (shape.Returned node) = line.Returned node 0
-filler (shape.Used right) = line.Used right 0
-filler (shape.Flow link) = line.Flow link 0
+filler (shape.Amount q entry) = line.Amount q entry 0
 filler (shape.Deliver right) = line.Deliver right 0 0
-filler (shape.Outflow node) = line.Outflow node 0
 filler (shape.Call right) = line.Call right
 filler (shape.Member node) = line.Member node
 filler (shape.Called right) = line.Called right right
-filler (shape.Closing reservoir) = line.Closing reservoir 0
 filler shape.End = line.End
 filler (shape.Done months) = line.Done months
 
@@ -122,17 +94,11 @@ completes b (d ∷ ds) = by_shape d (completes b ds)
     by_shape shape.Title c = needed line.Title refl refl refl c
     by_shape shape.Run c = needed (filler shape.Run) refl refl refl c
     by_shape (shape.Month month) c = needed (line.Month month) refl refl refl c
-    by_shape (shape.Opening reservoir) c = needed (line.Opening reservoir 0) refl refl refl c
-    by_shape (shape.Evaporated reservoir) c = needed (line.Evaporated reservoir 0) refl refl refl c
-    by_shape (shape.Returned node) c = needed (line.Returned node 0) refl refl refl c
-    by_shape (shape.Used right) c = needed (line.Used right 0) refl refl refl c
-    by_shape (shape.Flow link) c = needed (line.Flow link 0) refl refl refl c
+    by_shape (shape.Amount q entry) c = needed (line.Amount q entry 0) refl refl refl c
     by_shape (shape.Deliver right) c = needed (line.Deliver right 0 0) refl refl refl c
-    by_shape (shape.Outflow node) c = needed (line.Outflow node 0) refl refl refl c
     by_shape (shape.Call right) c = left_out (shape.Call right) refl c
     by_shape (shape.Member node) c = left_out (shape.Member node) refl c
     by_shape (shape.Called right) c = left_out (shape.Called right) refl c
-    by_shape (shape.Closing reservoir) c = needed (line.Closing reservoir 0) refl refl refl c
     by_shape shape.End c = needed line.End refl refl refl c
     by_shape (shape.Done months) c = needed (line.Done months) refl refl refl c
 

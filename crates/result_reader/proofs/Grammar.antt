@@ -4,9 +4,11 @@ use Rattle.std.specs.Prelude.{◌&&◌, not, ◌⊎◌, Option, Some, None, if�
 use Rattle.std.specs.List.{list_all, list_any}
 use Rattle.std.specs.Option.{option_map_or}
 use Rattle.std.proofs.lemmas.Slice.Eq.{bytes_eq-Decides}
+use Rattle.water_model.specs.declared.quantity.Quantity.{Quantity}
+use Rattle.water_model.specs.declared.quantity.Quantity.TheVariants as quantity
 use Rattle.water_model.specs.declared.types.Basin.{Basin}
 use Rattle.water_model.specs.Places.{numbers_from, members_from}
-use Rattle.result_reader.specs.Form.{shape_of, key_of, is_same_shape, is_optional, is_allowed, fits, IsFollowedBy, Fills}
+use Rattle.result_reader.specs.Form.{shape_of, number_of, key_of, is_same_shape, is_optional, is_allowed, fits, IsFollowedBy, Fills}
 use Rattle.result_reader.specs.Due.{is_call, is_member, is_member_shape, opened, take_line, step}
 use Rattle.water_model.specs.declared.item.Item.{Item}
 use Rattle.water_model.specs.declared.item.Item.TheVariants as line
@@ -20,40 +22,46 @@ accepts b must ds (item ∷ items) = option_map_or (λ es. accepts b (is_call it
 
 -- Shapes with one key are equal.
 
+abbrev quantity_at : ℕ → Quantity
+quantity_at n =
+    if n == 0 then quantity.Opening
+    else (if n == 1 then quantity.Evaporated
+    else (if n == 2 then quantity.Returned
+    else (if n == 3 then quantity.Used
+    else (if n == 4 then quantity.Flow
+    else (if n == 5 then quantity.Outflow else quantity.Closing)))))
+
+quantity_at-number_of : (q : Quantity) → quantity_at (number_of q) ≡ q
+quantity_at-number_of quantity.Opening = refl
+quantity_at-number_of quantity.Evaporated = refl
+quantity_at-number_of quantity.Returned = refl
+quantity_at-number_of quantity.Used = refl
+quantity_at-number_of quantity.Flow = refl
+quantity_at-number_of quantity.Outflow = refl
+quantity_at-number_of quantity.Closing = refl
+
 abbrev of_key : List ℕ → Shape
 of_key [] = shape.Title
 of_key (w ∷ xs) =
     if w == 0 then shape.Title
     else (if w == 1 then shape.Run
     else (if w == 2 then shape.Month (record { year = slice_index xs 0; month = slice_index xs 1 })
-    else (if w == 3 then shape.Opening (slice_index xs 0)
-    else (if w == 4 then shape.Evaporated (slice_index xs 0)
-    else (if w == 5 then shape.Returned (slice_index xs 0)
-    else (if w == 6 then shape.Used (slice_index xs 0)
-    else (if w == 7 then shape.Flow (slice_index xs 0)
-    else (if w == 8 then shape.Deliver (slice_index xs 0)
-    else (if w == 9 then shape.Outflow (slice_index xs 0)
-    else (if w == 10 then shape.Call (slice_index xs 0)
-    else (if w == 11 then shape.Member (slice_index xs 0)
-    else (if w == 12 then shape.Called (slice_index xs 0)
-    else (if w == 13 then shape.Closing (slice_index xs 0)
-    else (if w == 14 then shape.End else shape.Done (slice_index xs 0)))))))))))))))
+    else (if w == 3 then shape.Amount (quantity_at (slice_index xs 0)) (slice_index xs 1)
+    else (if w == 4 then shape.Deliver (slice_index xs 0)
+    else (if w == 5 then shape.Call (slice_index xs 0)
+    else (if w == 6 then shape.Member (slice_index xs 0)
+    else (if w == 7 then shape.Called (slice_index xs 0)
+    else (if w == 8 then shape.End else shape.Done (slice_index xs 0)))))))))
 
 of_key-key_of : (s : Shape) → of_key (key_of s) ≡ s
 of_key-key_of shape.Title = refl
 of_key-key_of shape.Run = refl
 of_key-key_of (shape.Month month) = refl
-of_key-key_of (shape.Opening x) = refl
-of_key-key_of (shape.Evaporated x) = refl
-of_key-key_of (shape.Returned x) = refl
-of_key-key_of (shape.Used x) = refl
-of_key-key_of (shape.Flow x) = refl
+of_key-key_of (shape.Amount q x) = ap (λ k. shape.Amount k x) (quantity_at-number_of q)
 of_key-key_of (shape.Deliver x) = refl
-of_key-key_of (shape.Outflow x) = refl
 of_key-key_of (shape.Call x) = refl
 of_key-key_of (shape.Member x) = refl
 of_key-key_of (shape.Called x) = refl
-of_key-key_of (shape.Closing x) = refl
 of_key-key_of shape.End = refl
 of_key-key_of (shape.Done x) = refl
 
@@ -266,17 +274,11 @@ pub plain : (b : Basin) (i : Item) → IsPlain b i
 plain b line.Title = other refl refl (λ m h. h) refl
 plain b (line.Run first months) = other refl refl (λ m h. h) refl
 plain b (line.Month month) = other refl refl (λ m h. h) refl
-plain b (line.Opening reservoir amount) = other refl refl (λ m h. h) refl
-plain b (line.Evaporated reservoir amount) = other refl refl (λ m h. h) refl
-plain b (line.Returned node amount) = other refl refl (λ m h. h) refl
-plain b (line.Used right amount) = other refl refl (λ m h. h) refl
-plain b (line.Flow link amount) = other refl refl (λ m h. h) refl
+plain b (line.Amount q entry amount) = other refl refl (λ m h. h) refl
 plain b (line.Deliver right amount want) = other refl refl (λ m h. h) refl
-plain b (line.Outflow node amount) = other refl refl (λ m h. h) refl
 plain b (line.Call right) = call right refl
 plain b (line.Member node) = other refl refl (λ m h. h) refl
 plain b (line.Called right by') = other refl refl (λ m h. h) refl
-plain b (line.Closing reservoir amount) = other refl refl (λ m h. h) refl
 plain b line.End = other refl refl (λ m h. h) refl
 plain b (line.Done months) = other refl refl (λ m h. h) refl
 
@@ -328,17 +330,11 @@ no_member_due b (d ∷ ds) i h m = by_fit (fits b d i) refl (is_optional d) refl
     alike line.Title = refl
     alike (line.Run first months) = refl
     alike (line.Month month) = refl
-    alike (line.Opening reservoir amount) = refl
-    alike (line.Evaporated reservoir amount) = refl
-    alike (line.Returned node amount) = refl
-    alike (line.Used right amount) = refl
-    alike (line.Flow link amount) = refl
+    alike (line.Amount q entry amount) = refl
     alike (line.Deliver right amount want) = refl
-    alike (line.Outflow node amount) = refl
     alike (line.Call right) = refl
     alike (line.Member node) = refl
     alike (line.Called right by') = refl
-    alike (line.Closing reservoir amount) = refl
     alike line.End = refl
     alike (line.Done months) = refl
 
@@ -359,17 +355,11 @@ member_only b k i h = by_item i (fits_shape b (shape.Member k) i h)
     by_item line.Title h = cc
     by_item (line.Run first months) h = cc
     by_item (line.Month month) h = cc
-    by_item (line.Opening reservoir amount) h = cc
-    by_item (line.Evaporated reservoir amount) h = cc
-    by_item (line.Returned node amount) h = cc
-    by_item (line.Used right amount) h = cc
-    by_item (line.Flow link amount) h = cc
+    by_item (line.Amount q entry amount) h = cc
     by_item (line.Deliver right amount want) h = cc
-    by_item (line.Outflow node amount) h = cc
     by_item (line.Call right) h = cc
     by_item (line.Member node) h = cc
     by_item (line.Called right by') h = cc
-    by_item (line.Closing reservoir amount) h = cc
     by_item line.End h = cc
     by_item (line.Done months) h = cc
 

@@ -1,19 +1,25 @@
 -- How many lines may still come.
 use Rattle.std.proofs.Common.{◌≡◌, ℕ, zero, suc, ◌+◌, ◌*◌, ◌^◌, ◌<◌, ◌≤◌, Bool, true, false, refl, sym, ap, ◌∙◌, arith, List, [], ◌∷◌, ◌++◌, length, map, length-append, mul_comm}
-use Rattle.std.specs.Prelude.{Some, None, filter, not, ◌&&◌}
+use Rattle.std.specs.Prelude.{Some, None, is_some, not, ◌&&◌, if◌then◌else◌}
 use Rattle.std.specs.List.{flat_map}
 use Rattle.std.proofs.Math.Nat.{mul-le-mul}
-use Rattle.std.proofs.lemmas.List.Sums.{sum_by-append, sum_by-cons, length-filter, count_by-le-length}
-use Rattle.result_text.proofs.Entries.{few_reservoirs}
-use Rattle.rights_roll.proofs.Seniors.{length-by_seniority}
+use Rattle.std.proofs.lemmas.List.Sums.{sum_by-append, sum_by-cons}
+use Rattle.water_model.proofs.Entries.{few_in, length-in_order}
 use Rattle.water_model.proofs.Order.{length-numbers_from}
-use Rattle.water_model.specs.Places.{numbers_from, places_of, seniors_first, return_nodes, outlets, rights_with_volume}
+use Rattle.water_model.specs.Basin.{taking_node}
+use Rattle.water_model.specs.Entries.{count_in, in_order}
+use Rattle.water_model.specs.Places.{numbers_from}
+use Rattle.water_model.specs.Quantities.{has_line}
+use Rattle.water_model.specs.Text.{section_space}
 use Rattle.water_model.specs.Hydrology.{run_month}
 use Rattle.water_model.specs.Valid.{IsValidBasin}
 use Rattle.water_model.specs.declared.item.Item.{Item}
+use Rattle.water_model.specs.declared.item.Section.{Section}
+use Rattle.water_model.specs.declared.item.Section.TheVariants as section
+use Rattle.water_model.specs.declared.item.TheConstants.{SECTIONS}
 use Rattle.water_model.specs.declared.types.Basin.{Basin}
 use Rattle.result_reader.specs.Due.{is_member, opened, take_line, step}
-use Rattle.result_reader.specs.Form.{shape_of, is_optional, fits, takers, due, due_in_month, due_for_month, due_from}
+use Rattle.result_reader.specs.Form.{shape_of, is_optional, fits, shapes_at, shapes_in, due, due_in_month, due_for_month, due_from}
 use Rattle.result_reader.specs.Standing.{most_for, most_lines}
 use Rattle.result_reader.specs.declared.shape.Shape.{Shape}
 use Rattle.result_reader.specs.declared.shape.Shape.TheVariants as shape
@@ -24,17 +30,11 @@ most_for-some : (b : Basin) (d : Shape) → 1 ≤ most_for b d
 most_for-some b shape.Title = omega arith
 most_for-some b shape.Run = omega arith
 most_for-some b (shape.Month month) = omega arith
-most_for-some b (shape.Opening reservoir) = omega arith
-most_for-some b (shape.Evaporated reservoir) = omega arith
-most_for-some b (shape.Returned node) = omega arith
-most_for-some b (shape.Used right) = omega arith
-most_for-some b (shape.Flow link) = omega arith
+most_for-some b (shape.Amount q entry) = omega arith
 most_for-some b (shape.Deliver right) = omega arith
-most_for-some b (shape.Outflow node) = omega arith
 most_for-some b (shape.Call right) = omega arith
 most_for-some b (shape.Member node) = omega arith
 most_for-some b (shape.Called right) = omega arith
-most_for-some b (shape.Closing reservoir) = omega arith
 most_for-some b shape.End = omega arith
 most_for-some b (shape.Done months) = omega arith
 
@@ -79,13 +79,6 @@ step-fewer b must ds i es h = by_guard (must && not (is_member i)) refl
 
 -- At first.
 
-few_filtered : (p : ℕ → Bool) (xs : List ℕ) → length (filter p xs) ≤ length xs
-few_filtered p xs = omega (arith, length-filter p xs, count_by-le-length p xs)
-
-length-map : {X Y : Type 0} (f : X → Y) (xs : List X) → length (map f xs) ≡ length xs
-length-map f [] = refl
-length-map f (x ∷ xs) = ap suc (length-map f xs)
-
 -- so many more lines than lines that are due
 abbrev Exceeds : Basin → List Shape → ℕ → Type 0
 Exceeds b ds n = most_lines b ds ≡ length ds + n
@@ -93,65 +86,100 @@ Exceeds b ds n = most_lines b ds ≡ length ds + n
 exceed_both : (b : Basin) (ds es : List Shape) (n m : ℕ) → Exceeds b ds n → Exceeds b es m → Exceeds b (ds ++ es) (n + m)
 exceed_both b ds es n m h k = sum_by-append (most_for b) ds es ∙ omega (arith, length-append ds es)
 
-exceed_each : (b : Basin) (f : ℕ → Shape) (n : ℕ) → ((x : ℕ) → most_for b (f x) ≡ 1 + n) → (xs : List ℕ) → Exceeds b (map f xs) (n * length xs)
-exceed_each b f n h xs = most_lines-map b f (1 + n) h xs ∙ omega (arith, length-map f xs)
+-- so many more for an entry of a section: for a right that may have a `call` the nodes
+abbrev more_for : Section → Basin → ℕ
+more_for (section.Amounts q) b = 0
+more_for section.Deliveries b = 0
+more_for section.Calls b = length b.nodes
+more_for section.Called b = 0
 
-none_each : (b : Basin) (f : ℕ → Shape) → ((x : ℕ) → most_for b (f x) ≡ 1) → (xs : List ℕ) → Exceeds b (map f xs) 0
-none_each b f h xs = most_lines-map b f 1 h xs ∙ omega (arith, length-map f xs)
+exceed_entry : (b : Basin) (k : Section) (x : ℕ) → Exceeds b (shapes_at k b x) (more_for k b)
+exceed_entry b (section.Amounts q) x = by_test (has_line b q x)
+  where
+    by_test : (t : Bool) → Exceeds b (if t then shape.Amount q x ∷ [] else []) 0
+    by_test true = refl
+    by_test false = refl
+exceed_entry b section.Deliveries x = refl
+exceed_entry b section.Calls x = omega arith
+exceed_entry b section.Called x = by_test (is_some (taking_node b x))
+  where
+    by_test : (t : Bool) → Exceeds b (if t then shape.Called x ∷ [] else []) 0
+    by_test true = refl
+    by_test false = refl
+
+exceed_entries : (b : Basin) (k : Section) (xs : List ℕ) → Exceeds b (flat_map (shapes_at k b) xs) (more_for k b * length xs)
+exceed_entries b k [] = omega arith
+exceed_entries b k (x ∷ xs) =
+    exceed_both b (shapes_at k b x) (flat_map (shapes_at k b) xs) (more_for k b) (more_for k b * length xs)
+    (exceed_entry b k x) (exceed_entries b k xs)
+    ∙ ap (λ n. length (flat_map (shapes_at k b) (x ∷ xs)) + n) (step (more_for k b) (length xs))
+  where
+    step : (n k : ℕ) → n + n * k ≡ n * suc k
+    step n k = omega arith
+
+-- and for all sections of some
+abbrev more_in : Basin → List Section → ℕ
+more_in b [] = 0
+more_in b (k ∷ ks) = more_for k b * count_in (section_space k) b + more_in b ks
+
+exceed_sections : (b : Basin) (ks : List Section) → Exceeds b (flat_map (λ k. shapes_in k b) ks) (more_in b ks)
+exceed_sections b [] = refl
+exceed_sections b (k ∷ ks) =
+    exceed_both b (shapes_in k b) (flat_map (λ k. shapes_in k b) ks) (more_for k b * count_in (section_space k) b)
+    (more_in b ks)
+    (exceed_entries b k (in_order (section_space k) b)
+    ∙ ap (λ n. length (shapes_in k b) + more_for k b * n) (length-in_order (section_space k) b))
+    (exceed_sections b ks)
 
 -- what is due in a month: a line for each, and for each right that may have a `call` the nodes
 pub most_in_month : (b : Basin) → most_lines b (due_in_month b) ≡ length (due_in_month b) + length b.nodes * length b.rights
 unfolding due_in_month
 most_in_month b =
-    exceed_both b _ _ _ _ (none_each b (λ v. shape.Opening v) (λ v. refl) (places_of b.reservoirs))
-    (exceed_both b _ _ _ _ (none_each b (λ v. shape.Evaporated v) (λ v. refl) (places_of b.reservoirs))
-    (exceed_both b _ _ _ _ (none_each b (λ n. shape.Returned n) (λ n. refl) (return_nodes b))
-    (exceed_both b _ _ _ _ (none_each b (λ r. shape.Used r) (λ r. refl) (rights_with_volume b))
-    (exceed_both b _ _ _ _ (none_each b (λ e. shape.Flow e) (λ e. refl) (places_of b.links))
-    (exceed_both b _ _ _ _ (none_each b (λ r. shape.Deliver r) (λ r. refl) (seniors_first b))
-    (exceed_both b _ _ _ _ (none_each b (λ n. shape.Outflow n) (λ n. refl) (outlets b))
-    (exceed_both b _ _ _ _ (exceed_each b (λ r. shape.Call r) (length b.nodes) (λ r. refl) (seniors_first b))
-    (exceed_both b _ _ _ _ (none_each b (λ r. shape.Called r) (λ r. refl) (takers b))
-    (exceed_both b _ _ 0 0 (none_each b (λ v. shape.Closing v) (λ v. refl) (places_of b.reservoirs)) refl)))))))))
-    ∙ ap (λ n. length (due_in_month b) + n) (all (length b.nodes) (length (seniors_first b)) (length b.rights) (length-by_seniority b.rights))
+    exceed_both b (flat_map (λ k. shapes_in k b) SECTIONS) (shape.End ∷ []) (more_in b SECTIONS) 0
+    (exceed_sections b SECTIONS) refl
+    ∙ ap (λ n. length (due_in_month b) + n) (all (length b.reservoirs) (length b.nodes) (length b.links) (length b.rights))
   where
-    all : (n k r : ℕ) → k ≡ r → 0 + (0 + (0 + (0 + (0 + (0 + (0 + (n * k + (0 + (0 + 0))))))))) ≡ n * r
-    all n k r e = rw e (omega arith)
-
-few_both : (ds es : List Shape) (n m : ℕ) → length ds ≤ n → length es ≤ m → length (ds ++ es) ≤ n + m
-few_both ds es n m h k = omega (arith, length-append ds es)
-
-few_each : (f : ℕ → Shape) (xs : List ℕ) (n : ℕ) → length xs ≤ n → length (map f xs) ≤ n
-few_each f xs n h = omega (arith, length-map f xs)
+    all : (v n e r : ℕ) →
+        0 * v + (0 * v + (0 * n + (0 * r + (0 * e + (0 * r + (0 * n + (n * r + (0 * r + (0 * v + 0))))))))) + 0 ≡ n * r
+    all v n e r = omega arith
 
 -- what is due in a month is not much
-pub few_due : (b : Basin) → IsValidBasin b → length (due_in_month b) ≤ 30000
+few_entry : (b : Basin) (k : Section) (x : ℕ) → length (shapes_at k b x) ≤ 1
+few_entry b (section.Amounts q) x = by_test (has_line b q x)
+  where
+    by_test : (t : Bool) → length (if t then shape.Amount q x ∷ [] else []) ≤ 1
+    by_test true = omega arith
+    by_test false = omega arith
+few_entry b section.Deliveries x = omega arith
+few_entry b section.Calls x = omega arith
+few_entry b section.Called x = by_test (is_some (taking_node b x))
+  where
+    by_test : (t : Bool) → length (if t then shape.Called x ∷ [] else []) ≤ 1
+    by_test true = omega arith
+    by_test false = omega arith
+
+few_entries : (b : Basin) (k : Section) (xs : List ℕ) → length (flat_map (shapes_at k b) xs) ≤ length xs
+few_entries b k [] = omega arith
+few_entries b k (x ∷ xs) =
+    omega (arith, length-append (shapes_at k b x) (flat_map (shapes_at k b) xs), few_entry b k x, few_entries b k xs)
+
+few_sections : (b : Basin) → IsValidBasin b → (ks : List Section) →
+    length (flat_map (λ k. shapes_in k b) ks) ≤ 4000 * length ks
+few_sections b valid [] = omega arith
+few_sections b valid (k ∷ ks) =
+    omega (
+      arith,
+      length-append (shapes_in k b) (flat_map (λ k. shapes_in k b) ks),
+      few_entries b k (in_order (section_space k) b),
+      length-in_order (section_space k) b,
+      few_in (section_space k) b valid,
+      few_sections b valid ks,
+    )
+
+pub few_due : (b : Basin) → IsValidBasin b → length (due_in_month b) ≤ 50000
 unfolding due_in_month
 few_due b valid =
-    let few : length (due_in_month b) ≤ 2000 + (2000 + (2000 + (2000 + (4000 + (2000 + (2000 + (2000 + (2000 + (2000 + 1))))))))) =
-    few_both _ _ _ _ (few_each (λ v. shape.Opening v) (places_of b.reservoirs) 2000 reservoirs)
-    (few_both _ _ _ _ (few_each (λ v. shape.Evaporated v) (places_of b.reservoirs) 2000 reservoirs)
-    (few_both _ _ _ _ (few_each (λ n. shape.Returned n) (return_nodes b) 2000 (some _ (places_of b.nodes) 2000 nodes))
-    (few_both _ _ _ _ (few_each (λ r. shape.Used r) (rights_with_volume b) 2000 (some _ (seniors_first b) 2000 rights))
-    (few_both _ _ _ _ (few_each (λ e. shape.Flow e) (places_of b.links) 4000 (omega (arith, length-numbers_from 0 (length b.links), valid.few.links)))
-    (few_both _ _ _ _ (few_each (λ r. shape.Deliver r) (seniors_first b) 2000 rights)
-    (few_both _ _ _ _ (few_each (λ n. shape.Outflow n) (outlets b) 2000 (some _ (places_of b.nodes) 2000 nodes))
-    (few_both _ _ _ _ (few_each (λ r. shape.Call r) (seniors_first b) 2000 rights)
-    (few_both _ _ _ _ (few_each (λ r. shape.Called r) (takers b) 2000 (some _ (seniors_first b) 2000 rights))
-    (few_both _ _ 2000 1 (few_each (λ v. shape.Closing v) (places_of b.reservoirs) 2000 reservoirs) (omega arith)))))))))) in
-    omega (arith, few)
-  where
-    some : (p : ℕ → Bool) (xs : List ℕ) (n : ℕ) → length xs ≤ n → length (filter p xs) ≤ n
-    some p xs n h = omega (arith, few_filtered p xs)
-
-    reservoirs : length (places_of b.reservoirs) ≤ 2000
-    reservoirs = omega (arith, length-numbers_from 0 (length b.reservoirs), few_reservoirs b valid)
-
-    nodes : length (places_of b.nodes) ≤ 2000
-    nodes = omega (arith, length-numbers_from 0 (length b.nodes), valid.few.nodes)
-
-    rights : length (seniors_first b) ≤ 2000
-    rights = omega (arith, length-by_seniority b.rights, valid.few.rights)
+    omega (arith, length-append (flat_map (λ k. shapes_in k b) SECTIONS) (shape.End ∷ []), few_sections b valid SECTIONS)
 
 -- what is due in a run
 months : (b : Basin) (n from count : ℕ) → most_lines b (due_in_month b) ≡ n → most_lines b (flat_map (due_for_month b) (numbers_from from count)) ≡ count * (1 + n)
@@ -186,10 +214,10 @@ most_of_run b dues count nodes rights d m n r =
     same m d n r = ap (λ k. m * k + 3) (let p : n * r ≡ r * n = mul_comm n r in omega arith)
 
 -- which fits 64 bits
-pub run_fits : (dues count nodes rights : ℕ) → dues ≤ 30000 → count ≤ 1200 → nodes ≤ 2000 → rights ≤ 2000 →
+pub run_fits : (dues count nodes rights : ℕ) → dues ≤ 50000 → count ≤ 1200 → nodes ≤ 2000 → rights ≤ 2000 →
     count * (1 + dues + rights * nodes) + 3 < 2 ^ 64
 run_fits dues count nodes rights d m n r =
     let members : rights * nodes ≤ 2000 * 2000 = mul-le-mul r n in
-    let month : 1 + dues + rights * nodes ≤ 1 + 30000 + 2000 * 2000 = omega arith in
-    let all : count * (1 + dues + rights * nodes) ≤ 1200 * (1 + 30000 + 2000 * 2000) = mul-le-mul m month in
+    let month : 1 + dues + rights * nodes ≤ 1 + 50000 + 2000 * 2000 = omega arith in
+    let all : count * (1 + dues + rights * nodes) ≤ 1200 * (1 + 50000 + 2000 * 2000) = mul-le-mul m month in
     omega arith

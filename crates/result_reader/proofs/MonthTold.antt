@@ -1,18 +1,24 @@
 -- A month's lines tell its record.
-use Rattle.std.specs.Prelude.{is_some, slice_index, if◌then◌else◌}
-use Rattle.water_model.specs.Basin.{taking_node}
-use Rattle.std.proofs.Common.{◌≡◌, ℕ, ◌+◌, ◌<◌, Bool, refl, ap, ◌∙◌, arith, List, [], ◌∷◌, ◌++◌, length, map, fold}
-use Rattle.std.specs.Prelude.{Option, Some, None, slice_set}
+use Rattle.std.proofs.Common.{◌≡◌, ℕ, ◌+◌, ◌<◌, Bool, refl, sym, ap, subst, ◌∙◌, arith, List, [], ◌∷◌, ◌++◌, length, map, fold}
+use Rattle.std.specs.Prelude.{Option, Some, None, is_some, slice_index, slice_set, if◌then◌else◌}
 use Rattle.std.specs.List.{flat_map}
 use Rattle.std.proofs.Math.ListN.{length-set}
+use Rattle.water_model.specs.Basin.{taking_node}
+use Rattle.water_model.specs.History.{cut_of}
+use Rattle.water_model.specs.Places.{seniors_first}
+use Rattle.water_model.specs.Quantities.{amounts_of, entries_with_line, with_amounts}
+use Rattle.water_model.specs.Text.{call_items, called_items, lines_in}
+use Rattle.water_model.specs.declared.item.Item.{Item}
+use Rattle.water_model.specs.declared.item.Item.TheVariants as line
+use Rattle.water_model.specs.declared.item.Section.{Section}
+use Rattle.water_model.specs.declared.item.Section.TheVariants as section
+use Rattle.water_model.specs.declared.quantity.Quantity.{Quantity}
 use Rattle.water_model.specs.declared.types.Basin.{Basin}
 use Rattle.water_model.specs.declared.types.Inflows.{Inflows}
 use Rattle.water_model.specs.declared.types.MonthRecord.{MonthRecord}
-use Rattle.water_model.specs.Text.{call_items, called_items}
+use Rattle.water_model.proofs.Quantities.{amount_lines, amounts_with, cuts_with, flat_map_one, with_own, with_twice}
 use Rattle.result_reader.specs.Telling.{Told, tell, with_now}
-use Rattle.water_model.specs.declared.item.Item.{Item}
-use Rattle.water_model.specs.declared.item.Item.TheVariants as line
-use Rattle.result_reader.proofs.Telling.{set_all, fold-both, tell_call, put_cut}
+use Rattle.result_reader.proofs.Telling.{Sets, set_all, fold-both, tell_call, put_cut}
 
 -- what lines make of the month under way. They end no month
 pub record Tells (b : Basin) (series : Inflows) (t : Told) (items : List Item) (now : MonthRecord) : Type 0 where
@@ -45,15 +51,22 @@ makes_each b series item f h (x ∷ xs) t =
       months_are = rest.months_are ∙ ap (λ u. u.months) (h x t);
     }
 
-pub makes_openings : (b : Basin) (series : Inflows) (a : ℕ → ℕ) (xs : List ℕ) →
-    Makes b series (map (λ v. line.Opening v (a v)) xs) (λ m. record m { opening = set_all xs a m.opening })
-makes_openings b series a xs t =
-    let h = makes_each b series (λ v. line.Opening v (a v)) (λ v m. record m { opening = slice_set m.opening v (a v) }) (λ v t. refl) xs t in
-    record { now_is = h.now_is ∙ in_one xs t.now; months_are = h.months_are }
-  where
-    in_one : (xs : List ℕ) (m : MonthRecord) → fold (λ n x. record n { opening = slice_set n.opening x (a x) }) m xs ≡ record m { opening = set_all xs a m.opening }
-    in_one [] m = refl
-    in_one (x ∷ xs) m = in_one xs (record m { opening = slice_set m.opening x (a x) })
+-- the lines of a quantity
+told_list : (q : Quantity) (a : ℕ → ℕ) (xs : List ℕ) (m : MonthRecord) →
+    fold (λ n x. with_amounts q n (slice_set (amounts_of q n) x (a x))) m xs ≡ with_amounts q m (set_all xs a (amounts_of q m))
+told_list q a [] m = sym (with_own q m)
+told_list q a (x ∷ xs) m =
+    let ys : List ℕ = slice_set (amounts_of q m) x (a x) in
+    told_list q a xs (with_amounts q m ys)
+    ∙ (ap (λ zs. with_amounts q (with_amounts q m ys) (set_all xs a zs)) (amounts_with q m ys)
+    ∙ with_twice q m ys (set_all xs a ys))
+
+pub makes_amounts : (b : Basin) (series : Inflows) (q : Quantity) (a : ℕ → ℕ) (xs : List ℕ) →
+    Makes b series (map (λ x. line.Amount q x (a x)) xs) (λ m. with_amounts q m (set_all xs a (amounts_of q m)))
+makes_amounts b series q a xs t =
+    let h = makes_each b series (λ x. line.Amount q x (a x))
+    (λ x m. with_amounts q m (slice_set (amounts_of q m) x (a x))) (λ x t. refl) xs t in
+    record { now_is = h.now_is ∙ told_list q a xs t.now; months_are = h.months_are }
 
 -- the sets of the rights that have one
 abbrev pub put_sets : List ℕ → (ℕ → Option (List Bool)) → List (Option (List Bool)) → List (Option (List Bool))
@@ -63,6 +76,29 @@ put_sets (r ∷ rs) cut ys = put_sets rs cut (put_set (cut r))
     put_set : Option (List Bool) → List (Option (List Bool))
     put_set None = ys
     put_set (Some set) = slice_set ys r (Some set)
+
+-- the sets of one right more
+unfoldable pub put_one : (r : ℕ) (o : Option (List Bool)) → Sets → Sets
+put_one r None ys = ys
+put_one r (Some set) ys = slice_set ys r (Some set)
+
+pub length-put_one : (r : ℕ) (o : Option (List Bool)) (ys : Sets) → length (put_one r o ys) ≡ length ys
+unfolding put_one
+length-put_one r None ys = refl
+length-put_one r (Some set) ys = length-set ys r (Some set)
+
+pub put_sets-step : (r : ℕ) (rs : List ℕ) (cut : ℕ → Option (List Bool)) (ys : Sets) → put_sets (r ∷ rs) cut ys ≡ put_sets rs cut (put_one r (cut r) ys)
+unfolding put_one
+put_sets-step r rs cut ys = by_set (cut r) refl
+  where
+    by_set : (o : Option (List Bool)) → cut r ≡ o → put_sets (r ∷ rs) cut ys ≡ put_sets rs cut (put_one r (cut r) ys)
+    by_set None e = rw e refl
+    by_set (Some set) e = rw e refl
+
+pub length-put_sets : (rs : List ℕ) (cut : ℕ → Option (List Bool)) (ys : Sets) → length (put_sets rs cut ys) ≡ length ys
+length-put_sets [] cut ys = refl
+length-put_sets (r ∷ rs) cut ys =
+    ap length (put_sets-step r rs cut ys) ∙ (length-put_sets rs cut (put_one r (cut r) ys) ∙ length-put_one r (cut r) ys)
 
 abbrev pub with_sets : MonthRecord → List (Option (List Bool)) → MonthRecord
 with_sets m sets = record m { cuts = record m.cuts { sets = sets } }
@@ -102,66 +138,6 @@ makes_called b series caller_of (r ∷ rs) t = by_caller (caller_of r) refl (λ 
         let rest = further (record t { calling = None; called = t.called + 1 }) in
         rw e (record { now_is = rest.now_is; months_are = rest.months_are })
 
-pub makes_evaporations : (b : Basin) (series : Inflows) (a : ℕ → ℕ) (xs : List ℕ) →
-    Makes b series (map (λ v. line.Evaporated v (a v)) xs) (λ m. record m { evaporated = set_all xs a m.evaporated })
-makes_evaporations b series a xs t =
-    let h = makes_each b series (λ v. line.Evaporated v (a v)) (λ v m. record m { evaporated = slice_set m.evaporated v (a v) }) (λ v t. refl) xs t in
-    record { now_is = h.now_is ∙ in_one xs t.now; months_are = h.months_are }
-  where
-    in_one : (xs : List ℕ) (m : MonthRecord) → fold (λ n x. record n { evaporated = slice_set n.evaporated x (a x) }) m xs ≡ record m { evaporated = set_all xs a m.evaporated }
-    in_one [] m = refl
-    in_one (x ∷ xs) m = in_one xs (record m { evaporated = slice_set m.evaporated x (a x) })
-
-pub makes_returns : (b : Basin) (series : Inflows) (a : ℕ → ℕ) (xs : List ℕ) →
-    Makes b series (map (λ n. line.Returned n (a n)) xs) (λ m. record m { returned = set_all xs a m.returned })
-makes_returns b series a xs t =
-    let h = makes_each b series (λ n. line.Returned n (a n)) (λ n m. record m { returned = slice_set m.returned n (a n) }) (λ n t. refl) xs t in
-    record { now_is = h.now_is ∙ in_one xs t.now; months_are = h.months_are }
-  where
-    in_one : (xs : List ℕ) (m : MonthRecord) → fold (λ n x. record n { returned = slice_set n.returned x (a x) }) m xs ≡ record m { returned = set_all xs a m.returned }
-    in_one [] m = refl
-    in_one (x ∷ xs) m = in_one xs (record m { returned = slice_set m.returned x (a x) })
-
-pub makes_used : (b : Basin) (series : Inflows) (a : ℕ → ℕ) (xs : List ℕ) →
-    Makes b series (map (λ r. line.Used r (a r)) xs) (λ m. record m { used = set_all xs a m.used })
-makes_used b series a xs t =
-    let h = makes_each b series (λ r. line.Used r (a r)) (λ r m. record m { used = slice_set m.used r (a r) }) (λ r t. refl) xs t in
-    record { now_is = h.now_is ∙ in_one xs t.now; months_are = h.months_are }
-  where
-    in_one : (xs : List ℕ) (m : MonthRecord) → fold (λ n x. record n { used = slice_set n.used x (a x) }) m xs ≡ record m { used = set_all xs a m.used }
-    in_one [] m = refl
-    in_one (x ∷ xs) m = in_one xs (record m { used = slice_set m.used x (a x) })
-
-pub makes_flows : (b : Basin) (series : Inflows) (a : ℕ → ℕ) (xs : List ℕ) →
-    Makes b series (map (λ e. line.Flow e (a e)) xs) (λ m. record m { plan = record m.plan { flow = set_all xs a m.plan.flow } })
-makes_flows b series a xs t =
-    let h = makes_each b series (λ e. line.Flow e (a e)) (λ e m. record m { plan = record m.plan { flow = slice_set m.plan.flow e (a e) } }) (λ e t. refl) xs t in
-    record { now_is = h.now_is ∙ in_one xs t.now; months_are = h.months_are }
-  where
-    in_one : (xs : List ℕ) (m : MonthRecord) → fold (λ n x. record n { plan = record n.plan { flow = slice_set n.plan.flow x (a x) } }) m xs ≡ record m { plan = record m.plan { flow = set_all xs a m.plan.flow } }
-    in_one [] m = refl
-    in_one (x ∷ xs) m = in_one xs (record m { plan = record m.plan { flow = slice_set m.plan.flow x (a x) } })
-
-pub makes_outflows : (b : Basin) (series : Inflows) (a : ℕ → ℕ) (xs : List ℕ) →
-    Makes b series (map (λ n. line.Outflow n (a n)) xs) (λ m. record m { plan = record m.plan { out = set_all xs a m.plan.out } })
-makes_outflows b series a xs t =
-    let h = makes_each b series (λ n. line.Outflow n (a n)) (λ n m. record m { plan = record m.plan { out = slice_set m.plan.out n (a n) } }) (λ n t. refl) xs t in
-    record { now_is = h.now_is ∙ in_one xs t.now; months_are = h.months_are }
-  where
-    in_one : (xs : List ℕ) (m : MonthRecord) → fold (λ n x. record n { plan = record n.plan { out = slice_set n.plan.out x (a x) } }) m xs ≡ record m { plan = record m.plan { out = set_all xs a m.plan.out } }
-    in_one [] m = refl
-    in_one (x ∷ xs) m = in_one xs (record m { plan = record m.plan { out = slice_set m.plan.out x (a x) } })
-
-pub makes_closings : (b : Basin) (series : Inflows) (a : ℕ → ℕ) (xs : List ℕ) →
-    Makes b series (map (λ v. line.Closing v (a v)) xs) (λ m. record m { closing = set_all xs a m.closing })
-makes_closings b series a xs t =
-    let h = makes_each b series (λ v. line.Closing v (a v)) (λ v m. record m { closing = slice_set m.closing v (a v) }) (λ v t. refl) xs t in
-    record { now_is = h.now_is ∙ in_one xs t.now; months_are = h.months_are }
-  where
-    in_one : (xs : List ℕ) (m : MonthRecord) → fold (λ n x. record n { closing = slice_set n.closing x (a x) }) m xs ≡ record m { closing = set_all xs a m.closing }
-    in_one [] m = refl
-    in_one (x ∷ xs) m = in_one xs (record m { closing = slice_set m.closing x (a x) })
-
 -- the number that a right takes, by what is delivered
 abbrev pub take_of : Basin → (ℕ → ℕ) → ℕ → ℕ
 take_of b a r = if is_some (taking_node b r) then a r else 0
@@ -180,31 +156,57 @@ makes_deliveries b series a w (x ∷ xs) t =
     let rest = makes_deliveries b series a w xs (with_now t (with_delivered b a w (x ∷ []) t.now)) in
     record { now_is = rest.now_is; months_are = rest.months_are }
 
--- a month's lines before its `call` lines
-pub makes_front : (b : Basin) (series : Inflows) (m : MonthRecord) (vs ns us es rs os : List ℕ) →
-    Makes b series
-    (map (λ v. line.Opening v (slice_index m.opening v)) vs ++ (map (λ v. line.Evaporated v (slice_index m.evaporated v)) vs
-    ++ (map (λ n. line.Returned n (slice_index m.returned n)) ns ++ (map (λ r. line.Used r (slice_index m.used r)) us
-    ++ (map (λ e. line.Flow e (slice_index m.plan.flow e)) es ++ (map (λ r. line.Deliver r (slice_index m.delivered r) (slice_index m.want r)) rs
-    ++ map (λ n. line.Outflow n (slice_index m.plan.out n)) os))))))
-    (λ k. record k {
-      opening = set_all vs (λ v. slice_index m.opening v) k.opening;
-      evaporated = set_all vs (λ v. slice_index m.evaporated v) k.evaporated;
-      returned = set_all ns (λ n. slice_index m.returned n) k.returned;
-      used = set_all us (λ r. slice_index m.used r) k.used;
-      want = set_all rs (λ r. slice_index m.want r) k.want;
-      delivered = set_all rs (λ r. slice_index m.delivered r) k.delivered;
-      plan = record {
-        flow = set_all es (λ e. slice_index m.plan.flow e) k.plan.flow;
-        take = set_all rs (take_of b (λ r. slice_index m.delivered r)) k.plan.take;
-        out = set_all os (λ n. slice_index m.plan.out n) k.plan.out;
-      };
-    })
-makes_front b series m vs ns us es rs os =
-    makes_both b series _ _ _ _ (makes_openings b series (λ v. slice_index m.opening v) vs)
-    (makes_both b series _ _ _ _ (makes_evaporations b series (λ v. slice_index m.evaporated v) vs)
-    (makes_both b series _ _ _ _ (makes_returns b series (λ n. slice_index m.returned n) ns)
-    (makes_both b series _ _ _ _ (makes_used b series (λ r. slice_index m.used r) us)
-    (makes_both b series _ _ _ _ (makes_flows b series (λ e. slice_index m.plan.flow e) es)
-    (makes_both b series _ _ _ _ (makes_deliveries b series (λ r. slice_index m.delivered r) (λ r. slice_index m.want r) rs)
-    (makes_outflows b series (λ n. slice_index m.plan.out n) os))))))
+-- What a section's lines make of a month, by the record that they are of.
+abbrev pub with_section : Basin → MonthRecord → Section → MonthRecord → MonthRecord
+with_section b m (section.Amounts q) now =
+    with_amounts q now (set_all (entries_with_line b q) (λ x. slice_index (amounts_of q m) x) (amounts_of q now))
+with_section b m section.Deliveries now =
+    with_delivered b (λ r. slice_index m.delivered r) (λ r. slice_index m.want r) (seniors_first b) now
+with_section b m section.Calls now = with_sets now (put_sets (seniors_first b) (λ r. cut_of m r) now.cuts.sets)
+with_section b m section.Called now = now
+
+-- the record has room for the sets that are told
+abbrev pub HasRoom : MonthRecord → MonthRecord → Type 0
+HasRoom m now = (r : ℕ) (set : List Bool) → cut_of m r ≡ Some set → r < length now.cuts.sets
+
+sets_stay : (b : Basin) (m : MonthRecord) (k : Section) (now : MonthRecord) →
+    length (with_section b m k now).cuts.sets ≡ length now.cuts.sets
+sets_stay b m (section.Amounts q) now =
+    ap (λ cuts. length cuts.sets)
+    (cuts_with q now (set_all (entries_with_line b q) (λ x. slice_index (amounts_of q m) x) (amounts_of q now)))
+sets_stay b m section.Deliveries now = refl
+sets_stay b m section.Calls now = length-put_sets (seniors_first b) (λ r. cut_of m r) now.cuts.sets
+sets_stay b m section.Called now = refl
+
+section_told : (b : Basin) (series : Inflows) (m : MonthRecord) (caller_of : ℕ → Option ℕ) →
+    ((r : ℕ) (set : List Bool) → cut_of m r ≡ Some set → length set ≡ length b.nodes) →
+    (k : Section) (t : Told) → HasRoom m t.now →
+    Tells b series t (lines_in k b m caller_of) (with_section b m k t.now)
+section_told b series m caller_of sized (section.Amounts q) t room =
+    subst (λ (items : List Item). Tells b series t items (with_section b m (section.Amounts q) t.now))
+    (sym (amount_lines q b m caller_of))
+    (makes_amounts b series q (λ x. slice_index (amounts_of q m) x) (entries_with_line b q) t)
+section_told b series m caller_of sized section.Deliveries t room =
+    subst (λ (items : List Item). Tells b series t items (with_section b m section.Deliveries t.now))
+    (sym (flat_map_one (λ r. line.Deliver r (slice_index m.delivered r) (slice_index m.want r)) (seniors_first b)))
+    (makes_deliveries b series (λ r. slice_index m.delivered r) (λ r. slice_index m.want r) (seniors_first b) t)
+section_told b series m caller_of sized section.Calls t room =
+    tells_calls b series (λ r. cut_of m r) sized (seniors_first b) t room
+section_told b series m caller_of sized section.Called t room = makes_called b series caller_of (seniors_first b) t
+
+pub sections_told : (b : Basin) (series : Inflows) (m : MonthRecord) (caller_of : ℕ → Option ℕ) →
+    ((r : ℕ) (set : List Bool) → cut_of m r ≡ Some set → length set ≡ length b.nodes) →
+    (ks : List Section) (t : Told) → HasRoom m t.now →
+    Tells b series t (flat_map (λ k. lines_in k b m caller_of) ks) (fold (λ now k. with_section b m k now) t.now ks)
+sections_told b series m caller_of sized [] t room = record { now_is = refl; months_are = refl }
+sections_told b series m caller_of sized (k ∷ ks) t room =
+    let first = section_told b series m caller_of sized k t room in
+    let behind : Told = fold (tell b series) t (lines_in k b m caller_of) in
+    let rest = sections_told b series m caller_of sized ks behind
+    (λ r set e. omega (arith, room r set e, ap (λ now. length now.cuts.sets) first.now_is, sets_stay b m k t.now)) in
+    let both = fold-both (tell b series) t (lines_in k b m caller_of) (flat_map (λ k. lines_in k b m caller_of) ks) in
+    record {
+      now_is = ap (λ u. u.now) both
+          ∙ (rest.now_is ∙ ap (λ now. fold (λ now k. with_section b m k now) now ks) first.now_is);
+      months_are = ap (λ u. u.months) both ∙ (rest.months_are ∙ first.months_are);
+    }

@@ -16,9 +16,10 @@ use Rattle.water_model.specs.Places.{numbers_from}
 use Rattle.water_model.specs.Valid.{IsValidBasin, IsValidNode, IsValidLink, IsValidReservoir, IsValidRight}
 use Rattle.water_model.specs.declared.types.Basin.{Basin}
 use Rattle.water_model.specs.declared.types.Reservoir.{Reservoir}
-use Rattle.result_reader.specs.Names.{count_in, name_in, named}
-use Rattle.result_reader.specs.declared.names.Space.{Space}
-use Rattle.result_reader.specs.declared.names.Space.TheVariants as space
+use Rattle.water_model.specs.Entries.{count_in, name_in}
+use Rattle.water_model.specs.declared.space.Space.{Space}
+use Rattle.water_model.specs.declared.space.Space.TheVariants as space
+use Rattle.result_reader.specs.Names.{named}
 use Rattle.result_reader.specs.NamePlaces.{kept_at}
 
 bytes_eq-sym : (xs ys : List ℕ) → bytes_eq xs ys ≡ bytes_eq ys xs

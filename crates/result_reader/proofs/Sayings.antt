@@ -15,21 +15,21 @@ use Rattle.water_text.specs.Months.{IsMonth, month_digits}
 use Rattle.water_text.specs.Names.{is_name}
 use Rattle.water_text.specs.declared.month.Month.{Month}
 use Rattle.water_model.proofs.Order.{find-passes, numbers_from-below}
+use Rattle.water_model.specs.Entries.{count_in, name_in}
 use Rattle.water_model.specs.Places.{numbers_from}
+use Rattle.water_model.specs.Quantities.{space_of}
 use Rattle.water_model.specs.Spelling.{fields_of, line_of}
 use Rattle.water_model.specs.declared.item.Item.{Item}
 use Rattle.water_model.specs.declared.item.Item.TheVariants as line
+use Rattle.water_model.specs.declared.space.Space.{Space}
+use Rattle.water_model.specs.declared.space.Space.TheVariants as space
 use Rattle.water_model.specs.declared.types.Basin.{Basin}
-use Rattle.result_reader.specs.Names.{count_in, name_in, named}
+use Rattle.result_reader.specs.Names.{named}
 use Rattle.result_reader.specs.OfText.{IsOfText}
 use Rattle.result_reader.specs.Reading.{pieces_of, and_then, no_field, one_field, two_fields, three_fields, name_field, month_field, amount_field, count_field, entry_named, item_with, item_in, item_of}
-use Rattle.result_reader.specs.Words.{spelling_of, amount_spelling, word_of, space_of, amount_item}
+use Rattle.result_reader.specs.Words.{spelling_of, word_of}
 use Rattle.result_reader.specs.declared.bad_line.BadLine.{BadLine}
 use Rattle.result_reader.specs.declared.bad_line.BadLine.TheVariants as bad
-use Rattle.result_reader.specs.declared.names.Space.{Space}
-use Rattle.result_reader.specs.declared.names.Space.TheVariants as space
-use Rattle.result_reader.specs.declared.words.Amount.{Amount}
-use Rattle.result_reader.specs.declared.words.Amount.TheVariants as amount
 use Rattle.result_reader.specs.declared.words.Word.{Word}
 use Rattle.result_reader.specs.declared.words.Word.TheVariants as word
 use Rattle.result_reader.proofs.WordLaws.{word_spelled}
@@ -132,26 +132,6 @@ two x x' y y' e f = rw (e, f) refl
 three : (x x' y y' z z' : List ℕ) → x ≡ x' → y ≡ y' → z ≡ z' → x ∷ y ∷ z ∷ [] ≡ x' ∷ y' ∷ z' ∷ []
 three x x' y y' z z' e f g = rw (e, f, g) refl
 
-amount_spelled : (b : Basin) (kind : Amount) (at n : ℕ) →
-    amount_spelling kind ∷ name_in (space_of kind) b at ∷ decimal n ∷ [] ≡ fields_of b (amount_item kind at n)
-unfolding fields_of
-amount_spelled b amount.Opening at n = refl
-amount_spelled b amount.Evaporated at n = refl
-amount_spelled b amount.Returned at n = refl
-amount_spelled b amount.Used at n = refl
-amount_spelled b amount.Flow at n = refl
-amount_spelled b amount.Outflow at n = refl
-amount_spelled b amount.Closing at n = refl
-
-amount_of_text : (b : Basin) (kind : Amount) (at n : ℕ) → at < count_in (space_of kind) b → n ≤ 10 ^ 15 → IsOfText b (amount_item kind at n)
-amount_of_text b amount.Opening at n l h = record { of_basin = l; numbers = h }
-amount_of_text b amount.Evaporated at n l h = record { of_basin = l; numbers = h }
-amount_of_text b amount.Returned at n l h = record { of_basin = l; numbers = h }
-amount_of_text b amount.Used at n l h = record { of_basin = l; numbers = h }
-amount_of_text b amount.Flow at n l h = record { of_basin = l; numbers = h }
-amount_of_text b amount.Outflow at n l h = record { of_basin = l; numbers = h }
-amount_of_text b amount.Closing at n l h = record { of_basin = l; numbers = h }
-
 Ok-same : {X : Type 0} (x y : X) → (let r : Result X BadLine = Ok x in r) ≡ Ok y → x ≡ y
 Ok-same x y h = cc
 
@@ -179,16 +159,16 @@ item_with-Ok b word.Month fields i h =
     let month = month_field-Ok x.0 m.0 m.1 in
     says b word.Month fields (month_digits m.0 ∷ []) (line.Month m.0) i (one_field-Ok fields x.0 x.1 ∙ ap (λ y. y ∷ []) month.0) refl
     (record { of_basin = month.1; numbers = tt }) (Ok-same _ i m.2)
-item_with-Ok b (word.Amount kind) fields i h =
+item_with-Ok b (word.Amount q) fields i h =
     let f = through (two_fields fields) _ i h in
     let name = through (name_field f.0.0) _ i f.2 in
     let n = through (amount_field f.0.1) _ i name.2 in
-    let at = through (entry_named b (space_of kind) name.0) _ i n.2 in
+    let at = through (entry_named b (space_of q) name.0) _ i n.2 in
     let number = amount_field-Ok f.0.1 n.0 n.1 in
-    let entry = entry_named-Ok b (space_of kind) name.0 at.0 at.1 in
-    says b (word.Amount kind) fields (name_in (space_of kind) b at.0 ∷ decimal n.0 ∷ []) (amount_item kind at.0 n.0) i
-    (two_fields-Ok fields f.0 f.1 ∙ two _ _ _ _ (name_field-Ok f.0.0 name.0 name.1 ∙ entry.0) number.0) (amount_spelled b kind at.0 n.0)
-    (amount_of_text b kind at.0 n.0 entry.1 number.1) (Ok-same _ i at.2)
+    let entry = entry_named-Ok b (space_of q) name.0 at.0 at.1 in
+    says b (word.Amount q) fields (name_in (space_of q) b at.0 ∷ decimal n.0 ∷ []) (line.Amount q at.0 n.0) i
+    (two_fields-Ok fields f.0 f.1 ∙ two _ _ _ _ (name_field-Ok f.0.0 name.0 name.1 ∙ entry.0) number.0) refl
+    (record { of_basin = entry.1; numbers = number.1 }) (Ok-same _ i at.2)
 item_with-Ok b word.Deliver fields i h =
     let f = through (three_fields fields) _ i h in
     let name = through (name_field f.0.0) _ i f.2 in

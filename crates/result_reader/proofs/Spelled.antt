@@ -12,17 +12,21 @@ use Rattle.water_text.specs.Amounts.{read_plain}
 use Rattle.water_text.specs.Months.{IsMonth, month_digits}
 use Rattle.water_text.specs.Names.{is_name, is_name_byte}
 use Rattle.water_text.specs.declared.month.Month.{Month}
+use Rattle.water_model.specs.Entries.{count_in, name_in}
+use Rattle.water_model.specs.Quantities.{amount_word, space_of}
 use Rattle.water_model.specs.Spelling.{fields_of, line_of}
 use Rattle.water_model.specs.Valid.{IsValidBasin}
 use Rattle.water_model.specs.declared.item.Item.{Item}
 use Rattle.water_model.specs.declared.item.Item.TheVariants as line
+use Rattle.water_model.specs.declared.quantity.Quantity.{Quantity}
+use Rattle.water_model.specs.declared.quantity.Quantity.TheVariants as quantity
+use Rattle.water_model.specs.declared.space.Space.{Space}
+use Rattle.water_model.specs.declared.space.Space.TheVariants as space
 use Rattle.water_model.specs.declared.types.Basin.{Basin}
-use Rattle.result_reader.specs.Names.{count_in, name_in}
 use Rattle.result_reader.specs.OfText.{IsOfText}
 use Rattle.result_reader.specs.Reading.{pieces_of, count_field, item_with, item_in, item_of}
 use Rattle.result_reader.specs.Words.{word_of}
-use Rattle.result_reader.specs.declared.names.Space.{Space}
-use Rattle.result_reader.specs.declared.names.Space.TheVariants as space
+use Rattle.result_reader.specs.declared.words.Word.TheVariants as word
 use Rattle.result_reader.proofs.NameLaws.{name_is, named-at}
 
 -- bytes without a byte: a space, or a line feed
@@ -124,23 +128,49 @@ name_plain bytes h =
 entry_plain : (b : Basin) → IsValidBasin b → (s : Space) (at : ℕ) → at < count_in s b → is_plain (name_in s b at) ≡ true
 entry_plain b valid s at l = name_plain (name_in s b at) (name_is b valid s at l)
 
+-- The words of quantities.
+
+word_plain : (q : Quantity) → is_plain (amount_word q) ≡ true
+word_plain quantity.Opening = refl
+word_plain quantity.Evaporated = refl
+word_plain quantity.Returned = refl
+word_plain quantity.Used = refl
+word_plain quantity.Flow = refl
+word_plain quantity.Outflow = refl
+word_plain quantity.Closing = refl
+
+word_short : (q : Quantity) → length (amount_word q) ≤ 12
+word_short quantity.Opening = omega arith
+word_short quantity.Evaporated = omega arith
+word_short quantity.Returned = omega arith
+word_short quantity.Used = omega arith
+word_short quantity.Flow = omega arith
+word_short quantity.Outflow = omega arith
+word_short quantity.Closing = omega arith
+
+word_read : (q : Quantity) → word_of (amount_word q) ≡ Some (word.Amount q)
+unfolding word_of
+word_read quantity.Opening = refl
+word_read quantity.Evaporated = refl
+word_read quantity.Returned = refl
+word_read quantity.Used = refl
+word_read quantity.Flow = refl
+word_read quantity.Outflow = refl
+word_read quantity.Closing = refl
+
 fields_plain : (b : Basin) → IsValidBasin b → (i : Item) → IsOfText b i → list_all is_plain (fields_of b i) ≡ true
 unfolding fields_of
 fields_plain b valid line.Title o = refl
 fields_plain b valid (line.Run first months) o = rw (month_plain first o.of_basin, decimal_plain months (omega (arith, o.numbers))) refl
 fields_plain b valid (line.Month month) o = rw (month_plain month o.of_basin) refl
-fields_plain b valid (line.Opening v amount) o = rw (entry_plain b valid space.Reservoirs v o.of_basin, decimal_plain amount (omega (arith, o.numbers))) refl
-fields_plain b valid (line.Evaporated v amount) o = rw (entry_plain b valid space.Reservoirs v o.of_basin, decimal_plain amount (omega (arith, o.numbers))) refl
-fields_plain b valid (line.Returned node amount) o = rw (entry_plain b valid space.Nodes node o.of_basin, decimal_plain amount (omega (arith, o.numbers))) refl
-fields_plain b valid (line.Used right amount) o = rw (entry_plain b valid space.Rights right o.of_basin, decimal_plain amount (omega (arith, o.numbers))) refl
-fields_plain b valid (line.Flow link amount) o = rw (entry_plain b valid space.Links link o.of_basin, decimal_plain amount (omega (arith, o.numbers))) refl
+fields_plain b valid (line.Amount q entry amount) o =
+    rw (word_plain q, entry_plain b valid (space_of q) entry o.of_basin, decimal_plain amount (omega (arith, o.numbers)))
+    refl
 fields_plain b valid (line.Deliver right amount want) o =
     rw (entry_plain b valid space.Rights right o.of_basin, decimal_plain amount (omega (arith, o.numbers.0)), decimal_plain want (omega (arith, o.numbers.1))) refl
-fields_plain b valid (line.Outflow node amount) o = rw (entry_plain b valid space.Nodes node o.of_basin, decimal_plain amount (omega (arith, o.numbers))) refl
 fields_plain b valid (line.Call right) o = rw (entry_plain b valid space.Rights right o.of_basin) refl
 fields_plain b valid (line.Member node) o = rw (entry_plain b valid space.Nodes node o.of_basin) refl
 fields_plain b valid (line.Called right by') o = rw (entry_plain b valid space.Rights right o.of_basin.0, entry_plain b valid space.Rights by' o.of_basin.1) refl
-fields_plain b valid (line.Closing v amount) o = rw (entry_plain b valid space.Reservoirs v o.of_basin, decimal_plain amount (omega (arith, o.numbers))) refl
 fields_plain b valid line.End o = refl
 fields_plain b valid (line.Done months) o = rw (decimal_plain months (omega (arith, o.numbers))) refl
 
@@ -149,17 +179,11 @@ unfolding fields_of
 some_fields b line.Title = omega arith
 some_fields b (line.Run first months) = omega arith
 some_fields b (line.Month month) = omega arith
-some_fields b (line.Opening v amount) = omega arith
-some_fields b (line.Evaporated v amount) = omega arith
-some_fields b (line.Returned node amount) = omega arith
-some_fields b (line.Used right amount) = omega arith
-some_fields b (line.Flow link amount) = omega arith
+some_fields b (line.Amount q entry amount) = omega arith
 some_fields b (line.Deliver right amount want) = omega arith
-some_fields b (line.Outflow node amount) = omega arith
 some_fields b (line.Call right) = omega arith
 some_fields b (line.Member node) = omega arith
 some_fields b (line.Called right by') = omega arith
-some_fields b (line.Closing v amount) = omega arith
 some_fields b line.End = omega arith
 some_fields b (line.Done months) = omega arith
 
@@ -201,18 +225,14 @@ line_short b valid line.Title o = omega arith
 line_short b valid (line.Run first months) o =
     three_short (codes "run") (month_digits first) (decimal months) 7 20 (omega arith) (omega (arith, length-month_digits first o.of_basin)) (number_short months (omega (arith, o.numbers))) (omega arith)
 line_short b valid (line.Month month) o = two_short (codes "month") (month_digits month) 12 7 (omega arith) (omega (arith, length-month_digits month o.of_basin)) (omega arith)
-line_short b valid (line.Opening v amount) o = three_short (codes "open") (name_in space.Reservoirs b v) (decimal amount) 32 20 (omega arith) (entry_short b valid space.Reservoirs v o.of_basin) (number_short amount o.numbers) (omega arith)
-line_short b valid (line.Evaporated v amount) o = three_short (codes "evap") (name_in space.Reservoirs b v) (decimal amount) 32 20 (omega arith) (entry_short b valid space.Reservoirs v o.of_basin) (number_short amount o.numbers) (omega arith)
-line_short b valid (line.Returned node amount) o = three_short (codes "return") (name_in space.Nodes b node) (decimal amount) 32 20 (omega arith) (entry_short b valid space.Nodes node o.of_basin) (number_short amount o.numbers) (omega arith)
-line_short b valid (line.Used right amount) o = three_short (codes "used") (name_in space.Rights b right) (decimal amount) 32 20 (omega arith) (entry_short b valid space.Rights right o.of_basin) (number_short amount o.numbers) (omega arith)
-line_short b valid (line.Flow link amount) o = three_short (codes "flow") (name_in space.Links b link) (decimal amount) 32 20 (omega arith) (entry_short b valid space.Links link o.of_basin) (number_short amount o.numbers) (omega arith)
+line_short b valid (line.Amount q entry amount) o =
+    three_short (amount_word q) (name_in (space_of q) b entry) (decimal amount) 32 20 (word_short q)
+    (entry_short b valid (space_of q) entry o.of_basin) (number_short amount o.numbers) (omega arith)
 line_short b valid (line.Deliver right amount want) o =
     four_short (codes "deliver") (name_in space.Rights b right) (decimal amount) (decimal want) (omega arith) (entry_short b valid space.Rights right o.of_basin) (number_short amount o.numbers.0) (number_short want o.numbers.1)
-line_short b valid (line.Outflow node amount) o = three_short (codes "out") (name_in space.Nodes b node) (decimal amount) 32 20 (omega arith) (entry_short b valid space.Nodes node o.of_basin) (number_short amount o.numbers) (omega arith)
 line_short b valid (line.Call right) o = two_short (codes "call") (name_in space.Rights b right) 12 32 (omega arith) (entry_short b valid space.Rights right o.of_basin) (omega arith)
 line_short b valid (line.Member node) o = two_short (codes "in") (name_in space.Nodes b node) 12 32 (omega arith) (entry_short b valid space.Nodes node o.of_basin) (omega arith)
 line_short b valid (line.Called right by') o = three_short (codes "called") (name_in space.Rights b right) (name_in space.Rights b by') 32 32 (omega arith) (entry_short b valid space.Rights right o.of_basin.0) (entry_short b valid space.Rights by' o.of_basin.1) (omega arith)
-line_short b valid (line.Closing v amount) o = three_short (codes "close") (name_in space.Reservoirs b v) (decimal amount) 32 20 (omega arith) (entry_short b valid space.Reservoirs v o.of_basin) (number_short amount o.numbers) (omega arith)
 line_short b valid line.End o = omega arith
 line_short b valid (line.Done months) o = two_short (codes "done") (decimal months) 12 20 (omega arith) (number_short months (omega (arith, o.numbers))) (omega arith)
 
@@ -229,19 +249,19 @@ unfolding fields_of word_of item_with
 item_in-fields b valid line.Title o = refl
 item_in-fields b valid (line.Run first months) o = rw (read_month-month_digits first o.of_basin, count_read months o.numbers.0 o.numbers.1) refl
 item_in-fields b valid (line.Month month) o = rw (read_month-month_digits month o.of_basin) refl
-item_in-fields b valid (line.Opening v amount) o = rw (name_is b valid space.Reservoirs v o.of_basin, amount_read amount o.numbers, named-at b valid space.Reservoirs v o.of_basin) refl
-item_in-fields b valid (line.Evaporated v amount) o = rw (name_is b valid space.Reservoirs v o.of_basin, amount_read amount o.numbers, named-at b valid space.Reservoirs v o.of_basin) refl
-item_in-fields b valid (line.Returned node amount) o = rw (name_is b valid space.Nodes node o.of_basin, amount_read amount o.numbers, named-at b valid space.Nodes node o.of_basin) refl
-item_in-fields b valid (line.Used right amount) o = rw (name_is b valid space.Rights right o.of_basin, amount_read amount o.numbers, named-at b valid space.Rights right o.of_basin) refl
-item_in-fields b valid (line.Flow link amount) o = rw (name_is b valid space.Links link o.of_basin, amount_read amount o.numbers, named-at b valid space.Links link o.of_basin) refl
+item_in-fields b valid (line.Amount q entry amount) o =
+    rw (
+      word_read q,
+      name_is b valid (space_of q) entry o.of_basin,
+      amount_read amount o.numbers,
+      named-at b valid (space_of q) entry o.of_basin,
+    ) refl
 item_in-fields b valid (line.Deliver right amount want) o =
     rw (name_is b valid space.Rights right o.of_basin, amount_read amount o.numbers.0, amount_read want o.numbers.1, named-at b valid space.Rights right o.of_basin) refl
-item_in-fields b valid (line.Outflow node amount) o = rw (name_is b valid space.Nodes node o.of_basin, amount_read amount o.numbers, named-at b valid space.Nodes node o.of_basin) refl
 item_in-fields b valid (line.Call right) o = rw (name_is b valid space.Rights right o.of_basin, named-at b valid space.Rights right o.of_basin) refl
 item_in-fields b valid (line.Member node) o = rw (name_is b valid space.Nodes node o.of_basin, named-at b valid space.Nodes node o.of_basin) refl
 item_in-fields b valid (line.Called right by') o =
     rw (name_is b valid space.Rights right o.of_basin.0, name_is b valid space.Rights by' o.of_basin.1, named-at b valid space.Rights right o.of_basin.0, named-at b valid space.Rights by' o.of_basin.1) refl
-item_in-fields b valid (line.Closing v amount) o = rw (name_is b valid space.Reservoirs v o.of_basin, amount_read amount o.numbers, named-at b valid space.Reservoirs v o.of_basin) refl
 item_in-fields b valid line.End o = refl
 item_in-fields b valid (line.Done months) o = rw (count_read months o.numbers.0 o.numbers.1) refl
 

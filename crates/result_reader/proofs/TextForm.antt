@@ -1,22 +1,27 @@
 -- The text of records has the form.
-use Rattle.std.proofs.Common.{◌≡◌, ℕ, suc, Bool, true, false, refl, sym, ap, subst, ◌∙◌, arith, inl, inr, List, [], ◌∷◌, ◌++◌, length, map, append_assoc, filter, length-append}
+use Rattle.std.proofs.Common.{◌≡◌, ℕ, suc, Bool, true, false, refl, sym, ap, subst, ◌∙◌, arith, inl, inr, List, [], ◌∷◌, ◌++◌, length, map, append-nil, append_assoc, length-append}
 use Rattle.std.specs.Prelude.{Option, Some, None, is_some, find, ◌&&◌, nat_lt, slice_index, if◌then◌else◌}
 use Rattle.std.specs.List.{flat_map, list_any}
 use Rattle.std.specs.Option.{option_map_or}
 use Rattle.water_model.proofs.Order.{find-passes}
 use Rattle.water_model.specs.Basin.{is_senior, taking_node}
 use Rattle.water_model.specs.Cuts.{takes_within, node_within}
+use Rattle.water_model.specs.Entries.{in_order}
 use Rattle.water_model.specs.Hydrology.{run_month}
 use Rattle.water_model.specs.History.{cut_of}
-use Rattle.water_model.specs.Places.{numbers_from, places_of, members_from, seniors_first, return_nodes, outlets, rights_with_volume}
+use Rattle.water_model.specs.Places.{numbers_from, members_from, seniors_first}
+use Rattle.water_model.specs.Quantities.{amounts_of, has_line}
 use Rattle.water_model.specs.Spelling.{line_of}
-use Rattle.water_model.specs.Text.{calls, calling_right, call_items, called_items, month_sections, items_of_month, items_of}
+use Rattle.water_model.specs.Text.{calls, calling_right, call_items, called_items, section_space, lines_at, lines_in, month_lines, items_of_month, items_of}
 use Rattle.water_model.specs.declared.item.Item.{Item}
 use Rattle.water_model.specs.declared.item.Item.TheVariants as line
+use Rattle.water_model.specs.declared.item.Section.{Section}
+use Rattle.water_model.specs.declared.item.Section.TheVariants as section
+use Rattle.water_model.specs.declared.item.TheConstants.{SECTIONS}
 use Rattle.water_model.specs.declared.types.Basin.{Basin}
 use Rattle.water_model.specs.declared.types.Inflows.{Inflows}
 use Rattle.water_model.specs.declared.types.MonthRecord.{MonthRecord}
-use Rattle.result_reader.specs.Form.{fits, IsFollowedBy, Fills, due_in_month, due_for_month, due}
+use Rattle.result_reader.specs.Form.{shape_of, is_allowed, fits, IsFollowedBy, Fills, shapes_at, shapes_in, due_in_month, due_for_month, due}
 use Rattle.result_reader.specs.Laws.{TextsAreAccepted}
 use Rattle.result_reader.specs.OfText.{IsOfText}
 use Rattle.result_reader.specs.Records.{IsTextMonth, AreTextMonths}
@@ -42,12 +47,6 @@ fills_both b (d ∷ ds) es items others (inr (i, members, rest, f, group, are, h
       fills_both b ds es rest others h k,
     )
 
--- lines that are due one by one
-fills_each : (b : Basin) (shape : ℕ → Shape) (item : ℕ → Item) → ((x : ℕ) → fits b (shape x) (item x) ≡ true) →
-    ((x : ℕ) → IsFollowedBy b (item x) []) → (xs : List ℕ) → Fills b (map shape xs) (map item xs)
-fills_each b shape item f group [] = refl
-fills_each b shape item f group (x ∷ xs) = inr (item x, [], map item xs, f x, group x, refl, fills_each b shape item f group xs)
-
 -- the callers and sets of a month are such as a text may have
 pub record HasCalls (b : Basin) (m : MonthRecord) (caller_of : ℕ → Option ℕ) : Type 0 where
   pub sized : (r : ℕ) (set : List Bool) → cut_of m r ≡ Some set → length set ≡ length b.nodes
@@ -55,52 +54,62 @@ pub record HasCalls (b : Basin) (m : MonthRecord) (caller_of : ℕ → Option �
   pub taking : (r : ℕ) → is_some (taking_node b r) ≡ false → caller_of r ≡ None
   pub senior : (r caller : ℕ) → caller_of r ≡ Some caller → is_senior b caller r ≡ true
 
-fills_calls : (b : Basin) (m : MonthRecord) (caller_of : ℕ → Option ℕ) → HasCalls b m caller_of → (xs : List ℕ) →
-    Fills b (map (λ r. shape.Call r) xs) (flat_map (λ r. call_items r (cut_of m r)) xs)
-fills_calls b m caller_of h [] = refl
-fills_calls b m caller_of h (r ∷ rs) = by_set (cut_of m r) refl (fills_calls b m caller_of h rs)
+-- a line that stands alone
+fills_one : (b : Basin) (i : Item) → is_allowed b i ≡ true → IsFollowedBy b i [] → Fills b (shape_of i ∷ []) (i ∷ [])
+fills_one b i allowed alone = inr (i, [], [], fits_itself b i allowed, alone, refl, refl)
+
+-- the lines of an entry fill what is due for it
+fills_entry : (b : Basin) (m : MonthRecord) (caller_of : ℕ → Option ℕ) → HasCalls b m caller_of →
+    (k : Section) (x : ℕ) → Fills b (shapes_at k b x) (lines_at k b m caller_of x)
+fills_entry b m caller_of h (section.Amounts q) x = by_test (has_line b q x)
   where
-    by_set : (o : Option (List Bool)) → cut_of m r ≡ o → Fills b (map (λ r. shape.Call r) rs) (flat_map (λ r. call_items r (cut_of m r)) rs) →
-        Fills b (shape.Call r ∷ map (λ r. shape.Call r) rs) (call_items r (cut_of m r) ++ flat_map (λ r. call_items r (cut_of m r)) rs)
-    by_set None e rest = rw e (inl (refl, rest))
-    by_set (Some set) e rest = rw e (inr (
-      line.Call r,
+    by_test : (t : Bool) → Fills b (if t then shape.Amount q x ∷ [] else [])
+        (if t then line.Amount q x (slice_index (amounts_of q m) x) ∷ [] else [])
+    by_test true = fills_one b (line.Amount q x (slice_index (amounts_of q m) x)) refl refl
+    by_test false = refl
+fills_entry b m caller_of h section.Deliveries x =
+    fills_one b (line.Deliver x (slice_index m.delivered x) (slice_index m.want x)) refl refl
+fills_entry b m caller_of h section.Calls x = by_set (cut_of m x) refl
+  where
+    by_set : (o : Option (List Bool)) → cut_of m x ≡ o → Fills b (shape.Call x ∷ []) (call_items x o)
+    by_set None e = inl (refl, refl)
+    by_set (Some set) e = inr (
+      line.Call x,
       map (λ n. line.Member n) (members_from 0 set),
-      flat_map (λ r. call_items r (cut_of m r)) rs,
-      fits_itself b (line.Call r) refl,
-      (set, h.sized r set e, h.some r set e, refl),
-      refl,
-      rest,
-    ))
-
-fills_called : (b : Basin) (m : MonthRecord) (caller_of : ℕ → Option ℕ) → HasCalls b m caller_of → (xs : List ℕ) →
-    Fills b (map (λ r. shape.Called r) (filter (λ r. is_some (taking_node b r)) xs)) (flat_map (λ r. called_items r (caller_of r)) xs)
-fills_called b m caller_of h [] = refl
-fills_called b m caller_of h (r ∷ rs) = by_taking (is_some (taking_node b r)) refl (caller_of r) refl (fills_called b m caller_of h rs)
-  where
-    by_taking : (t : Bool) → is_some (taking_node b r) ≡ t → (o : Option ℕ) → caller_of r ≡ o →
-        Fills b (map (λ r. shape.Called r) (filter (λ r. is_some (taking_node b r)) rs)) (flat_map (λ r. called_items r (caller_of r)) rs) →
-        Fills b (map (λ r. shape.Called r) (if is_some (taking_node b r) then r ∷ filter (λ r. is_some (taking_node b r)) rs else filter (λ r. is_some (taking_node b r)) rs))
-        (called_items r (caller_of r) ++ flat_map (λ r. called_items r (caller_of r)) rs)
-    by_taking true t None e rest = rw (t, e) (inl (refl, rest))
-    by_taking true t (Some caller) e rest = rw (t, e) (inr (
-      line.Called r caller,
       [],
-      flat_map (λ r. called_items r (caller_of r)) rs,
-      fits_called b r caller (h.senior r caller e),
+      fits_itself b (line.Call x) refl,
+      (set, h.sized x set e, h.some x set e, refl),
+      ap (λ ms. line.Call x ∷ ms) (sym (append-nil (map (λ n. line.Member n) (members_from 0 set)))),
       refl,
-      refl,
-      rest,
-    ))
-      where
-        fits_called : (b : Basin) (r caller : ℕ) → is_senior b caller r ≡ true → fits b (shape.Called r) (line.Called r caller) ≡ true
-        fits_called b r caller k = fits_itself b (line.Called r caller) k
-    by_taking false t None e rest = rw (t, e) rest
-    by_taking false t (Some caller) e rest = let none : Some caller ≡ None = sym e ∙ h.taking r t in cc
+    )
+fills_entry b m caller_of h section.Called x = by_taking (is_some (taking_node b x)) refl (caller_of x) refl
+  where
+    by_taking : (t : Bool) → is_some (taking_node b x) ≡ t → (o : Option ℕ) → caller_of x ≡ o →
+        Fills b (if t then shape.Called x ∷ [] else []) (called_items x o)
+    by_taking true t None e = inl (refl, refl)
+    by_taking true t (Some caller) e = fills_one b (line.Called x caller) (h.senior x caller e) refl
+    by_taking false t None e = refl
+    by_taking false t (Some caller) e = let none : Some caller ≡ None = sym e ∙ h.taking x t in cc
 
-pub month_fills : (b : Basin) (m : MonthRecord) (caller_of : ℕ → Option ℕ) (i : ℕ) → m.month ≡ run_month b i → HasCalls b m caller_of →
-    Fills b (due_for_month b i) (flat_map (λ section. section) (month_sections b m caller_of))
-unfolding month_sections due_in_month
+-- and so do those of a section, and of the sections
+fills_entries : (b : Basin) (m : MonthRecord) (caller_of : ℕ → Option ℕ) → HasCalls b m caller_of →
+    (k : Section) (xs : List ℕ) → Fills b (flat_map (shapes_at k b) xs) (flat_map (lines_at k b m caller_of) xs)
+fills_entries b m caller_of h k [] = refl
+fills_entries b m caller_of h k (x ∷ xs) =
+    fills_both b (shapes_at k b x) (flat_map (shapes_at k b) xs) (lines_at k b m caller_of x)
+    (flat_map (lines_at k b m caller_of) xs) (fills_entry b m caller_of h k x) (fills_entries b m caller_of h k xs)
+
+fills_sections : (b : Basin) (m : MonthRecord) (caller_of : ℕ → Option ℕ) → HasCalls b m caller_of →
+    (ks : List Section) → Fills b (flat_map (λ k. shapes_in k b) ks) (flat_map (λ k. lines_in k b m caller_of) ks)
+fills_sections b m caller_of h [] = refl
+fills_sections b m caller_of h (k ∷ ks) =
+    fills_both b (shapes_in k b) (flat_map (λ k. shapes_in k b) ks) (lines_in k b m caller_of)
+    (flat_map (λ k. lines_in k b m caller_of) ks)
+    (fills_entries b m caller_of h k (in_order (section_space k) b)) (fills_sections b m caller_of h ks)
+
+pub month_fills : (b : Basin) (m : MonthRecord) (caller_of : ℕ → Option ℕ) (i : ℕ) → m.month ≡ run_month b i →
+    HasCalls b m caller_of → Fills b (due_for_month b i) (month_lines b m caller_of)
+unfolding month_lines due_in_month
 month_fills b m caller_of i is h =
     inr (
       line.Month m.month,
@@ -109,17 +118,9 @@ month_fills b m caller_of i is h =
       ap (λ x. fits b (shape.Month x) (line.Month m.month)) (sym is) ∙ fits_itself b (line.Month m.month) refl,
       refl,
       refl,
-      fills_both b _ _ _ _ (fills_each b (λ v. shape.Opening v) (λ v. line.Opening v (slice_index m.opening v)) (λ v. fits_itself b (line.Opening v (slice_index m.opening v)) refl) (λ v. refl) (places_of b.reservoirs))
-          (fills_both b _ _ _ _ (fills_each b (λ v. shape.Evaporated v) (λ v. line.Evaporated v (slice_index m.evaporated v)) (λ v. fits_itself b (line.Evaporated v (slice_index m.evaporated v)) refl) (λ v. refl) (places_of b.reservoirs))
-          (fills_both b _ _ _ _ (fills_each b (λ n. shape.Returned n) (λ n. line.Returned n (slice_index m.returned n)) (λ n. fits_itself b (line.Returned n (slice_index m.returned n)) refl) (λ n. refl) (return_nodes b))
-          (fills_both b _ _ _ _ (fills_each b (λ r. shape.Used r) (λ r. line.Used r (slice_index m.used r)) (λ r. fits_itself b (line.Used r (slice_index m.used r)) refl) (λ r. refl) (rights_with_volume b))
-          (fills_both b _ _ _ _ (fills_each b (λ e. shape.Flow e) (λ e. line.Flow e (slice_index m.plan.flow e)) (λ e. fits_itself b (line.Flow e (slice_index m.plan.flow e)) refl) (λ e. refl) (places_of b.links))
-          (fills_both b _ _ _ _ (fills_each b (λ r. shape.Deliver r) (λ r. line.Deliver r (slice_index m.delivered r) (slice_index m.want r)) (λ r. fits_itself b (line.Deliver r (slice_index m.delivered r) (slice_index m.want r)) refl) (λ r. refl) (seniors_first b))
-          (fills_both b _ _ _ _ (fills_each b (λ n. shape.Outflow n) (λ n. line.Outflow n (slice_index m.plan.out n)) (λ n. fits_itself b (line.Outflow n (slice_index m.plan.out n)) refl) (λ n. refl) (outlets b))
-          (fills_both b _ _ _ _ (fills_calls b m caller_of h (seniors_first b))
-          (fills_both b _ _ _ _ (fills_called b m caller_of h (seniors_first b))
-          (fills_both b _ _ _ _ (fills_each b (λ v. shape.Closing v) (λ v. line.Closing v (slice_index m.closing v)) (λ v. fits_itself b (line.Closing v (slice_index m.closing v)) refl) (λ v. refl) (places_of b.reservoirs))
-          (inr (line.End, [], [], fits_itself b line.End refl, refl, refl, refl))))))))))),
+      fills_both b (flat_map (λ k. shapes_in k b) SECTIONS) (shape.End ∷ [])
+          (flat_map (λ k. lines_in k b m caller_of) SECTIONS) (line.End ∷ [])
+          (fills_sections b m caller_of h SECTIONS) (fills_one b line.End refl refl),
     )
 
 -- The callers of a record are such as a text may have.

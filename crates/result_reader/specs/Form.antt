@@ -1,12 +1,20 @@
 -- The form of a result text: which lists of lines fill the lines that are due.
-use Rattle.std.specs.Prelude.{◌≡◌, ℕ, Bool, true, false, ◌&&◌, List, [], ◌∷◌, ◌++◌, map, filter, length, is_some, IsTrue, ◌⊎◌}
+use Rattle.std.specs.Prelude.{◌≡◌, ℕ, Bool, true, false, ◌&&◌, List, [], ◌∷◌, ◌++◌, map, length, is_some, IsTrue, ◌⊎◌, if◌then◌else◌}
 use Rattle.std.specs.List.{flat_map, list_any}
 use Rattle.std.specs.Str.{bytes_eq}
 use Rattle.water_model.specs.Basin.{is_senior, taking_node}
+use Rattle.water_model.specs.Entries.{in_order}
 use Rattle.water_model.specs.Hydrology.{run_month}
-use Rattle.water_model.specs.Places.{numbers_from, places_of, members_from, seniors_first, return_nodes, outlets, rights_with_volume}
+use Rattle.water_model.specs.Places.{numbers_from, members_from}
+use Rattle.water_model.specs.Quantities.{has_line}
+use Rattle.water_model.specs.Text.{section_space}
 use Rattle.water_model.specs.declared.item.Item.{Item}
 use Rattle.water_model.specs.declared.item.Item.TheVariants as line
+use Rattle.water_model.specs.declared.item.Section.{Section}
+use Rattle.water_model.specs.declared.item.Section.TheVariants as section
+use Rattle.water_model.specs.declared.item.TheConstants.{SECTIONS}
+use Rattle.water_model.specs.declared.quantity.Quantity.{Quantity}
+use Rattle.water_model.specs.declared.quantity.Quantity.TheVariants as quantity
 use Rattle.water_model.specs.declared.types.Basin.{Basin}
 use Rattle.result_reader.specs.declared.shape.Shape.{Shape}
 use Rattle.result_reader.specs.declared.shape.Shape.TheVariants as shape
@@ -16,38 +24,36 @@ abbrev pub shape_of : Item → Shape
 shape_of line.Title = shape.Title
 shape_of (line.Run first months) = shape.Run
 shape_of (line.Month month) = shape.Month month
-shape_of (line.Opening reservoir amount) = shape.Opening reservoir
-shape_of (line.Evaporated reservoir amount) = shape.Evaporated reservoir
-shape_of (line.Returned node amount) = shape.Returned node
-shape_of (line.Used right amount) = shape.Used right
-shape_of (line.Flow link amount) = shape.Flow link
+shape_of (line.Amount q entry amount) = shape.Amount q entry
 shape_of (line.Deliver right amount want) = shape.Deliver right
-shape_of (line.Outflow node amount) = shape.Outflow node
 shape_of (line.Call right) = shape.Call right
 shape_of (line.Member node) = shape.Member node
 shape_of (line.Called right by') = shape.Called right
-shape_of (line.Closing reservoir amount) = shape.Closing reservoir
 shape_of line.End = shape.End
 shape_of (line.Done months) = shape.Done months
+
+-- a number for each quantity
+abbrev pub number_of : Quantity → ℕ
+number_of quantity.Opening = 0
+number_of quantity.Evaporated = 1
+number_of quantity.Returned = 2
+number_of quantity.Used = 3
+number_of quantity.Flow = 4
+number_of quantity.Outflow = 5
+number_of quantity.Closing = 6
 
 -- a number for each word, and the month, the number or the name
 abbrev pub key_of : Shape → List ℕ
 key_of shape.Title = 0 ∷ []
 key_of shape.Run = 1 ∷ []
 key_of (shape.Month month) = 2 ∷ month.year ∷ month.month ∷ []
-key_of (shape.Opening reservoir) = 3 ∷ reservoir ∷ []
-key_of (shape.Evaporated reservoir) = 4 ∷ reservoir ∷ []
-key_of (shape.Returned node) = 5 ∷ node ∷ []
-key_of (shape.Used right) = 6 ∷ right ∷ []
-key_of (shape.Flow link) = 7 ∷ link ∷ []
-key_of (shape.Deliver right) = 8 ∷ right ∷ []
-key_of (shape.Outflow node) = 9 ∷ node ∷ []
-key_of (shape.Call right) = 10 ∷ right ∷ []
-key_of (shape.Member node) = 11 ∷ node ∷ []
-key_of (shape.Called right) = 12 ∷ right ∷ []
-key_of (shape.Closing reservoir) = 13 ∷ reservoir ∷ []
-key_of shape.End = 14 ∷ []
-key_of (shape.Done months) = 15 ∷ months ∷ []
+key_of (shape.Amount q entry) = 3 ∷ number_of q ∷ entry ∷ []
+key_of (shape.Deliver right) = 4 ∷ right ∷ []
+key_of (shape.Call right) = 5 ∷ right ∷ []
+key_of (shape.Member node) = 6 ∷ node ∷ []
+key_of (shape.Called right) = 7 ∷ right ∷ []
+key_of shape.End = 8 ∷ []
+key_of (shape.Done months) = 9 ∷ months ∷ []
 
 unfoldable pub is_same_shape : Shape → Shape → Bool
 is_same_shape a b = bytes_eq (key_of a) (key_of b)
@@ -83,25 +89,20 @@ Fills b (due ∷ dues) items =
     ⊎ ((item : Item) × (members others : List Item) × IsTrue (fits b due item) × IsFollowedBy b item members
     × (items ≡ item ∷ (members ++ others)) × Fills b dues others)
 
--- the diversions and zones, seniors first
-abbrev pub takers : Basin → List ℕ
-takers b = filter (λ r. is_some (taking_node b r)) (seniors_first b)
+-- the line that is due for an entry of a section, if one is: a `called` line for the rights that take water
+abbrev pub shapes_at : Section → Basin → ℕ → List Shape
+shapes_at (section.Amounts q) b entry = if has_line b q entry then shape.Amount q entry ∷ [] else []
+shapes_at section.Deliveries b r = shape.Deliver r ∷ []
+shapes_at section.Calls b r = shape.Call r ∷ []
+shapes_at section.Called b r = if is_some (taking_node b r) then shape.Called r ∷ [] else []
+
+-- the lines that are due of a section, entry by entry
+abbrev pub shapes_in : Section → Basin → List Shape
+shapes_in s b = flat_map (shapes_at s b) (in_order (section_space s) b)
 
 -- the lines that are due in each month, behind its `month` line
 unfoldable pub due_in_month : Basin → List Shape
-due_in_month b = flat_map (λ section. section) (
-    map (λ v. shape.Opening v) (places_of b.reservoirs)
-    ∷ map (λ v. shape.Evaporated v) (places_of b.reservoirs)
-    ∷ map (λ n. shape.Returned n) (return_nodes b)
-    ∷ map (λ r. shape.Used r) (rights_with_volume b)
-    ∷ map (λ e. shape.Flow e) (places_of b.links)
-    ∷ map (λ r. shape.Deliver r) (seniors_first b)
-    ∷ map (λ n. shape.Outflow n) (outlets b)
-    ∷ map (λ r. shape.Call r) (seniors_first b)
-    ∷ map (λ r. shape.Called r) (takers b)
-    ∷ map (λ v. shape.Closing v) (places_of b.reservoirs)
-    ∷ (shape.End ∷ [])
-    ∷ [])
+due_in_month b = flat_map (λ s. shapes_in s b) SECTIONS ++ shape.End ∷ []
 
 -- the lines that are due for month i
 abbrev pub due_for_month : Basin → ℕ → List Shape

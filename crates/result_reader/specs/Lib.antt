@@ -1,6 +1,6 @@
 pub mod Form
 pub mod Due
-pub mod Sections
+pub mod Marks
 pub mod Progress
 pub mod Names
 pub mod NamePlaces

@@ -3,9 +3,9 @@ use Rattle.std.specs.Prelude.{◌≡◌, ℕ, List, Option}
 use Rattle.std.specs.Borrow.{Bor}
 use Rattle.std.specs.Str.{bytes_eq}
 use Rattle.indexmap.specs.IndexMap.{IndexMap, get_by}
+use Rattle.water_model.specs.declared.space.Space.{Space}
 use Rattle.water_model.specs.declared.types.Basin.{Basin}
 use Rattle.result_reader.specs.Names.{named}
-use Rattle.result_reader.specs.declared.names.Space.{Space}
 
 -- what a map has at a name
 abbrev pub kept_at : {S : Type 0} → IndexMap (Bor (List ℕ)) ℕ S → List ℕ → Option ℕ

@@ -1,6 +1,6 @@
 -- Lines that a text of a basin may have.
 use Rattle.std.specs.Prelude.{◌≤◌, ◌^◌}
-use Rattle.result_text.specs.Range.{IsOfBasin}
+use Rattle.water_model.specs.OfBasin.{IsOfBasin}
 use Rattle.water_model.specs.declared.item.Item.{Item}
 use Rattle.water_model.specs.declared.item.Item.TheVariants as line
 use Rattle.water_model.specs.declared.types.Basin.{Basin}
@@ -10,17 +10,11 @@ abbrev pub HasTextNumbers : Item → Type 0
 HasTextNumbers line.Title = Unit {0}
 HasTextNumbers (line.Run first months) = (1 ≤ months) × (months ≤ 1200)
 HasTextNumbers (line.Month month) = Unit {0}
-HasTextNumbers (line.Opening reservoir amount) = amount ≤ 10 ^ 15
-HasTextNumbers (line.Evaporated reservoir amount) = amount ≤ 10 ^ 15
-HasTextNumbers (line.Returned node amount) = amount ≤ 10 ^ 15
-HasTextNumbers (line.Used right amount) = amount ≤ 10 ^ 15
-HasTextNumbers (line.Flow link amount) = amount ≤ 10 ^ 15
+HasTextNumbers (line.Amount q entry amount) = amount ≤ 10 ^ 15
 HasTextNumbers (line.Deliver right amount want) = (amount ≤ 10 ^ 15) × (want ≤ 10 ^ 15)
-HasTextNumbers (line.Outflow node amount) = amount ≤ 10 ^ 15
 HasTextNumbers (line.Call right) = Unit {0}
 HasTextNumbers (line.Member node) = Unit {0}
 HasTextNumbers (line.Called right by') = Unit {0}
-HasTextNumbers (line.Closing reservoir amount) = amount ≤ 10 ^ 15
 HasTextNumbers line.End = Unit {0}
 HasTextNumbers (line.Done months) = (1 ≤ months) × (months ≤ 1200)
 

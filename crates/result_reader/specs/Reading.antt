@@ -8,16 +8,17 @@ use Rattle.water_text.specs.Amounts.{read_plain}
 use Rattle.water_text.specs.Months.{read_month}
 use Rattle.water_text.specs.Names.{is_name}
 use Rattle.water_text.specs.declared.month.Month.{Month}
+use Rattle.water_model.specs.Quantities.{space_of}
 use Rattle.water_model.specs.declared.item.Item.{Item}
 use Rattle.water_model.specs.declared.item.Item.TheVariants as line
+use Rattle.water_model.specs.declared.space.Space.{Space}
+use Rattle.water_model.specs.declared.space.Space.TheVariants as space
 use Rattle.water_model.specs.declared.types.Basin.{Basin}
 use Rattle.result_reader.specs.Due.{due_after, all_due}
 use Rattle.result_reader.specs.Names.{named}
-use Rattle.result_reader.specs.Words.{word_of, space_of, amount_item}
+use Rattle.result_reader.specs.Words.{word_of}
 use Rattle.result_reader.specs.declared.bad_line.BadLine.{BadLine}
 use Rattle.result_reader.specs.declared.bad_line.BadLine.TheVariants as bad
-use Rattle.result_reader.specs.declared.names.Space.{Space}
-use Rattle.result_reader.specs.declared.names.Space.TheVariants as space
 use Rattle.result_reader.specs.declared.words.Word.{Word}
 use Rattle.result_reader.specs.declared.words.Word.TheVariants as word
 
@@ -78,9 +79,9 @@ item_with b word.Run fields =
     and_then (two_fields fields) (λ f. and_then (month_field f.0) (λ first. and_then (count_field f.1) (λ months.
     Ok (line.Run first months))))
 item_with b word.Month fields = and_then (one_field fields) (λ x. and_then (month_field x) (λ month. Ok (line.Month month)))
-item_with b (word.Amount kind) fields =
+item_with b (word.Amount q) fields =
     and_then (two_fields fields) (λ f. and_then (name_field f.0) (λ name. and_then (amount_field f.1) (λ amount.
-    and_then (entry_named b (space_of kind) name) (λ at. Ok (amount_item kind at amount)))))
+    and_then (entry_named b (space_of q) name) (λ entry. Ok (line.Amount q entry amount)))))
 item_with b word.Deliver fields =
     and_then (three_fields fields) (λ f. and_then (name_field f.0) (λ name. and_then (amount_field f.1) (λ amount.
     and_then (amount_field f.2) (λ want. and_then (entry_named b space.Rights name) (λ right. Ok (line.Deliver right amount want))))))

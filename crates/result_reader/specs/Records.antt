@@ -5,6 +5,8 @@ use Rattle.water_model.specs.History.{FitsBasin, IsShort, cut_of}
 use Rattle.water_model.specs.Hydrology.{run_month, in_year, inflow_at, evaporation, returned_at, stored_at, used_of, want_of}
 use Rattle.water_model.specs.Lookups.{of_entry}
 use Rattle.water_model.specs.Plans.{IsPlan, delivery}
+use Rattle.water_model.specs.Quantities.{amounts_of}
+use Rattle.water_model.specs.declared.quantity.Quantity.{Quantity}
 use Rattle.water_model.specs.declared.types.Basin.{Basin}
 use Rattle.water_model.specs.declared.types.Inflows.{Inflows}
 use Rattle.water_model.specs.declared.types.MonthRecord.{MonthRecord}
@@ -40,15 +42,9 @@ AreTextAmounts amounts = All (λ n. n ≤ 10 ^ 15) amounts
 
 -- the amounts that lines give are at most 10^15
 pub record HasTextAmounts (m : MonthRecord) : Type 0 where
-  pub opening : AreTextAmounts m.opening
-  pub evaporated : AreTextAmounts m.evaporated
-  pub returned : AreTextAmounts m.returned
-  pub used : AreTextAmounts m.used
-  pub flow : AreTextAmounts m.plan.flow
+  pub listed : (q : Quantity) → AreTextAmounts (amounts_of q m)
   pub delivered : AreTextAmounts m.delivered
   pub want : AreTextAmounts m.want
-  pub out : AreTextAmounts m.plan.out
-  pub closing : AreTextAmounts m.closing
 
 pub record IsTextMonth (b : Basin) (series : Inflows) (before : List MonthRecord) (m : MonthRecord) : Type 0 where
   pub month : IsMonthBehind b series before m

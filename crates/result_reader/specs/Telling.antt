@@ -6,6 +6,7 @@ use Rattle.water_model.specs.CutSets.{with_set}
 use Rattle.water_model.specs.History.{cut_of}
 use Rattle.water_model.specs.Hydrology.{inflow_at, stored_at}
 use Rattle.water_model.specs.Places.{places_of}
+use Rattle.water_model.specs.Quantities.{amounts_of, with_amounts}
 use Rattle.water_model.specs.declared.item.Item.{Item}
 use Rattle.water_model.specs.declared.item.Item.TheVariants as line
 use Rattle.water_model.specs.declared.types.Basin.{Basin}
@@ -59,24 +60,17 @@ abbrev pub tell : Basin → Inflows → Told → Item → Told
 tell b series t line.Title = t
 tell b series t (line.Run first months) = t
 tell b series t (line.Month month) = record { months = t.months; now = blank_month b (length t.months) month; calling = None; called = 0 }
-tell b series t (line.Opening v amount) = with_now t (record t.now { opening = slice_set t.now.opening v amount })
-tell b series t (line.Evaporated v amount) = with_now t (record t.now { evaporated = slice_set t.now.evaporated v amount })
-tell b series t (line.Returned n amount) = with_now t (record t.now { returned = slice_set t.now.returned n amount })
-tell b series t (line.Used r amount) = with_now t (record t.now { used = slice_set t.now.used r amount })
-tell b series t (line.Flow e amount) =
-    with_now t (record t.now { plan = record t.now.plan { flow = slice_set t.now.plan.flow e amount } })
+tell b series t (line.Amount q entry amount) =
+    with_now t (with_amounts q t.now (slice_set (amounts_of q t.now) entry amount))
 tell b series t (line.Deliver r amount want) = with_now t (record t.now {
   delivered = slice_set t.now.delivered r amount;
   want = slice_set t.now.want r want;
   plan = record t.now.plan { take = slice_set t.now.plan.take r (if is_some (taking_node b r) then amount else 0) };
 })
-tell b series t (line.Outflow n amount) =
-    with_now t (record t.now { plan = record t.now.plan { out = slice_set t.now.plan.out n amount } })
 tell b series t (line.Call r) =
     record t { now = record t.now { cuts = with_set t.now.cuts r (Some (replicate (length b.nodes) false)) }; calling = Some r }
 tell b series t (line.Member n) = with_member t t.calling n
 tell b series t (line.Called r caller) = record t { calling = None; called = t.called + 1 }
-tell b series t (line.Closing v amount) = with_now t (record t.now { closing = slice_set t.now.closing v amount })
 tell b series t line.End = record t { months = t.months ++ with_supply b series t.now ∷ []; calling = None }
 tell b series t (line.Done months) = t
 

@@ -3,36 +3,15 @@ ghost use Rattle.std.specs.Prelude.{◌≡◌, ◌<◌, List, ℕ, OnOk, IfOk, S
 ghost use Rattle.std.specs.Option.{option_or};
 ghost use Rattle.std.specs.Str.{bytes_eq};
 ghost use Rattle.water_model.specs.Valid.{IsValidBasin};
-ghost use Rattle.result_reader.specs.Names.{count_in, name_in, named};
+ghost use Rattle.water_model.specs.Entries.{count_in, name_in};
+ghost use Rattle.water_model.specs.declared.space.Space.TheVariants.{Nodes, Links, Reservoirs, Rights};
+ghost use Rattle.result_reader.specs.Names.{named};
 ghost use Rattle.result_reader.specs.NamePlaces.{kept_at, KeepsNames};
-ghost use Rattle.result_reader.specs.declared.names.Space.TheVariants.{Nodes, Links, Reservoirs, Rights};
 
 use indexmap::IndexMap;
 use std::alloc::{AllocError, Global};
+use water_model::space::{Space, count_in};
 use water_model::types::Basin;
-
-/// The entries among which a name is sought.
-#[derive(Clone, Copy)]
-pub enum Space {
-    Nodes,
-    Links,
-    /// Reservoirs, each by the name of its node.
-    Reservoirs,
-    Rights,
-}
-
-/// How many entries a space has.
-fn count_in(space: Space, basin: &Basin) -> u32
-    requires { IsValidBasin basin.now }
-    ensures { result ≡ count_in space basin.now }
-{
-    match space {
-        Space::Nodes => basin.nodes.len() as u32,
-        Space::Links => basin.links.len() as u32,
-        Space::Reservoirs => basin.reservoirs.len() as u32,
-        Space::Rights => basin.rights.len() as u32,
-    }
-}
 
 /// The name of an entry.
 fn name_in<'b>(space: Space, basin: &'b Basin, at: usize) -> &'b [u8]

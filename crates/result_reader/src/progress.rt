@@ -1,6 +1,6 @@
 //! How far a reader has come.
 ghost use Rattle.std.specs.Prelude.{◌≡◌, ◌<◌, length, false};
-ghost use Rattle.result_text.specs.Range.{IsOfBasin};
+ghost use Rattle.water_model.specs.OfBasin.{IsOfBasin};
 ghost use Rattle.water_model.specs.Valid.{IsValidBasin};
 ghost use Rattle.water_model.specs.declared.item.Item.TheVariants as line;
 ghost use Rattle.result_reader.specs.Due as due;

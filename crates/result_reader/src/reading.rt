@@ -8,9 +8,11 @@ use crate::fields::{
     amount_field, count_field, cut, month_field, name_field, no_field, one_field, three_fields,
     two_fields,
 };
-use crate::names::{Names, Space};
-use crate::words::{Amount, Word};
+use crate::names::Names;
+use crate::words::Word;
 use water_model::item::Item;
+use water_model::quantity::Quantity;
+use water_model::space::Space;
 
 /// The entry that has the name. Where none has it, no such line may come.
 fn entry_named(names: &Names, space: Space, name: &[u8]) -> Result<u32, BadLine>
@@ -49,14 +51,18 @@ fn month(names: &Names, rest: Option<&[u8]>) -> Result<Item, BadLine>
 }
 
 #[tactic(auto, unfolding(crate::specs::Reading::item_with))]
-fn amount(names: &Names, kind: Amount, rest: Option<&[u8]>) -> Result<Item, BadLine>
-    ensures { result ≡ reading.item_with names.now.basin.now (word.Amount kind) (reading.pieces_behind rest.entry) }
+fn amount(names: &Names, quantity: Quantity, rest: Option<&[u8]>) -> Result<Item, BadLine>
+    ensures { result ≡ reading.item_with names.now.basin.now (word.Amount quantity) (reading.pieces_behind rest.entry) }
 {
     let (name, amount) = two_fields(rest)?;
     let name = name_field(name)?;
     let amount = amount_field(amount)?;
-    let at = entry_named(names, kind.space(), name)?;
-    Ok(kind.item(at, amount))
+    let entry = entry_named(names, quantity.space(), name)?;
+    Ok(Item::Amount {
+        quantity,
+        entry,
+        amount,
+    })
 }
 
 #[tactic(auto, unfolding(crate::specs::Reading::item_with))]
@@ -129,7 +135,7 @@ fn item_with(names: &Names, word: Word, rest: Option<&[u8]>) -> Result<Item, Bad
         Word::Title => title(names, rest),
         Word::Run => run(names, rest),
         Word::Month => month(names, rest),
-        Word::Amount(kind) => amount(names, kind, rest),
+        Word::Amount(quantity) => amount(names, quantity, rest),
         Word::Deliver => delivery(names, rest),
         Word::Call => call(names, rest),
         Word::Member => member(names, rest),

@@ -4,6 +4,7 @@ ghost use Rattle.result_reader.specs.Form as form;
 ghost use Rattle.result_reader.specs.Due as due;
 
 use water_model::item::Item;
+use water_model::quantity::Quantity;
 use water_text::month::Month;
 
 /// A line that is due: its word, with its month, its number of months or its first name.
@@ -12,17 +13,11 @@ pub enum Shape {
     Title,
     Run,
     Month { month: Month },
-    Opening { reservoir: u32 },
-    Evaporated { reservoir: u32 },
-    Returned { node: u32 },
-    Used { right: u32 },
-    Flow { link: u32 },
+    Amount { quantity: Quantity, entry: u32 },
     Deliver { right: u32 },
-    Outflow { node: u32 },
     Call { right: u32 },
     Member { node: u32 },
     Called { right: u32 },
-    Closing { reservoir: u32 },
     End,
     Done { months: u32 },
 }
@@ -35,17 +30,15 @@ pub fn shape_of(item: &Item) -> Shape
         Item::Title => Shape::Title,
         Item::Run { .. } => Shape::Run,
         Item::Month { month } => Shape::Month { month },
-        Item::Opening { reservoir, .. } => Shape::Opening { reservoir },
-        Item::Evaporated { reservoir, .. } => Shape::Evaporated { reservoir },
-        Item::Returned { node, .. } => Shape::Returned { node },
-        Item::Used { right, .. } => Shape::Used { right },
-        Item::Flow { link, .. } => Shape::Flow { link },
+        Item::Amount {
+            quantity,
+            entry,
+            ..
+        } => Shape::Amount { quantity, entry },
         Item::Deliver { right, .. } => Shape::Deliver { right },
-        Item::Outflow { node, .. } => Shape::Outflow { node },
         Item::Call { right } => Shape::Call { right },
         Item::Member { node } => Shape::Member { node },
         Item::Called { right, .. } => Shape::Called { right },
-        Item::Closing { reservoir, .. } => Shape::Closing { reservoir },
         Item::End => Shape::End,
         Item::Done { months } => Shape::Done { months },
     }

@@ -1,21 +1,8 @@
 //! The words that lines begin with.
 ghost use Rattle.std.specs.Prelude.{◌≡◌};
-ghost use Rattle.result_reader.specs.Words.{spelling_of, amount_spelling, word_of, space_of, amount_item};
+ghost use Rattle.result_reader.specs.Words.{spelling_of, word_of};
 
-use crate::names::Space;
-use water_model::item::Item;
-
-/// What an amount is of.
-#[derive(Clone, Copy)]
-pub enum Amount {
-    Opening,
-    Evaporated,
-    Returned,
-    Used,
-    Flow,
-    Outflow,
-    Closing,
-}
+use water_model::quantity::Quantity;
 
 /// The first word of a line.
 #[derive(Clone, Copy)]
@@ -23,8 +10,8 @@ pub enum Word {
     Title,
     Run,
     Month,
-    /// A line with the name of an entry and an amount of it.
-    Amount(Amount),
+    /// The word of a line with the name of an entry and an amount of it.
+    Amount(Quantity),
     Deliver,
     Call,
     Member,
@@ -37,72 +24,20 @@ const WORDS: [Word; 16] = [
     Word::Title,
     Word::Run,
     Word::Month,
-    Word::Amount(Amount::Opening),
-    Word::Amount(Amount::Evaporated),
-    Word::Amount(Amount::Returned),
-    Word::Amount(Amount::Used),
-    Word::Amount(Amount::Flow),
+    Word::Amount(Quantity::Opening),
+    Word::Amount(Quantity::Evaporated),
+    Word::Amount(Quantity::Returned),
+    Word::Amount(Quantity::Used),
+    Word::Amount(Quantity::Flow),
     Word::Deliver,
-    Word::Amount(Amount::Outflow),
+    Word::Amount(Quantity::Outflow),
     Word::Call,
     Word::Member,
     Word::Called,
-    Word::Amount(Amount::Closing),
+    Word::Amount(Quantity::Closing),
     Word::End,
     Word::Done,
 ];
-
-impl Amount {
-    fn text(self) -> &'static [u8]
-        ensures { result.now ≡ amount_spelling self }
-    {
-        match self {
-            Amount::Opening => b"open",
-            Amount::Evaporated => b"evap",
-            Amount::Returned => b"return",
-            Amount::Used => b"used",
-            Amount::Flow => b"flow",
-            Amount::Outflow => b"out",
-            Amount::Closing => b"close",
-        }
-    }
-
-    /// The entries that the amount is of one of.
-    pub fn space(self) -> Space
-        ensures { result ≡ space_of self }
-    {
-        match self {
-            Amount::Opening | Amount::Evaporated | Amount::Closing => Space::Reservoirs,
-            Amount::Returned | Amount::Outflow => Space::Nodes,
-            Amount::Flow => Space::Links,
-            Amount::Used => Space::Rights,
-        }
-    }
-
-    /// The line of the entry at a place.
-    pub fn item(self, at: u32, amount: u64) -> Item
-        ensures { result ≡ amount_item self at amount }
-    {
-        match self {
-            Amount::Opening => Item::Opening {
-                reservoir: at,
-                amount,
-            },
-            Amount::Evaporated => Item::Evaporated {
-                reservoir: at,
-                amount,
-            },
-            Amount::Returned => Item::Returned { node: at, amount },
-            Amount::Used => Item::Used { right: at, amount },
-            Amount::Flow => Item::Flow { link: at, amount },
-            Amount::Outflow => Item::Outflow { node: at, amount },
-            Amount::Closing => Item::Closing {
-                reservoir: at,
-                amount,
-            },
-        }
-    }
-}
 
 impl Word {
     fn text(self) -> &'static [u8]
@@ -112,7 +47,7 @@ impl Word {
             Word::Title => b"river-result",
             Word::Run => b"run",
             Word::Month => b"month",
-            Word::Amount(kind) => kind.text(),
+            Word::Amount(quantity) => quantity.word(),
             Word::Deliver => b"deliver",
             Word::Call => b"call",
             Word::Member => b"in",

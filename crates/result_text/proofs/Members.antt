@@ -10,8 +10,7 @@ use Rattle.water_model.specs.Text.{call_items}
 use Rattle.water_model.specs.declared.item.Item.TheVariants as line
 use Rattle.water_model.specs.declared.types.Basin.{Basin}
 use Rattle.water_model.specs.declared.types.MonthRecord.{MonthRecord}
-use Rattle.result_text.specs.Sections.{lines_at, lines_in}
-use Rattle.result_text.specs.declared.section.Section.TheVariants as section
+use Rattle.result_text.specs.Members.{member_at, members_of}
 
 -- a line for each place that a set has, told place by place
 members : (g : ℕ → Bool) (set : List Bool) (from : ℕ) → ((k : ℕ) → g (from + k) ≡ has set k) →
@@ -34,14 +33,14 @@ members g (held ∷ set) from h = by_test held (ap g at_first ∙ h 0) (members 
 
 -- a right's lines are its call and then those of its set
 pub call_lines : (b : Basin) (m : MonthRecord) (right : ℕ) → IfSome (cut_of m right) (λ set. length set ≡ length b.nodes) → is_some (cut_of m right) ≡ true →
-    line.Call right ∷ lines_in (section.Members right) b m ≡ call_items right (cut_of m right)
+    line.Call right ∷ members_of b m right ≡ call_items right (cut_of m right)
 call_lines b m right sized some = by_set (cut_of m right) refl sized some
   where
     by_set : (o : Option (List Bool)) → cut_of m right ≡ o → IfSome o (λ set. length set ≡ length b.nodes) → is_some o ≡ true →
-        line.Call right ∷ lines_in (section.Members right) b m ≡ call_items right o
+        line.Call right ∷ members_of b m right ≡ call_items right o
     by_set None e sized some = cc
     by_set (Some set) e sized some =
         let held : ℕ → Bool = λ n. option_map_or (λ cut. has cut n) (cut_of m right) false in
         let held_is = λ (k : ℕ). ap held (zero-add k) ∙ ap (λ o. option_map_or (λ cut. has cut k) o false) e in
         ap (λ lines. line.Call right ∷ lines)
-        (ap (λ n. flat_map (lines_at (section.Members right) b m) (numbers_from 0 n)) (sym sized) ∙ members held set 0 held_is)
+        (ap (λ n. flat_map (member_at m right) (numbers_from 0 n)) (sym sized) ∙ members held set 0 held_is)

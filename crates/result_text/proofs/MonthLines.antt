@@ -1,25 +1,22 @@
--- The sections of a month are its lines.
-use Rattle.std.proofs.Common.{◌≡◌, Bool, true, false, List, [], ◌∷◌, refl, map}
-use Rattle.std.specs.Prelude.{filter, if◌then◌else◌}
+-- A month's text in three pieces.
+use Rattle.std.proofs.Common.{◌≡◌, ℕ, List, [], ◌∷◌, ◌++◌, Option, ap, ◌∙◌, sym, append-nil}
 use Rattle.std.specs.List.{flat_map}
-use Rattle.std.proofs.lemmas.List.Concat.{flat_map_single}
-use Rattle.water_model.specs.Places.{numbers_from}
-use Rattle.water_model.specs.Text.{items_of_month, month_sections}
+use Rattle.std.proofs.lemmas.Grind.{flat_map-append}
+use Rattle.water_model.specs.Text.{lines_in, month_lines}
+use Rattle.water_model.specs.declared.item.Item.{Item}
+use Rattle.water_model.specs.declared.item.Item.TheVariants as line
+use Rattle.water_model.specs.declared.item.TheConstants.{SECTIONS}
 use Rattle.water_model.specs.declared.types.Basin.{Basin}
 use Rattle.water_model.specs.declared.types.MonthRecord.{MonthRecord}
-use Rattle.result_text.specs.Sections.{lines_in}
-use Rattle.result_text.specs.declared.section.TheConstants.{SECTIONS}
 
--- a line for each entry that passes a test
-flat_map_if : {X Y : Type 0} (p : X → Bool) (f : X → Y) (xs : List X) → flat_map (λ x. if p x then f x ∷ [] else []) xs ≡ map f (filter p xs)
-flat_map_if p f [] = refl
-flat_map_if p f (x ∷ xs) = by_test (p x) refl (flat_map_if p f xs)
-  where
-    by_test : (t : Bool) → p x ≡ t → flat_map (λ x. if p x then f x ∷ [] else []) xs ≡ map f (filter p xs) →
-        flat_map (λ x. if p x then f x ∷ [] else []) (x ∷ xs) ≡ map f (filter p (x ∷ xs))
-    by_test true e rest = rw (e, rest) refl
-    by_test false e rest = rw (e, rest) refl
+-- the lines of all sections
+abbrev pub inner : Basin → MonthRecord → (ℕ → Option ℕ) → List Item
+inner b m caller_of = flat_map (λ section. lines_in section b m caller_of) SECTIONS
 
-pub month_lines : (b : Basin) (m : MonthRecord) → flat_map (λ section. lines_in section b m) SECTIONS ≡ items_of_month b m
-unfolding month_sections numbers_from
-month_lines b m = simp (flat_map_single, flat_map_if)
+pub month_pieces : (h : Item → List ℕ) (b : Basin) (m : MonthRecord) (caller_of : ℕ → Option ℕ) →
+    flat_map h (line.Month m.month ∷ []) ++ (flat_map h (inner b m caller_of) ++ flat_map h (line.End ∷ []))
+    ≡ flat_map h (month_lines b m caller_of)
+unfolding month_lines
+month_pieces h b m caller_of =
+    ap (λ bytes. bytes ++ (flat_map h (inner b m caller_of) ++ flat_map h (line.End ∷ []))) (append-nil (h (line.Month m.month)))
+    ∙ ap (λ bytes. h (line.Month m.month) ++ bytes) (sym (flat_map-append h (inner b m caller_of) (line.End ∷ [])))

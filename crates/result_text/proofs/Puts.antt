@@ -44,6 +44,22 @@ pub Puts-first : {Y E : Type 0} (h : Y → List ℕ) (y : Y) (ys : List Y) (old 
 Puts-first h y ys old mid new r here further =
     Puts-then old mid new r (h y) (flat_map h ys) (subst (λ (piece : List ℕ). Appends old mid piece) (append-nil (h y)) here) further
 
+-- Three pieces, of which the first fails, or the second, or all so far were put.
+
+pub Puts-cut : {E : Type 0} (old new : Option (List ℕ)) (r : Result (Unit {0}) E) (a b : List ℕ) → IsErr r →
+    PutsFront old new a → Puts old new r (a ++ b)
+Puts-cut old new r a b failed k = PutsFront-fails old new r (a ++ b) failed (PutsFront-cut old new a b k)
+
+pub Puts-second : {E : Type 0} (old mid new : Option (List ℕ)) (r : Result (Unit {0}) E) (a b c : List ℕ) → IsErr r →
+    Appends old mid a → PutsFront mid new b → Puts old new r (a ++ (b ++ c))
+Puts-second old mid new r a b c failed h k =
+    PutsFront-fails old new r (a ++ (b ++ c)) failed
+    (PutsFront-then old mid new a (b ++ c) h (PutsFront-cut mid new b c k))
+
+pub Puts-third : {E : Type 0} (old mid next new : Option (List ℕ)) (r : Result (Unit {0}) E) (a b c : List ℕ) →
+    Appends old mid a → Appends mid next b → Puts next new r c → Puts old new r (a ++ (b ++ c))
+Puts-third old mid next new r a b c h k l = Puts-then old mid new r a (b ++ c) h (Puts-then mid next new r b c k l)
+
 -- The pieces of the elements of a list, one element after another. Each element has items, and each item a piece.
 
 more : {X Y : Type 0} (f : X → List Y) (xs : List X) (k : ℕ) (x : X) → slice_get xs k ≡ Some x → flat_map f (take (suc k) xs) ≡ flat_map f (take k xs) ++ f x

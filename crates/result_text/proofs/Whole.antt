@@ -9,13 +9,13 @@ use Rattle.std.proofs.lemmas.Grind.{flat_map-append}
 use Rattle.water_edge.specs.Edge.{Puts}
 use Rattle.water_text.specs.Months.{IsMonth}
 use Rattle.water_model.specs.History.{Follows, IsShort, cut_of}
-use Rattle.water_model.specs.Hydrology.{run_month}
 use Rattle.water_model.specs.Spelling.{whole_line}
 use Rattle.water_model.specs.Text.{items_of_head, items_of_month, items_of_tail, text_bytes}
-use Rattle.water_model.specs.Valid.{IsValidBasin, IsValidRun}
+use Rattle.water_model.specs.Valid.{IsValidBasin}
 use Rattle.water_model.specs.declared.types.Basin.{Basin}
 use Rattle.water_model.specs.declared.types.Inflows.{Inflows}
 use Rattle.water_model.specs.declared.types.MonthRecord.{MonthRecord}
+use Rattle.water_model.proofs.Histories.{IsMonth-run_month}
 use Rattle.result_text.specs.Begun.{begun_bytes}
 use Rattle.result_text.specs.Range.{FitsText}
 use Rattle.result_text.proofs.Puts.{Puts-then}
@@ -80,13 +80,6 @@ sets_sized b series before m f right = by_range (cases_lt right (length b.rights
       | inl short ↦ its_set l short
       | inr met ↦ no_set (f.met right l met)
     ]
-
--- the months of a run can be spelled
-pub IsMonth-run_month : (b : Basin) (i : ℕ) → IsValidRun b → i < b.months → IsMonth (run_month b i)
-IsMonth-run_month b i run l = record {
-  year = (omega (arith, run.first.year), omega (arith, run.ends, run.first.month));
-  month = (omega arith, omega arith);
-}
 
 -- a record that follows others in the run has a text
 pub FitsText-follows : (b : Basin) (series : Inflows) (before : List MonthRecord) (m : MonthRecord) → IsValidBasin b → Follows b series before m →

@@ -1,3 +1,3 @@
 pub mod Range
-pub mod Sections
+pub mod Members
 pub mod Begun

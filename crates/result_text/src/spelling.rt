@@ -3,11 +3,13 @@ ghost use Rattle.std.specs.Prelude.{◌≡◌, ◌+◌, ◌<◌, ◌≤◌, ◌+
 ghost use Rattle.std.specs.Fmt.{decimal};
 ghost use Rattle.water_text.specs.Months.{IsMonth, month_digits};
 ghost use Rattle.water_model.specs.Basin.{reservoir_name, node_name, link_name, right_name};
+ghost use Rattle.water_model.specs.Entries.{count_in, name_in};
+ghost use Rattle.water_model.specs.OfBasin.{IsOfBasin};
 ghost use Rattle.water_model.specs.Spelling.{whole_line};
 ghost use Rattle.water_model.specs.Valid.{IsValidBasin};
-ghost use Rattle.result_text.specs.Range.{IsOfBasin};
 
 use water_model::item::Item;
+use water_model::space::Space;
 use water_model::types::Basin;
 use water_text::line::Line;
 use water_text::month::Month;
@@ -47,6 +49,21 @@ pub fn name_of_right(basin: &Basin, right: u32) -> &Name
     ensures short { length result.now ≤ 32 }
 {
     &basin.rights[right as usize].name
+}
+
+/// The name of an entry.
+pub fn name_in(space: Space, basin: &Basin, entry: u32) -> &Name
+    requires basin { IsValidBasin basin.now }
+    requires entry { entry < count_in space basin.now }
+    ensures value { result.now ≡ name_in space basin.now entry }
+    ensures short { length result.now ≤ 32 }
+{
+    match space {
+        Space::Nodes => name_of_node(basin, entry),
+        Space::Links => name_of_link(basin, entry),
+        Space::Reservoirs => name_of_reservoir(basin, entry),
+        Space::Rights => name_of_right(basin, entry),
+    }
 }
 
 /// Appends a name behind a space.
@@ -100,29 +117,13 @@ pub fn spell(line: &mut Line, basin: &Basin, item: &Item)
             line.word(b"month");
             add_month(line, month);
         }
-        Item::Opening { reservoir, amount } => {
-            line.word(b"open");
-            add_name(line, name_of_reservoir(basin, reservoir));
-            add_number(line, amount);
-        }
-        Item::Evaporated { reservoir, amount } => {
-            line.word(b"evap");
-            add_name(line, name_of_reservoir(basin, reservoir));
-            add_number(line, amount);
-        }
-        Item::Returned { node, amount } => {
-            line.word(b"return");
-            add_name(line, name_of_node(basin, node));
-            add_number(line, amount);
-        }
-        Item::Used { right, amount } => {
-            line.word(b"used");
-            add_name(line, name_of_right(basin, right));
-            add_number(line, amount);
-        }
-        Item::Flow { link, amount } => {
-            line.word(b"flow");
-            add_name(line, name_of_link(basin, link));
+        Item::Amount {
+            quantity,
+            entry,
+            amount,
+        } => {
+            line.word(quantity.word());
+            add_name(line, name_in(quantity.space(), basin, entry));
             add_number(line, amount);
         }
         Item::Deliver {
@@ -134,11 +135,6 @@ pub fn spell(line: &mut Line, basin: &Basin, item: &Item)
             add_name(line, name_of_right(basin, right));
             add_number(line, amount);
             add_number(line, want);
-        }
-        Item::Outflow { node, amount } => {
-            line.word(b"out");
-            add_name(line, name_of_node(basin, node));
-            add_number(line, amount);
         }
         Item::Call { right } => {
             line.word(b"call");
@@ -152,11 +148,6 @@ pub fn spell(line: &mut Line, basin: &Basin, item: &Item)
             line.word(b"called");
             add_name(line, name_of_right(basin, right));
             add_name(line, name_of_right(basin, by));
-        }
-        Item::Closing { reservoir, amount } => {
-            line.word(b"close");
-            add_name(line, name_of_reservoir(basin, reservoir));
-            add_number(line, amount);
         }
         Item::End => line.word(b"end"),
         Item::Done { months } => {

@@ -4,18 +4,21 @@ ghost use Rattle.std.specs.List.{flat_map};
 ghost use Rattle.rights_roll.specs.Rolls.{IsRollOf};
 ghost use Rattle.water_edge.specs.Edge.{HasCause, Puts};
 ghost use Rattle.water_model.specs.History.{cut_of};
-ghost use Rattle.water_model.specs.Places.{numbers_from, seniors_first};
+ghost use Rattle.water_model.specs.Entries.{count_in};
+ghost use Rattle.water_model.specs.OfBasin.{IsOfBasin};
 ghost use Rattle.water_model.specs.Spelling.{whole_line};
-ghost use Rattle.water_model.specs.Text.{call_items, items_of_head, items_of_month, items_of_tail};
+ghost use Rattle.water_model.specs.Text.{call_items, calling_right, items_of_head, items_of_month, items_of_tail, lines_at, lines_in, section_space};
 ghost use Rattle.water_model.specs.Valid.{IsValidBasin};
-ghost use Rattle.result_text.specs.Range.{FitsText, IsOfBasin};
-ghost use Rattle.result_text.specs.Sections.{HasRight, count_of, entries_of, lines_at, lines_in};
+ghost use Rattle.water_model.specs.declared.item.TheConstants.{SECTIONS};
+ghost use Rattle.result_text.specs.Members.{member_at, members_of};
+ghost use Rattle.result_text.specs.Range.{FitsText};
 
-use crate::section::{SECTIONS, Section, entry_count, line_at};
+use crate::section::{is_member, line_at};
 use crate::spelling::spell;
 use rights_roll::roll::Roll;
 use water_edge::{Sink, SinkFailed};
-use water_model::item::Item;
+use water_model::item::{Item, SECTIONS, Section};
+use water_model::space::{count_in, entry_at};
 use water_model::types::{Basin, MonthRecord};
 use water_text::line::Line;
 
@@ -45,10 +48,9 @@ fn put_line<K: Sink>(
     requires roll { IsRollOf basin.now.rights roll.now }
     requires month { FitsText basin.now month.now }
     requires single { section ≢ Section.Calls }
-    requires right { HasRight section basin.now }
-    requires entry { entry < count_of section basin.now }
+    requires entry { entry < count_in (section_space section) basin.now }
     ensures text { Puts (K.taken sink.old) (K.taken sink.new) result
-        (flat_map (whole_line basin.now) (lines_at section basin.now month.now entry)) }
+        (flat_map (whole_line basin.now) (lines_at section basin.now month.now (calling_right basin.now month.now) entry)) }
     ensures cause { HasCause (K.faults sink.old) (K.faults sink.new) (IsErr result) }
 {
     match line_at(section, basin, roll, month, entry) {
@@ -57,27 +59,45 @@ fn put_line<K: Sink>(
     }
 }
 
-/// Puts the lines of a section whose entries are reservoirs, nodes, links or the month, in the order of the basin.
-fn put_places<K: Sink>(
+/// Puts the `in` line of a node, if a right's set holds it.
+fn put_member<K: Sink>(
     sink: &mut K,
     basin: &Basin,
-    roll: &Roll,
     month: &MonthRecord,
-    section: Section,
+    right: u32,
+    node: u32,
 ) -> Result<(), SinkFailed>
     requires basin { IsValidBasin basin.now }
-    requires roll { IsRollOf basin.now.rights roll.now }
     requires month { FitsText basin.now month.now }
-    requires single { section ≢ Section.Calls }
-    requires right { HasRight section basin.now }
-    requires places { entries_of section basin.now ≡ numbers_from 0 (count_of section basin.now) }
+    requires right { right < length basin.now.rights }
+    requires node { node < length basin.now.nodes }
     ensures text { Puts (K.taken sink.old) (K.taken sink.new) result
-        (flat_map (whole_line basin.now) (lines_in section basin.now month.now)) }
+        (flat_map (whole_line basin.now) (member_at month.now right node)) }
     ensures cause { HasCause (K.faults sink.old) (K.faults sink.new) (IsErr result) }
 {
-    let count = entry_count(section, basin);
-    for place in 0..count {
-        put_line(sink, basin, roll, month, section, place)?;
+    if is_member(month, right, node) {
+        put_item(sink, basin, Item::Member { node })
+    } else {
+        Ok(())
+    }
+}
+
+/// Puts the nodes of a right's set, in the order of the basin.
+fn put_members<K: Sink>(
+    sink: &mut K,
+    basin: &Basin,
+    month: &MonthRecord,
+    right: u32,
+) -> Result<(), SinkFailed>
+    requires basin { IsValidBasin basin.now }
+    requires month { FitsText basin.now month.now }
+    requires right { right < length basin.now.rights }
+    ensures text { Puts (K.taken sink.old) (K.taken sink.new) result
+        (flat_map (whole_line basin.now) (members_of basin.now month.now right)) }
+    ensures cause { HasCause (K.faults sink.old) (K.faults sink.new) (IsErr result) }
+{
+    for node in 0..basin.nodes.len() as u32 {
+        put_member(sink, basin, month, right, node)?;
     }
     Ok(())
 }
@@ -95,12 +115,10 @@ fn has_set(month: &MonthRecord, right: u32) -> bool
 fn put_call<K: Sink>(
     sink: &mut K,
     basin: &Basin,
-    roll: &Roll,
     month: &MonthRecord,
     right: u32,
 ) -> Result<(), SinkFailed>
     requires basin { IsValidBasin basin.now }
-    requires roll { IsRollOf basin.now.rights roll.now }
     requires month { FitsText basin.now month.now }
     requires right { right < length basin.now.rights }
     ensures text { Puts (K.taken sink.old) (K.taken sink.new) result
@@ -111,57 +129,30 @@ fn put_call<K: Sink>(
         return Ok(());
     }
     put_item(sink, basin, Item::Call { right })?;
-    put_places(sink, basin, roll, month, Section::Members { right })
+    put_members(sink, basin, month, right)
 }
 
-/// Puts the lines of a right in a section.
-fn put_right<K: Sink>(
+/// Puts the lines of an entry of a section.
+fn put_entry<K: Sink>(
     sink: &mut K,
     basin: &Basin,
     roll: &Roll,
     month: &MonthRecord,
     section: Section,
-    right: u32,
+    entry: u32,
 ) -> Result<(), SinkFailed>
     requires basin { IsValidBasin basin.now }
     requires roll { IsRollOf basin.now.rights roll.now }
     requires month { FitsText basin.now month.now }
-    requires member { HasRight section basin.now }
-    requires count { count_of section basin.now ≡ length basin.now.rights }
-    requires right { right < length basin.now.rights }
+    requires entry { entry < count_in (section_space section) basin.now }
     ensures text { Puts (K.taken sink.old) (K.taken sink.new) result
-        (flat_map (whole_line basin.now) (lines_at section basin.now month.now right)) }
+        (flat_map (whole_line basin.now) (lines_at section basin.now month.now (calling_right basin.now month.now) entry)) }
     ensures cause { HasCause (K.faults sink.old) (K.faults sink.new) (IsErr result) }
 {
     match section {
-        Section::Calls => put_call(sink, basin, roll, month, right),
-        _ => put_line(sink, basin, roll, month, section, right),
+        Section::Calls => put_call(sink, basin, month, entry),
+        _ => put_line(sink, basin, roll, month, section, entry),
     }
-}
-
-/// Puts the lines of a section whose entries are rights, seniors first.
-fn put_rights<K: Sink>(
-    sink: &mut K,
-    basin: &Basin,
-    roll: &Roll,
-    month: &MonthRecord,
-    section: Section,
-) -> Result<(), SinkFailed>
-    requires basin { IsValidBasin basin.now }
-    requires roll { IsRollOf basin.now.rights roll.now }
-    requires month { FitsText basin.now month.now }
-    requires member { HasRight section basin.now }
-    requires count { count_of section basin.now ≡ length basin.now.rights }
-    requires rights { entries_of section basin.now ≡ seniors_first basin.now }
-    ensures text { Puts (K.taken sink.old) (K.taken sink.new) result
-        (flat_map (whole_line basin.now) (lines_in section basin.now month.now)) }
-    ensures cause { HasCause (K.faults sink.old) (K.faults sink.new) (IsErr result) }
-{
-    let order = roll.by_seniority();
-    for right in order {
-        put_right(sink, basin, roll, month, section, *right)?;
-    }
-    Ok(())
 }
 
 /// Puts the lines of a section.
@@ -175,17 +166,37 @@ fn put_section<K: Sink>(
     requires basin { IsValidBasin basin.now }
     requires roll { IsRollOf basin.now.rights roll.now }
     requires month { FitsText basin.now month.now }
-    requires right { HasRight section basin.now }
     ensures text { Puts (K.taken sink.old) (K.taken sink.new) result
-        (flat_map (whole_line basin.now) (lines_in section basin.now month.now)) }
+        (flat_map (whole_line basin.now) (lines_in section basin.now month.now (calling_right basin.now month.now))) }
     ensures cause { HasCause (K.faults sink.old) (K.faults sink.new) (IsErr result) }
 {
-    match section {
-        Section::Used | Section::Deliveries | Section::Calls | Section::Called => {
-            put_rights(sink, basin, roll, month, section)
-        }
-        _ => put_places(sink, basin, roll, month, section),
+    let space = section.space();
+    let count = count_in(space, basin);
+    for place in 0..count {
+        let entry = entry_at(space, basin, roll.by_seniority(), place);
+        put_entry(sink, basin, roll, month, section, entry)?;
     }
+    Ok(())
+}
+
+/// Puts the lines of all sections of a month.
+fn put_sections<K: Sink>(
+    sink: &mut K,
+    basin: &Basin,
+    roll: &Roll,
+    month: &MonthRecord,
+) -> Result<(), SinkFailed>
+    requires basin { IsValidBasin basin.now }
+    requires roll { IsRollOf basin.now.rights roll.now }
+    requires month { FitsText basin.now month.now }
+    ensures text { Puts (K.taken sink.old) (K.taken sink.new) result
+        (flat_map (whole_line basin.now) (flat_map (λ section. lines_in section basin.now month.now (calling_right basin.now month.now)) SECTIONS)) }
+    ensures cause { HasCause (K.faults sink.old) (K.faults sink.new) (IsErr result) }
+{
+    for section in SECTIONS.iter() {
+        put_section(sink, basin, roll, month, *section)?;
+    }
+    Ok(())
 }
 
 /// Puts the lines of a month, from its `month` line to its `end` line: what the record holds, section by section, and
@@ -206,10 +217,9 @@ pub fn put_month<K: Sink>(
         (flat_map (whole_line basin.now) (items_of_month basin.now month.now)) }
     ensures cause { HasCause (K.faults sink.old) (K.faults sink.new) (IsErr result) }
 {
-    for section in SECTIONS.iter() {
-        put_section(sink, basin, roll, month, *section)?;
-    }
-    Ok(())
+    put_item(sink, basin, Item::Month { month: month.month })?;
+    put_sections(sink, basin, roll, month)?;
+    put_item(sink, basin, Item::End)
 }
 
 /// Puts the head of a text: its title, and the run's first month and number of months.

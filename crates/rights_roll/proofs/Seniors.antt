@@ -7,7 +7,7 @@ use Rattle.water_model.specs.Rights.{is_lower, is_senior_in, priority_in, AreStr
 use Rattle.water_model.specs.Places.{places_of, put_right, sort_rights, by_seniority}
 use Rattle.water_model.specs.declared.types.Right.{Right}
 use Rattle.water_model.proofs.Duality.{not_lower}
-use Rattle.water_model.proofs.Order.{Has, IsOrdered, length-numbers_from, seniors_have, seniors_below, seniors_ordered}
+use Rattle.water_model.proofs.Order.{Has, IsOrdered, length-by_seniority, length-numbers_from, seniors_have, seniors_below, seniors_ordered}
 use Rattle.water_model.proofs.Seniority.{senior_trans}
 use Rattle.rights_roll.specs.SeniorityOrder.{IsSeniorityOrder}
 
@@ -47,25 +47,6 @@ pub is_by_seniority : (rights : List Right) (xs : List ℕ) → AreStrict rights
     xs ≡ by_seniority rights
 is_by_seniority rights xs strict order all only =
     one_order rights xs (by_seniority rights) order (seniors_ordered rights strict) (λ r h. seniors_have rights r (only r h)) (λ r h. all r (seniors_below rights r h))
-
--- The order has as many entries as there are rights.
-
-length-put_right : (rights : List Right) (r : ℕ) (xs : List ℕ) → length (put_right rights r xs) ≡ suc (length xs)
-length-put_right rights r [] = refl
-length-put_right rights r (x ∷ xs) = by_test (is_senior_in rights r x) (length-put_right rights r xs)
-  where
-    by_test : (t : Bool) → length (put_right rights r xs) ≡ suc (length xs) →
-        length (if t then r ∷ x ∷ xs else x ∷ put_right rights r xs) ≡ suc (suc (length xs))
-    by_test true further = refl
-    by_test false further = ap suc further
-
-length-sort_rights : (rights : List Right) (xs : List ℕ) → length (sort_rights rights xs) ≡ length xs
-length-sort_rights rights [] = refl
-length-sort_rights rights (x ∷ xs) = length-put_right rights x (sort_rights rights xs) ∙ ap suc (length-sort_rights rights xs)
-
-pub length-by_seniority : (rights : List Right) → length (by_seniority rights) ≡ length rights
-unfolding by_seniority
-length-by_seniority rights = length-sort_rights rights (places_of rights) ∙ length-numbers_from 0 (length rights)
 
 -- The place of a right in a list.
 

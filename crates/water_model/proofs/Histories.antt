@@ -4,7 +4,10 @@ use Rattle.std.specs.Prelude.{slice_get, Some, None, ◌⊎◌}
 use Rattle.std.proofs.lemmas.List.{take-append-le}
 use Rattle.std.proofs.Math.Seq.{take-length}
 use Rattle.std.proofs.lemmas.Option.{slice_get_within}
+use Rattle.water_text.specs.Months.{IsMonth}
 use Rattle.water_model.specs.History.{IsPartialHistory, IsHistory, Follows}
+use Rattle.water_model.specs.Hydrology.{run_month}
+use Rattle.water_model.specs.Valid.{IsValidRun}
 use Rattle.water_model.specs.declared.types.Basin.{Basin}
 use Rattle.water_model.specs.declared.types.Inflows.{Inflows}
 use Rattle.water_model.specs.declared.types.MonthRecord.{MonthRecord}
@@ -47,3 +50,10 @@ one_month_more b series records m partial left follows = record {
 pub all_months : (b : Basin) (series : Inflows) (records : List MonthRecord) → IsPartialHistory b series records →
     length records ≡ b.months → IsHistory b series records
 all_months b series records partial whole = record { partial = partial; whole = whole }
+
+-- the months of a run can be spelled
+pub IsMonth-run_month : (b : Basin) (i : ℕ) → IsValidRun b → i < b.months → IsMonth (run_month b i)
+IsMonth-run_month b i run l = record {
+  year = (omega (arith, run.first.year), omega (arith, run.ends, run.first.month));
+  month = (omega arith, omega arith);
+}

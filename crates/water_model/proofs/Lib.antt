@@ -3,6 +3,8 @@ pub mod CutBalance
 pub mod Duality
 pub mod Seniority
 pub mod Order
+pub mod Entries
+pub mod Quantities
 pub mod Greatest
 pub mod Sheltered
 pub mod CutLemmas

@@ -1,6 +1,6 @@
 -- Lists of numbers, and the order of rights.
 use Rattle.std.proofs.Common.{◌≡◌, ℕ, zero, suc, ◌+◌, ◌≤◌, ◌<◌, Bool, true, false, List, [], ◌∷◌, length, refl, sym, ap, ◌∙◌, arith, inl, inr}
-use Rattle.std.specs.Prelude.{slice_get, Some, None, find, ◌⊎◌, ◌≢◌}
+use Rattle.std.specs.Prelude.{slice_get, Some, None, find, filter, ◌⊎◌, ◌≢◌, if◌then◌else◌}
 use Rattle.water_model.specs.Rights.{is_senior_in, AreStrict}
 use Rattle.water_model.specs.declared.types.Right.{Right}
 use Rattle.water_model.proofs.Seniority.{senior_trans, senior_total}
@@ -33,6 +33,29 @@ unfolding numbers_from
 numbers_from-below from zero x h = absurd h
 numbers_from-below from (suc n) x (inl e) = (omega arith, omega arith)
 numbers_from-below from (suc n) x (inr h) = let b = numbers_from-below (suc from) n x h in (omega (arith, b.0), omega (arith, b.1))
+
+-- the elements that pass a test
+pub has-filter : (p : ℕ → Bool) (xs : List ℕ) (k : ℕ) → Has xs k → p k ≡ true → Has (filter p xs) k
+has-filter p [] k h e = absurd h
+has-filter p (x ∷ xs) k h e = by_test (p x) refl h (λ m. has-filter p xs k m e)
+  where
+    by_test : (t : Bool) → p x ≡ t → Has (x ∷ xs) k → (Has xs k → Has (filter p xs) k) → Has (filter p (x ∷ xs)) k
+    by_test true f (inl is) further = rw f (inl is)
+    by_test true f (inr m) further = rw f (inr (further m))
+    by_test false f (inl is) further = let no_pass : false ≡ true = sym f ∙ (ap p (sym is) ∙ e) in cc
+    by_test false f (inr m) further = rw f (further m)
+
+pub filter-has : (p : ℕ → Bool) (xs : List ℕ) (k : ℕ) → Has (filter p xs) k → Has xs k × (p k ≡ true)
+filter-has p [] k h = absurd h
+filter-has p (x ∷ xs) k h = by_test (p x) refl (λ m. filter-has p xs k m)
+  where
+    by_test : (t : Bool) → p x ≡ t → (Has (filter p xs) k → Has xs k × (p k ≡ true)) → Has (x ∷ xs) k × (p k ≡ true)
+    by_test true f further = here (rw f at h)
+      where
+        here : Has (x ∷ filter p xs) k → Has (x ∷ xs) k × (p k ≡ true)
+        here (inl is) = (inl is, ap p is ∙ f)
+        here (inr m) = let r = further m in (inr r.0, r.1)
+    by_test false f further = let r = further (rw f at h) in (inr r.0, r.1)
 
 put_right-has : (rights : List Right) (r : ℕ) (xs : List ℕ) (x : ℕ) → Has (put_right rights r xs) x → (x ≡ r) ⊎ Has xs x
 put_right-has rights r [] x h = h
@@ -79,6 +102,26 @@ unfolding by_seniority
 seniors_below rights r h =
     let within = numbers_from-below 0 (length rights) r (sort_rights-has rights (places_of rights) r h) in
     omega (arith, within.1)
+
+-- The order has as many entries as there are rights.
+
+length-put_right : (rights : List Right) (r : ℕ) (xs : List ℕ) → length (put_right rights r xs) ≡ suc (length xs)
+length-put_right rights r [] = refl
+length-put_right rights r (x ∷ xs) = by_test (is_senior_in rights r x) (length-put_right rights r xs)
+  where
+    by_test : (t : Bool) → length (put_right rights r xs) ≡ suc (length xs) →
+        length (if t then r ∷ x ∷ xs else x ∷ put_right rights r xs) ≡ suc (suc (length xs))
+    by_test true further = refl
+    by_test false further = ap suc further
+
+length-sort_rights : (rights : List Right) (xs : List ℕ) → length (sort_rights rights xs) ≡ length xs
+length-sort_rights rights [] = refl
+length-sort_rights rights (x ∷ xs) =
+    length-put_right rights x (sort_rights rights xs) ∙ ap suc (length-sort_rights rights xs)
+
+pub length-by_seniority : (rights : List Right) → length (by_seniority rights) ≡ length rights
+unfolding by_seniority
+length-by_seniority rights = length-sort_rights rights (places_of rights) ∙ length-numbers_from 0 (length rights)
 
 -- Each right in the order is senior to those behind it.
 

@@ -9,7 +9,7 @@ use Rattle.water_model.specs.Network.{tail_in, head_in, is_river_in, is_outlet_i
 use Rattle.water_model.specs.Hydrology.{run_month, inflow_at}
 use Rattle.water_model.specs.Spelling.{fields_of, line_of}
 use Rattle.water_model.specs.Places.{numbers_from, members_from, by_seniority}
-use Rattle.water_model.specs.Text.{text, month_sections, calls, calling_right}
+use Rattle.water_model.specs.Text.{text, month_lines, calls, calling_right}
 use Rattle.water_model.specs.declared.types.Basin.{Basin}
 use Rattle.water_model.specs.declared.types.Carry.{Carry}
 use Rattle.water_model.specs.declared.types.Carry.TheVariants.{River, Canal}
@@ -92,7 +92,7 @@ straight = basin (record { year = 1900; month = 1 }) 1
 
 straight_text : river_text straight ≡ codes "river-result 1\n" ∷ codes "run 1900-01 1\n" ∷ codes "month 1900-01\n" ∷ codes "flow a 80\n" ∷ codes "flow b 80\n"
     ∷ codes "out mouth 80\n" ∷ codes "end\n" ∷ codes "done 1\n" ∷ []
-unfolding total digits fields_of line_of numbers_from members_from by_seniority month_sections calls calling_right
+unfolding total digits fields_of line_of numbers_from members_from by_seniority month_lines calls calling_right
 straight_text = refl
 
 -- an inflow for each month, over the turn of a year
@@ -102,7 +102,7 @@ turning = basin (record { year = 1900; month = 12 }) 2
 
 turning_text : river_text turning ≡ codes "river-result 1\n" ∷ codes "run 1900-12 2\n" ∷ codes "month 1900-12\n" ∷ codes "flow a 12\n" ∷ codes "out mouth 12\n" ∷ codes "end\n"
     ∷ codes "month 1901-01\n" ∷ codes "flow a 1\n" ∷ codes "out mouth 1\n" ∷ codes "end\n" ∷ codes "done 2\n" ∷ []
-unfolding total digits fields_of line_of numbers_from members_from by_seniority month_sections calls calling_right
+unfolding total digits fields_of line_of numbers_from members_from by_seniority month_lines calls calling_right
 turning_text = refl
 
 -- a river that divides and rejoins, beside a canal: the second branch and the canal stay dry

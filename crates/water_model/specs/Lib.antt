@@ -14,5 +14,8 @@ pub mod History
 pub mod Balance
 pub mod Laws
 pub mod RunOfRiver
+pub mod Entries
+pub mod Quantities
 pub mod Spelling
+pub mod OfBasin
 pub mod Text

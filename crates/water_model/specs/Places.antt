@@ -1,7 +1,5 @@
 -- Lists of numbers, and the order of rights.
-use Rattle.std.specs.Prelude.{ℕ, zero, suc, Bool, true, false, List, [], ◌∷◌, length, filter, ◌==◌, if◌then◌else◌, is_some}
-use Rattle.std.specs.List.{list_any}
-use Rattle.water_model.specs.Lookups.{of_entry}
+use Rattle.std.specs.Prelude.{ℕ, zero, suc, Bool, true, false, List, [], ◌∷◌, length, filter, if◌then◌else◌}
 use Rattle.water_model.specs.Rights.{is_senior_in}
 use Rattle.water_model.specs.Basin.{is_outlet}
 use Rattle.water_model.specs.declared.types.Basin.{Basin}
@@ -39,12 +37,6 @@ by_seniority rights = sort_rights rights (places_of rights)
 abbrev pub seniors_first : Basin → List ℕ
 seniors_first b = by_seniority b.rights
 
--- the nodes that some return row names, the outlets, and the rights with a volume
-abbrev pub return_nodes : Basin → List ℕ
-return_nodes b = filter (λ n. list_any (λ row. row.node == n) b.returns) (places_of b.nodes)
-
+-- the outlets
 abbrev pub outlets : Basin → List ℕ
 outlets b = filter (λ n. is_outlet b n) (places_of b.nodes)
-
-abbrev pub rights_with_volume : Basin → List ℕ
-rights_with_volume b = filter (λ r. of_entry b.rights r (λ right. is_some right.volume) false) (seniors_first b)

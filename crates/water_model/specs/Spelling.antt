@@ -3,7 +3,9 @@ use Rattle.std.specs.Prelude.{ℕ, List, [], ◌∷◌, ◌++◌, codes}
 use Rattle.std.specs.Fmt.{decimal}
 use Rattle.std.specs.List.{join_with_byte}
 use Rattle.water_text.specs.Months.{month_digits}
-use Rattle.water_model.specs.Basin.{node_name, link_name, right_name, reservoir_name}
+use Rattle.water_model.specs.Basin.{node_name, right_name}
+use Rattle.water_model.specs.Entries.{name_in}
+use Rattle.water_model.specs.Quantities.{space_of, amount_word}
 use Rattle.water_model.specs.declared.types.Basin.{Basin}
 use Rattle.water_model.specs.declared.item.Item.{Item}
 use Rattle.water_model.specs.declared.item.Item.TheVariants as line
@@ -13,17 +15,11 @@ unfoldable pub fields_of : Basin → Item → List (List ℕ)
 fields_of b line.Title = codes "river-result" ∷ codes "1" ∷ []
 fields_of b (line.Run first months) = codes "run" ∷ month_digits first ∷ decimal months ∷ []
 fields_of b (line.Month month) = codes "month" ∷ month_digits month ∷ []
-fields_of b (line.Opening reservoir amount) = codes "open" ∷ reservoir_name b reservoir ∷ decimal amount ∷ []
-fields_of b (line.Evaporated reservoir amount) = codes "evap" ∷ reservoir_name b reservoir ∷ decimal amount ∷ []
-fields_of b (line.Returned node amount) = codes "return" ∷ node_name b node ∷ decimal amount ∷ []
-fields_of b (line.Used right amount) = codes "used" ∷ right_name b right ∷ decimal amount ∷ []
-fields_of b (line.Flow link amount) = codes "flow" ∷ link_name b link ∷ decimal amount ∷ []
+fields_of b (line.Amount q entry amount) = amount_word q ∷ name_in (space_of q) b entry ∷ decimal amount ∷ []
 fields_of b (line.Deliver right amount want) = codes "deliver" ∷ right_name b right ∷ decimal amount ∷ decimal want ∷ []
-fields_of b (line.Outflow node amount) = codes "out" ∷ node_name b node ∷ decimal amount ∷ []
 fields_of b (line.Call right) = codes "call" ∷ right_name b right ∷ []
 fields_of b (line.Member node) = codes "in" ∷ node_name b node ∷ []
 fields_of b (line.Called right by') = codes "called" ∷ right_name b right ∷ right_name b by' ∷ []
-fields_of b (line.Closing reservoir amount) = codes "close" ∷ reservoir_name b reservoir ∷ decimal amount ∷ []
 fields_of b line.End = codes "end" ∷ []
 fields_of b (line.Done months) = codes "done" ∷ decimal months ∷ []
 

@@ -1,16 +1,23 @@
 -- The text of a list of months' records.
-use Rattle.std.specs.Prelude.{ℕ, Bool, false, ◌&&◌, List, [], ◌∷◌, ◌++◌, map, find, slice_index, Option, Some, None, nat_lt}
+use Rattle.std.specs.Prelude.{ℕ, Bool, false, ◌&&◌, List, [], ◌∷◌, ◌++◌, map, find, slice_index, Option, Some, None, nat_lt, if◌then◌else◌}
 use Rattle.std.specs.List.{flat_map}
 use Rattle.std.specs.Option.{option_map_or}
 use Rattle.water_model.specs.Basin.{is_senior}
 use Rattle.water_model.specs.Cuts.{takes_within}
+use Rattle.water_model.specs.Entries.{in_order}
 use Rattle.water_model.specs.History.{cut_of}
 use Rattle.water_model.specs.declared.types.Basin.{Basin}
 use Rattle.water_model.specs.declared.types.MonthRecord.{MonthRecord}
-use Rattle.water_model.specs.Places.{places_of, members_from, seniors_first, return_nodes, outlets, rights_with_volume}
+use Rattle.water_model.specs.Places.{members_from, seniors_first}
+use Rattle.water_model.specs.Quantities.{space_of, amounts_of, has_line}
 use Rattle.water_model.specs.Spelling.{whole_line}
 use Rattle.water_model.specs.declared.item.Item.{Item}
 use Rattle.water_model.specs.declared.item.Item.TheVariants as line
+use Rattle.water_model.specs.declared.item.Section.{Section}
+use Rattle.water_model.specs.declared.item.Section.TheVariants as section
+use Rattle.water_model.specs.declared.item.TheConstants.{SECTIONS}
+use Rattle.water_model.specs.declared.space.Space.{Space}
+use Rattle.water_model.specs.declared.space.Space.TheVariants as space
 
 -- whether a right's set makes another answer to it: it is short and senior, and its set holds the other's node
 unfoldable pub calls : Basin → MonthRecord → ℕ → ℕ → Bool
@@ -32,25 +39,32 @@ abbrev pub called_items : ℕ → Option ℕ → List Item
 called_items right None = []
 called_items right (Some caller) = line.Called right caller ∷ []
 
--- the lines of a month, section by section. The callers are those of the record, or any others
-unfoldable pub month_sections : Basin → MonthRecord → (ℕ → Option ℕ) → List (List Item)
-month_sections b m caller_of =
-    (line.Month m.month ∷ [])
-    ∷ map (λ v. line.Opening v (slice_index m.opening v)) (places_of b.reservoirs)
-    ∷ map (λ v. line.Evaporated v (slice_index m.evaporated v)) (places_of b.reservoirs)
-    ∷ map (λ n. line.Returned n (slice_index m.returned n)) (return_nodes b)
-    ∷ map (λ r. line.Used r (slice_index m.used r)) (rights_with_volume b)
-    ∷ map (λ e. line.Flow e (slice_index m.plan.flow e)) (places_of b.links)
-    ∷ map (λ r. line.Deliver r (slice_index m.delivered r) (slice_index m.want r)) (seniors_first b)
-    ∷ map (λ n. line.Outflow n (slice_index m.plan.out n)) (outlets b)
-    ∷ flat_map (λ r. call_items r (cut_of m r)) (seniors_first b)
-    ∷ flat_map (λ r. called_items r (caller_of r)) (seniors_first b)
-    ∷ map (λ v. line.Closing v (slice_index m.closing v)) (places_of b.reservoirs)
-    ∷ (line.End ∷ [])
-    ∷ []
+-- the entries that a section goes over
+abbrev pub section_space : Section → Space
+section_space (section.Amounts q) = space_of q
+section_space section.Deliveries = space.Rights
+section_space section.Calls = space.Rights
+section_space section.Called = space.Rights
+
+-- the lines of an entry in a section. The callers are those of the record, or any others
+abbrev pub lines_at : Section → Basin → MonthRecord → (ℕ → Option ℕ) → ℕ → List Item
+lines_at (section.Amounts q) b m caller_of entry =
+    if has_line b q entry then line.Amount q entry (slice_index (amounts_of q m) entry) ∷ [] else []
+lines_at section.Deliveries b m caller_of r = line.Deliver r (slice_index m.delivered r) (slice_index m.want r) ∷ []
+lines_at section.Calls b m caller_of r = call_items r (cut_of m r)
+lines_at section.Called b m caller_of r = called_items r (caller_of r)
+
+-- the lines of a section, entry by entry
+abbrev pub lines_in : Section → Basin → MonthRecord → (ℕ → Option ℕ) → List Item
+lines_in s b m caller_of = flat_map (lines_at s b m caller_of) (in_order (section_space s) b)
+
+-- the lines of a month: its first, section by section, and its last
+unfoldable pub month_lines : Basin → MonthRecord → (ℕ → Option ℕ) → List Item
+month_lines b m caller_of =
+    line.Month m.month ∷ (flat_map (λ s. lines_in s b m caller_of) SECTIONS ++ line.End ∷ [])
 
 abbrev pub items_of_month : Basin → MonthRecord → List Item
-items_of_month b m = flat_map (λ section. section) (month_sections b m (calling_right b m))
+items_of_month b m = month_lines b m (calling_right b m)
 
 abbrev pub items_of_head : Basin → List Item
 items_of_head b = line.Title ∷ line.Run b.first b.months ∷ []

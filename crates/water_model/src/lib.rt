@@ -6,5 +6,7 @@ pub mod copies;
 pub mod cut_list;
 pub mod item;
 pub mod laws;
+pub mod quantity;
 pub mod rows;
+pub mod space;
 pub mod types;

@@ -1,34 +1,33 @@
-use Rattle.std.proofs.Common.{◌≡◌, ℕ, refl, ap, subst, ◌∙◌, Some, None, List, Bool, false, map}
+use Rattle.std.proofs.Common.{◌≡◌, ℕ, ◌<◌, refl, ap, subst, ◌∙◌, Some, None, List, Bool, false, map, arith}
 use Rattle.std.specs.Prelude.{Option, IsSome}
 use Rattle.water_model.specs.CutSets.{set_of}
-use Rattle.result_text.specs.Range.{IsOfBasin}
+use Rattle.water_model.specs.Entries.{count_in}
+use Rattle.water_model.specs.OfBasin.{IsOfBasin}
+use Rattle.water_model.specs.Quantities.{space_of}
 use Rattle.result_reader.specs.Telling.{Told, tell}
 use Rattle.cert_check.specs.Checking.{first_row}
 use Rattle.cert_check.specs.Coming.{is_before_called}
 use Rattle.cert_check.specs.Keeping.{Keeps}
-use Rattle.cert_check.proofs.Entries.{along, keeps_month, keeps_opening, keeps_evaporated, keeps_returned, keeps_used, keeps_flow, keeps_outflow, keeps_call, keeps_stray, keeps_member, keeps_next, keeps_closing, keeps_end}
+use Rattle.cert_check.proofs.Entries.{along, keeps_amount, keeps_month, keeps_call, keeps_stray, keeps_member, keeps_next, keeps_end}
+use Rattle.cert_check.proofs.Fitting.{amounts_sized}
 use Rattle.cert_check.proofs.entering.enter.Goals as goal
 
-pub returns-in-Opening : goal.returns-in-Opening
-returns-in-Opening c = λ t k m good. along c.args.means.now.basin.now c.args.means.now.series.now t _ _ _ _ c.in-Opening.is c.enter_opening.ensures (keeps_opening c.args.means.now.basin.now c.args.means.now.series.now c.args.account.now t c.in-Opening.reservoir c.in-Opening.amount k)
+pub enter_amount-requires : goal.enter_amount-requires
+enter_amount-requires c =
+    let entry : c.in-Amount.entry < count_in (space_of c.in-Amount.quantity) c.args.means.now.basin.now =
+    subst (λ i. IsOfBasin c.args.means.now.basin.now i) c.in-Amount.is c.requires.item in
+    omega (
+      arith,
+      entry,
+      amounts_sized c.args.means.now.basin.now c.args.account.now.month c.requires.awaits.keeps.fits.month
+          c.in-Amount.quantity,
+    )
 
-pub returns-in-Evaporated : goal.returns-in-Evaporated
-returns-in-Evaporated c = λ t k m good. along c.args.means.now.basin.now c.args.means.now.series.now t _ _ _ _ c.in-Evaporated.is c.enter_evaporated.ensures (keeps_evaporated c.args.means.now.basin.now c.args.means.now.series.now c.args.account.now t c.in-Evaporated.reservoir c.in-Evaporated.amount k)
-
-pub returns-in-Returned : goal.returns-in-Returned
-returns-in-Returned c = λ t k m good. along c.args.means.now.basin.now c.args.means.now.series.now t _ _ _ _ c.in-Returned.is c.enter_returned.ensures (keeps_returned c.args.means.now.basin.now c.args.means.now.series.now c.args.account.now t c.in-Returned.node c.in-Returned.amount k)
-
-pub returns-in-Used : goal.returns-in-Used
-returns-in-Used c = λ t k m good. along c.args.means.now.basin.now c.args.means.now.series.now t _ _ _ _ c.in-Used.is c.enter_used.ensures (keeps_used c.args.means.now.basin.now c.args.means.now.series.now c.args.account.now t c.in-Used.right c.in-Used.amount k)
-
-pub returns-in-Flow : goal.returns-in-Flow
-returns-in-Flow c = λ t k m good. along c.args.means.now.basin.now c.args.means.now.series.now t _ _ _ _ c.in-Flow.is c.enter_flow.ensures (keeps_flow c.args.means.now.basin.now c.args.means.now.series.now c.args.account.now t c.in-Flow.link c.in-Flow.amount k)
-
-pub returns-in-Outflow : goal.returns-in-Outflow
-returns-in-Outflow c = λ t k m good. along c.args.means.now.basin.now c.args.means.now.series.now t _ _ _ _ c.in-Outflow.is c.enter_outflow.ensures (keeps_outflow c.args.means.now.basin.now c.args.means.now.series.now c.args.account.now t c.in-Outflow.node c.in-Outflow.amount k)
-
-pub returns-in-Closing : goal.returns-in-Closing
-returns-in-Closing c = λ t k m good. along c.args.means.now.basin.now c.args.means.now.series.now t _ _ _ _ c.in-Closing.is c.enter_closing.ensures (keeps_closing c.args.means.now.basin.now c.args.means.now.series.now c.args.account.now t c.in-Closing.reservoir c.in-Closing.amount k)
+pub returns-in-Amount : goal.returns-in-Amount
+returns-in-Amount c = λ t k m good.
+    along c.args.means.now.basin.now c.args.means.now.series.now t _ _ _ _ c.in-Amount.is c.enter_amount.ensures
+    (keeps_amount c.args.means.now.basin.now c.args.means.now.series.now c.args.account.now t c.in-Amount.quantity
+    c.in-Amount.entry c.in-Amount.amount k)
 
 pub returns-in-Month : goal.returns-in-Month
 returns-in-Month c = λ t k m good.

@@ -1,5 +1,5 @@
 use Rattle.std.proofs.Common.{arith}
-use Rattle.rights_roll.proofs.Seniors.{length-by_seniority}
+use Rattle.water_model.proofs.Order.{length-by_seniority}
 use Rattle.cert_check.proofs.entering.enter_called.Goals as goal
 
 pub overflow_add-account : goal.overflow_add-account

@@ -2,7 +2,7 @@ use Rattle.std.proofs.Common.{◌≡◌, ℕ, List}
 use Rattle.std.specs.Prelude.{find}
 use Rattle.std.specs.Str.{bytes_eq}
 use Rattle.water_model.specs.Places.{numbers_from}
-use Rattle.result_reader.specs.Names.{name_in}
+use Rattle.water_model.specs.Entries.{name_in}
 use Rattle.result_reader.specs.NamePlaces.{kept_at}
 use Rattle.result_reader.proofs.names.places_of.Given as goal
 

@@ -1,37 +1,36 @@
-use Rattle.std.proofs.Common.{List, subst}
-use Rattle.std.specs.List.{flat_map}
-use Rattle.std.specs.Io.KnownBytes.{Appends}
-use Rattle.std.proofs.lemmas.Option.{slice_get-get_or}
+use Rattle.std.proofs.Common.{ℕ, List, subst}
 use Rattle.water_edge.specs.Edge.{Puts}
 use Rattle.water_model.specs.Spelling.{whole_line}
-use Rattle.water_model.specs.declared.item.Item.{Item}
-use Rattle.result_text.specs.Sections.{lines_in}
-use Rattle.result_text.specs.declared.section.TheConstants.{SECTIONS}
-use Rattle.result_text.proofs.MonthLines.{month_lines}
-use Rattle.result_text.proofs.Puts.{SoFar-none, SoFar-next, SoFar-fails, SoFar-whole}
+use Rattle.water_model.specs.Text.{calling_right}
+use Rattle.result_text.proofs.MonthLines.{month_pieces}
+use Rattle.result_text.proofs.Puts.{Puts-cut, Puts-second, Puts-third}
 use Rattle.result_text.proofs.writer.put_month.Goals as goal
 
-pub loop-section-init : goal.loop-section-init
-loop-section-init g c =
-    SoFar-none (whole_line c.args.basin.now) (λ section. lines_in section c.args.basin.now c.args.month.now) SECTIONS
-    (g.K.Sink.taken c.args.sink.now) (g.K.Sink.faults c.args.sink.now)
+pub returns-in_err-put_item-clause-text : goal.returns-in_err-put_item-clause-text
+returns-in_err-put_item-clause-text g c =
+    let callers = calling_right c.args.basin.now c.args.month.now in
+    let before = g.K.Sink.taken c.args.sink.now in
+    let after = g.K.Sink.taken c.put_item.new.sink in
+    subst (λ (bytes : List ℕ). Puts before after c.from_residual.result bytes)
+    (month_pieces (whole_line c.args.basin.now) c.args.basin.now c.args.month.now callers)
+    (Puts-cut before after c.from_residual.result _ _ c.from_residual.ensures.0 c.in_err-put_item.ensures.text)
 
-pub returns-in_err-put_section-clause-text : goal.returns-in_err-put_section-clause-text
-returns-in_err-put_section-clause-text g c =
-    subst (λ (items : List Item). Puts (g.K.Sink.taken c.args.sink.now) (g.K.Sink.taken c.put_section.new.sink) c.from_residual.result (flat_map (whole_line c.args.basin.now) items))
-    (month_lines c.args.basin.now c.args.month.now)
-    (SoFar-fails _ (g.K.Sink.taken c.put_section.new.sink) c.from_residual.result c.loop-section.invariant
-    (slice_get-get_or SECTIONS c.loop-section.section-index _ c.loop-section-test.true)
-    c.in_err-put_section.ensures.text c.from_residual.ensures.0)
-
-pub loop-section-preserved : goal.loop-section-preserved
-loop-section-preserved g c =
-    SoFar-next _ c.loop-section.invariant
-    (slice_get-get_or SECTIONS c.loop-section.section-index _ c.loop-section-test.true)
-    c.in_ok-put_section.ensures.text c.in_ok-put_section.ensures.cause.later
+pub returns-in_err-put_sections-clause-text : goal.returns-in_err-put_sections-clause-text
+returns-in_err-put_sections-clause-text g c =
+    let callers = calling_right c.args.basin.now c.args.month.now in
+    let before = g.K.Sink.taken c.args.sink.now in
+    let after = g.K.Sink.taken c.put_sections.new.sink in
+    subst (λ (bytes : List ℕ). Puts before after c.from_residual-in_err-put_sections.result bytes)
+    (month_pieces (whole_line c.args.basin.now) c.args.basin.now c.args.month.now callers)
+    (Puts-second before (g.K.Sink.taken c.put_item.new.sink) after c.from_residual-in_err-put_sections.result _ _ _
+    c.from_residual-in_err-put_sections.ensures.0 c.in_ok-put_item.ensures.text c.in_err-put_sections.ensures.text)
 
 pub returns-clause-text : goal.returns-clause-text
 returns-clause-text g c =
-    subst (λ (items : List Item). Appends (g.K.Sink.taken c.args.sink.now) (g.K.Sink.taken c.loop-section.sink) (flat_map (whole_line c.args.basin.now) items))
-    (month_lines c.args.basin.now c.args.month.now)
-    (SoFar-whole c.loop-section.invariant c.loop-section-test.false)
+    let callers = calling_right c.args.basin.now c.args.month.now in
+    let before = g.K.Sink.taken c.args.sink.now in
+    let after = g.K.Sink.taken c.put_item-2.new.sink in
+    subst (λ (bytes : List ℕ). Puts before after c.put_item-2.result bytes)
+    (month_pieces (whole_line c.args.basin.now) c.args.basin.now c.args.month.now callers)
+    (Puts-third before (g.K.Sink.taken c.put_item.new.sink) (g.K.Sink.taken c.put_sections.new.sink) after
+    c.put_item-2.result _ _ _ c.in_ok-put_item.ensures.text c.in_ok-put_sections.ensures.text c.put_item-2.ensures.text)

@@ -1,6 +1,0 @@
-use Rattle.std.proofs.Common.{arith}
-use Rattle.result_text.proofs.Entries.{few_reservoirs}
-use Rattle.result_reader.proofs.names.count_in.Goals as goal
-
-pub overflow_cast-result-in-Reservoirs : goal.overflow_cast-result-in-Reservoirs
-overflow_cast-result-in-Reservoirs c = omega (arith, few_reservoirs c.args.basin.now c.requires, c.len-in-Reservoirs.ensures)

@@ -1,9 +1,0 @@
-use Rattle.water_model.specs.Spelling.{whole_line}
-use Rattle.result_text.specs.Sections.{lines_in}
-use Rattle.result_text.proofs.Puts.{SoFar}
-use Rattle.result_text.proofs.writer.put_month.Given as goal
-
-abbrev pub invariant-loop-section : goal.invariant-loop-section
-invariant-loop-section g l =
-    SoFar (whole_line l.basin) (λ section. lines_in section l.basin l.month) l.section-items l.section-index
-    (g.K.Sink.taken l.fn.sink) (g.K.Sink.taken l.sink) (g.K.Sink.faults l.fn.sink) (g.K.Sink.faults l.sink)

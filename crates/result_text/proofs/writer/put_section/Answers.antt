@@ -1,0 +1,41 @@
+use Rattle.std.proofs.Common.{arith, ap, sym, ◌∙◌}
+use Rattle.std.specs.Prelude.{slice_get}
+use Rattle.water_model.specs.Entries.{count_in, in_order}
+use Rattle.water_model.specs.Spelling.{whole_line}
+use Rattle.water_model.specs.Text.{calling_right, lines_at, section_space}
+use Rattle.water_model.proofs.Entries.{length-in_order}
+use Rattle.result_text.proofs.Puts.{SoFar-none, SoFar-next, SoFar-fails, SoFar-whole}
+use Rattle.result_text.proofs.writer.put_section.Goals as goal
+
+pub loop-place-init : goal.loop-place-init
+loop-place-init g c =
+    SoFar-none (whole_line c.args.basin.now)
+    (lines_at c.args.section c.args.basin.now c.args.month.now (calling_right c.args.basin.now c.args.month.now))
+    (in_order (section_space c.args.section) c.args.basin.now) (g.K.Sink.taken c.args.sink.now) (g.K.Sink.faults c.args.sink.now)
+
+pub returns-in_err-put_entry-clause-text : goal.returns-in_err-put_entry-clause-text
+returns-in_err-put_entry-clause-text g c =
+    SoFar-fails c.entry_at-entry.result (g.K.Sink.taken c.put_entry.new.sink) c.from_residual.result
+    c.loop-place.invariant
+    (ap (λ space. slice_get (in_order space c.args.basin.now) c.loop-place.place) (sym c.space-space.ensures)
+    ∙ c.entry_at-entry.ensures.place)
+    c.in_err-put_entry.ensures.text c.from_residual.ensures.0
+
+pub loop-place-preserved : goal.loop-place-preserved
+loop-place-preserved g c =
+    SoFar-next c.entry_at-entry.result c.loop-place.invariant
+    (ap (λ space. slice_get (in_order space c.args.basin.now) c.loop-place.place) (sym c.space-space.ensures)
+    ∙ c.entry_at-entry.ensures.place)
+    c.in_ok-put_entry.ensures.text
+    c.in_ok-put_entry.ensures.cause.later
+
+pub returns-clause-text : goal.returns-clause-text
+returns-clause-text g c =
+    SoFar-whole c.loop-place.invariant
+    (omega (
+      arith,
+      length-in_order (section_space c.args.section) c.args.basin.now,
+      c.count_in-count.ensures,
+      ap (λ space. count_in space c.args.basin.now) c.space-space.ensures,
+      c.loop-place-test.false,
+    ))

@@ -1,0 +1,44 @@
+//! The entries of a basin.
+ghost use Rattle.std.specs.Prelude.{◌≡◌, ◌<◌, Some, length, slice_get};
+ghost use Rattle.water_model.specs.Entries.{count_in, in_order};
+ghost use Rattle.water_model.specs.Places.{seniors_first};
+ghost use Rattle.water_model.specs.Valid.{IsValidBasin};
+
+use crate::types::Basin;
+
+/// The entries of a basin that are numbered together, each list from 0.
+#[derive(Clone, Copy, Debug, PartialEq, Eq)]
+pub enum Space {
+    Nodes,
+    Links,
+    /// Reservoirs, each by the name of its node.
+    Reservoirs,
+    Rights,
+}
+
+/// How many entries a space has.
+pub fn count_in(space: Space, basin: &Basin) -> u32
+    requires { IsValidBasin basin.now }
+    ensures { result ≡ count_in space basin.now }
+{
+    match space {
+        Space::Nodes => basin.nodes.len() as u32,
+        Space::Links => basin.links.len() as u32,
+        Space::Reservoirs => basin.reservoirs.len() as u32,
+        Space::Rights => basin.rights.len() as u32,
+    }
+}
+
+/// The entry at a place of the order in which lines come: rights seniors first, as in `order`, and all others as in the
+/// basin.
+pub fn entry_at(space: Space, basin: &Basin, order: &[u32], place: u32) -> u32
+    requires order { order.now ≡ seniors_first basin.now }
+    requires place { place < count_in space basin.now }
+    ensures place { slice_get (in_order space basin.now) place ≡ Some result }
+    ensures within { result < count_in space basin.now }
+{
+    match space {
+        Space::Rights => order[place as usize],
+        _ => place,
+    }
+}
