@@ -248,7 +248,9 @@ rows_next from to n x r step end rows part is =
               ];
               all = λ s d f.
                   let w = part.all s d f (turn_below (length from) s d) in
-                  let here : IsInRow more n w.0 = record { from = omega (arith, w.1.0); below = omega (arith, w.1.1.0)
+                  let here : IsInRow more n w.0 = record {
+                    from = omega (arith, w.1.0);
+                    below = omega (arith, w.1.1.0);
                   } in
                   (w.0, (here, w.1.1.1));
             }

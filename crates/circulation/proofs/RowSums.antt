@@ -175,8 +175,16 @@ row_sum_next r amounts v test place sum s =
     let last : f (place - first) ≡ when (test (slice_index r.step place))
     (slice_index amounts (arc_of (slice_index r.step place))) =
     ap (λ (p : ℕ). when (test (slice_index r.step p)) (slice_index amounts (arc_of (slice_index r.step p)))) here in
-    record { from = omega arith; is = omega (arith, s.is, ap (λ (n : ℕ). total n f) more, total_more (place - first) f,
-    last) }
+    record {
+      from = omega arith;
+      is = omega (
+        arith,
+        s.is,
+        ap (λ (n : ℕ). total n f) more,
+        total_more (place - first) f,
+        last,
+      );
+    }
 
 -- a sum of terms of at most m each
 pub total_at_most : (n m : ℕ) (f : ℕ → ℕ) → ((k : ℕ) → f k ≤ m) → total n f ≤ n * m

@@ -86,23 +86,11 @@ const REFUSED: [(&str, &str); 30] = [
         "river-edit 1\nshow 1900-01\ndone\nshow 1900-01\n",
         "script: AfterEnd 4\n",
     ),
-    (
-        "river-edit 1\nriver-edit 1\ndone\n",
-        "script: BadLine 2\n",
-    ),
+    ("river-edit 1\nriver-edit 1\ndone\n", "script: BadLine 2\n"),
     ("river-edit 1\n\ndone\n", "script: BadLine 2\n"),
-    (
-        "river-edit 1\nshow  1900-01\ndone\n",
-        "script: BadLine 2\n",
-    ),
-    (
-        "river-edit 1\nshow 1900-13\ndone\n",
-        "script: BadLine 2\n",
-    ),
-    (
-        "river-edit 1\nShow 1900-01\ndone\n",
-        "script: BadLine 2\n",
-    ),
+    ("river-edit 1\nshow  1900-01\ndone\n", "script: BadLine 2\n"),
+    ("river-edit 1\nshow 1900-13\ndone\n", "script: BadLine 2\n"),
+    ("river-edit 1\nShow 1900-01\ndone\n", "script: BadLine 2\n"),
     (
         "river-edit 1\ninflow 1900-01 head\ndone\n",
         "script: BadLine 2\n",
@@ -297,7 +285,9 @@ fn add_lines(into: &mut String, text: &str, month: Option<&str>) -> Result<(), F
         if let (Some(named), Some(month)) = (line.strip_prefix("month "), month) {
             here = named == month;
         }
-        let free = line.starts_with("flow ") || line.starts_with("out ") || line.starts_with("done ");
+        let free = line.starts_with("flow ")
+            || line.starts_with("out ")
+            || line.starts_with("done ");
         if here && !free {
             into.push_str(line)?;
             into.push_str("\n")?;
@@ -375,7 +365,11 @@ fn answers_a_thousand_lines(rt: HostRuntime) -> Result<(), Fail> {
     let basin = with(rt.alloc(), ORDINARY, "months = 2", "months = 6")?;
     let mut steps = Vec::new(rt.alloc());
     for line in 0..1000u64 {
-        let amount = if line % 7 == 0 { None } else { Some(line * 37 % 4000) };
+        let amount = if line % 7 == 0 {
+            None
+        } else {
+            Some(line * 37 % 4000)
+        };
         steps.push(((line % 6) as usize, amount))?;
     }
     expect_runs(&rt, basin.as_str(), steps.as_slice())

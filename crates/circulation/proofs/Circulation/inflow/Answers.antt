@@ -29,23 +29,39 @@ loop-place-preserved c =
           let passes : is_back c.step_at-step.result ≡ true = eq-eqb (c.step_at-step.result % 2) 1 w.if-step-eq1.true in
           subst (λ (n : ℕ). IsRowSum c.args.self.now.rows c.args.amounts.now c.args.node is_back
           (c.loop-place.place + 1) n)
-          (omega (arith, w.sum-is, w.from-sum.ensures, ap (λ (s : ℕ). when (is_back s) (amount s)) (sym step), ap
-          (λ (t : Bool). when t (amount c.step_at-step.result)) passes)) next
+          (omega (
+            arith,
+            w.sum-is,
+            w.from-sum.ensures,
+            ap (λ (s : ℕ). when (is_back s) (amount s)) (sym step),
+            ap
+                (λ (t : Bool). when t (amount c.step_at-step.result)) passes,
+          )) next
       | else-step-eq1 w ↦
           let fails : is_back c.step_at-step.result ≡ false = ne_eqb (c.step_at-step.result % 2) 1
           w.if-step-eq1.false in
           subst (λ (n : ℕ). IsRowSum c.args.self.now.rows c.args.amounts.now c.args.node is_back
           (c.loop-place.place + 1) n)
-          (omega (arith, w.sum-is, ap (λ (s : ℕ). when (is_back s) (amount s)) (sym step), ap
-          (λ (t : Bool). when t (amount c.step_at-step.result)) fails)) next
+          (omega (
+            arith,
+            w.sum-is,
+            ap (λ (s : ℕ). when (is_back s) (amount s)) (sym step),
+            ap
+                (λ (t : Bool). when t (amount c.step_at-step.result)) fails,
+          )) next
     ]
 
 pub returns-clause-sum : goal.returns-clause-sum
 returns-clause-sum c =
     let row = c.row_last-place-end.ensures.kept.rows.rows c.args.node c.requires.node in
-    let end : c.loop-place.place ≡ slice_index c.args.self.now.rows.first (c.args.node + 1) = omega
-    (arith, c.loop-place-test.false, c.loop-place.auto.place-end, row.order, c.row_first-place.ensures.place,
-    c.row_last-place-end.ensures.place) in
+    let end : c.loop-place.place ≡ slice_index c.args.self.now.rows.first (c.args.node + 1) = omega (
+      arith,
+      c.loop-place-test.false,
+      c.loop-place.auto.place-end,
+      row.order,
+      c.row_first-place.ensures.place,
+      c.row_last-place-end.ensures.place,
+    ) in
     row_sum_all _ _ _ is_back _ _ end c.loop-place.invariant
     ∙ row_inflow _ _ _ c.args.node (slice_index c.args.amounts.now) row
 
@@ -53,5 +69,11 @@ pub returns-clause-small : goal.returns-clause-small
 returns-clause-small c =
     let row = c.row_last-place-end.ensures.kept.rows.rows c.args.node c.requires.node in
     let small = row_sum_small _ _ _ _ _ _ c.type_inv.amounts c.loop-place.invariant in
-    omega (arith, small, c.loop-place.auto.place-end, row.order, c.row_first-place.ensures.place,
-    c.row_last-place-end.ensures.place)
+    omega (
+      arith,
+      small,
+      c.loop-place.auto.place-end,
+      row.order,
+      c.row_first-place.ensures.place,
+      c.row_last-place-end.ensures.place,
+    )

@@ -20,8 +20,13 @@ make_rows-requires-clause-heads c =
 
 pub make_rows-requires-clause-few : goal.make_rows-requires-clause-few
 make_rows-requires-clause-few c =
-    omega (arith, ap length (c.deref.ensures.value ∙ c.in_ok-from.ensures), length-map c.args.ends.now
-    (λ (e : Ends). e.from), c.requires.few)
+    omega (
+      arith,
+      ap length (c.deref.ensures.value ∙ c.in_ok-from.ensures),
+      length-map c.args.ends.now
+          (λ (e : Ends). e.from),
+      c.requires.few,
+    )
 
 pub invariant_of-result : goal.invariant_of-result
 invariant_of-result c =

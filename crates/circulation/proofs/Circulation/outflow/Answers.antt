@@ -30,22 +30,38 @@ loop-place-preserved c =
           (ne_eqb (c.step_at-step.result % 2) 1 (λ e. absurd (omega (arith, e, w.if-step-eq0.true)))) in
           subst (λ (n : ℕ). IsRowSum c.args.self.now.rows c.args.amounts.now c.args.node (λ s. not (is_back s))
           (c.loop-place.place + 1) n)
-          (omega (arith, w.sum-is, w.from-sum.ensures, ap (λ (s : ℕ). when (not (is_back s)) (amount s)) (sym step), ap
-          (λ (t : Bool). when t (amount c.step_at-step.result)) passes)) next
+          (omega (
+            arith,
+            w.sum-is,
+            w.from-sum.ensures,
+            ap (λ (s : ℕ). when (not (is_back s)) (amount s)) (sym step),
+            ap
+                (λ (t : Bool). when t (amount c.step_at-step.result)) passes,
+          )) next
       | else-step-eq0 w ↦
           let fails : not (is_back c.step_at-step.result) ≡ false = ap not
           (eq-eqb (c.step_at-step.result % 2) 1 (omega (arith, w.if-step-eq0.false))) in
           subst (λ (n : ℕ). IsRowSum c.args.self.now.rows c.args.amounts.now c.args.node (λ s. not (is_back s))
           (c.loop-place.place + 1) n)
-          (omega (arith, w.sum-is, ap (λ (s : ℕ). when (not (is_back s)) (amount s)) (sym step), ap
-          (λ (t : Bool). when t (amount c.step_at-step.result)) fails)) next
+          (omega (
+            arith,
+            w.sum-is,
+            ap (λ (s : ℕ). when (not (is_back s)) (amount s)) (sym step),
+            ap
+                (λ (t : Bool). when t (amount c.step_at-step.result)) fails,
+          )) next
     ]
 
 pub returns : goal.returns
 returns c =
     let row = c.row_last-place-end.ensures.kept.rows.rows c.args.node c.requires.node in
-    let end : c.loop-place.place ≡ slice_index c.args.self.now.rows.first (c.args.node + 1) = omega
-    (arith, c.loop-place-test.false, c.loop-place.auto.place-end, row.order, c.row_first-place.ensures.place,
-    c.row_last-place-end.ensures.place) in
+    let end : c.loop-place.place ≡ slice_index c.args.self.now.rows.first (c.args.node + 1) = omega (
+      arith,
+      c.loop-place-test.false,
+      c.loop-place.auto.place-end,
+      row.order,
+      c.row_first-place.ensures.place,
+      c.row_last-place-end.ensures.place,
+    ) in
     row_sum_all _ _ _ (λ s. not (is_back s)) _ _ end c.loop-place.invariant
     ∙ row_outflow _ _ _ c.args.node (slice_index c.args.amounts.now) row

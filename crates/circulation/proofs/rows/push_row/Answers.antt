@@ -27,8 +27,11 @@ loop-turn-preserved c =
     record {
       written = (
         c.loop-turn.turn + 1,
-        (ends, subst (λ (t : ℕ). IsNext (c.args.from.now ++ c.args.to.now) c.args.node (c.loop-turn.turn + 1) t)
-        (sym next) follows),
+        (
+          ends,
+          subst (λ (t : ℕ). IsNext (c.args.from.now ++ c.args.to.now) c.args.node (c.loop-turn.turn + 1) t)
+              (sym next) follows,
+        ),
       );
     }
 
