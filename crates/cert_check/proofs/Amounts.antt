@@ -139,7 +139,8 @@ history_amounts b series before m valid fits partial left f = record {
       plan_balance b m.month m.supply m.want m.plan valid f.plan,
       whole_supply b series before m valid fits partial f,
     ))
-    listed quantity.Closing = all_small m.closing (length b.reservoirs) f.fits.closing (closing_small b series before m valid f)
+    listed quantity.Closing = all_small m.closing (length b.reservoirs) f.fits.closing
+        (closing_small b series before m valid f)
 
 -- the records of a history are such as a text tells
 pub history_texts : (b : Basin) (series : Inflows) (records : List MonthRecord) → IsValidBasin b → IsSeriesOf b series → IsPartialHistory b series records → AreTextMonths b series records

@@ -42,11 +42,13 @@ told_small b series t valid fits partial way =
         omega (arith, way.bounded.returned n, same, stored_most b t.now.opening (opening_after b t.months) t.now.evaporated n way.bounded.opening)
 
 -- so is what a record shows
-pub shown_small : (b : Basin) (series : Inflows) (m : MonthRecord) (t : Told) → IsValidBasin b → IsSeriesOf b series → IsPartialHistory b series t.months → IsUnderWay b series t → Shows m t.now →
+pub shown_small : (b : Basin) (series : Inflows) (m : MonthRecord) (t : Told) → IsValidBasin b →
+    IsSeriesOf b series → IsPartialHistory b series t.months → IsUnderWay b series t → Shows m t.now →
     total (length b.nodes) (λ n. inflow_at b series n m.index + slice_index m.returned n + stored_at b m.opening m.evaporated n) ≤ 36 * 10 ^ 12
 shown_small b series m t valid fits partial way s = rw (s.index, s.returned, s.opening, s.evaporated) (told_small b series t valid fits partial way)
 
-pub node_small : (b : Basin) (series : Inflows) (m : MonthRecord) (t : Told) (n : ℕ) → IsValidBasin b → IsSeriesOf b series → IsPartialHistory b series t.months → IsUnderWay b series t → Shows m t.now →
+pub node_small : (b : Basin) (series : Inflows) (m : MonthRecord) (t : Told) (n : ℕ) → IsValidBasin b →
+    IsSeriesOf b series → IsPartialHistory b series t.months → IsUnderWay b series t → Shows m t.now →
     n < length b.nodes → inflow_at b series n m.index + slice_index m.returned n + stored_at b m.opening m.evaporated n ≤ 36 * 10 ^ 12
 node_small b series m t n valid fits partial way s l =
     let one = term_le_total (length b.nodes) (λ k. inflow_at b series k m.index + slice_index m.returned k + stored_at b m.opening m.evaporated k) n l in

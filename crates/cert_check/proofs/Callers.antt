@@ -97,7 +97,8 @@ pub record Behind (b : Basin) (series : Inflows) (dues : List (ℕ × ℕ)) (tak
   pub take_is : t.now.plan.take ≡ take
 
 pub closings : (b : Basin) (series : Inflows) (dues : List (ℕ × ℕ)) (take : List ℕ) (a : ℕ → ℕ) → Section b series (Behind b series dues take)
-    (λ x. a x ≡ total_where (length b.rights) (λ r. is_zone_of b r x) (λ r. slice_index take r)) (λ x. line.Amount quantity.Closing x (a x))
+    (λ x. a x ≡ total_where (length b.rights) (λ r. is_zone_of b r x) (λ r. slice_index take r))
+    (λ x. line.Amount quantity.Closing x (a x))
 closings b series dues take a = record {
   makes = λ x t p g. (
     loose_fails b series t (line.Amount quantity.Closing x (a x)) p.callers.all.settled,
@@ -107,17 +108,23 @@ closings b series dues take a = record {
         refl,
         (
           rw (p.callers.due, p.callers.count) (not_less (length dues)),
-          (same_is (a x) (total_where (length b.rights) (λ r. is_zone_of b r x) (λ r. slice_index t.now.plan.take r)) (rw p.take_is g), tt),
+          (
+            same_is (a x) (total_where (length b.rights) (λ r. is_zone_of b r x) (λ r. slice_index t.now.plan.take r))
+                (rw p.take_is g),
+            tt,
+          ),
         ),
       ),
     ),
   );
-  tells = λ x t p n. is_same (a x) (total_where (length b.rights) (λ r. is_zone_of b r x) (λ r. slice_index t.now.plan.take r)) n.1.1.1.1.0
+  tells = λ x t p n. is_same (a x)
+      (total_where (length b.rights) (λ r. is_zone_of b r x) (λ r. slice_index t.now.plan.take r)) n.1.1.1.1.0
       ∙ ap (λ ts. total_where (length b.rights) (λ r. is_zone_of b r x) (λ r. slice_index ts r)) p.take_is;
   keeps = λ x t p. record {
     callers = record {
       all = record { settled = λ r e. never r e; none_left = p.callers.all.none_left };
-      due = same_callers b (tell b series t (line.Amount quantity.Closing x (a x))).now t.now refl refl refl ∙ p.callers.due;
+      due = same_callers b (tell b series t (line.Amount quantity.Closing x (a x))).now t.now refl refl refl
+          ∙ p.callers.due;
       count = p.callers.count;
     };
     take_is = p.take_is;
@@ -197,11 +204,13 @@ pub record IsPast (b : Basin) (series : Inflows) (t : Told) : Type 0 where
 at_most : (n k : ℕ) → nat_lt k n ≡ false → n ≤ k
 at_most n k h = grind (arith, nat_tests)
 
-pub closing_past : (b : Basin) (series : Inflows) (t : Told) (v amount : ℕ) → NoneHolds (rows b series t (line.Amount quantity.Closing v amount)) → IsPast b series t
+pub closing_past : (b : Basin) (series : Inflows) (t : Told) (v amount : ℕ) →
+    NoneHolds (rows b series t (line.Amount quantity.Closing v amount)) → IsPast b series t
 closing_past b series t v amount n = record {
   all = record {
     settled = settled b series t (line.Amount quantity.Closing v amount) refl n.0;
-    none_left = λ r l s f. (let set = none_missing b t (line.Amount quantity.Closing v amount) n.1.0 r l s refl in let never : None ≡ Some set.0 = sym f ∙ set.1 in cc);
+    none_left = λ r l s f. (let set = none_missing b t (line.Amount quantity.Closing v amount) n.1.0 r l s refl in
+        let never : None ≡ Some set.0 = sym f ∙ set.1 in cc);
   };
   count = at_most (length (callers_due b t.now)) t.called n.1.1.1.0;
 }

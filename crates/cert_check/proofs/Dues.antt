@@ -18,7 +18,8 @@ use Rattle.cert_check.specs.Walks.{IsNextDue}
 use Rattle.cert_check.specs.declared.account.Account.{Account}
 use Rattle.cert_check.specs.declared.answering.Due.{Due}
 use Rattle.cert_check.proofs.Callers.{at_length}
-use Rattle.cert_check.proofs.Entries.{callers_told, keeps_answered}
+use Rattle.cert_check.proofs.Entries.{callers_told}
+use Rattle.cert_check.proofs.Kept.{keeps_answered}
 
 -- the callers of some rights, and of those behind them
 callers_split : (b : Basin) (m : MonthRecord) (xs : List ℕ) (k : ℕ) → callers_of b m xs ≡ callers_of b m (take k xs) ++ callers_of b m (drop k xs)

@@ -176,16 +176,24 @@ pub record Stays (m n : MonthRecord) : Type 0 where
   pub cuts : n.cuts ≡ m.cuts
 
 pub stays : (q : Quantity) (entry amount : ℕ) (m : MonthRecord) → Stays m (with_amount q entry amount m)
-stays quantity.Opening entry amount m = record { month = refl; want = refl; take = refl; delivered = refl; cuts = refl }
-stays quantity.Evaporated entry amount m = record { month = refl; want = refl; take = refl; delivered = refl; cuts = refl }
-stays quantity.Returned entry amount m = record { month = refl; want = refl; take = refl; delivered = refl; cuts = refl }
-stays quantity.Used entry amount m = record { month = refl; want = refl; take = refl; delivered = refl; cuts = refl }
-stays quantity.Flow entry amount m = record { month = refl; want = refl; take = refl; delivered = refl; cuts = refl }
-stays quantity.Outflow entry amount m = record { month = refl; want = refl; take = refl; delivered = refl; cuts = refl }
-stays quantity.Closing entry amount m = record { month = refl; want = refl; take = refl; delivered = refl; cuts = refl }
+stays quantity.Opening entry amount m =
+    record { month = refl; want = refl; take = refl; delivered = refl; cuts = refl }
+stays quantity.Evaporated entry amount m =
+    record { month = refl; want = refl; take = refl; delivered = refl; cuts = refl }
+stays quantity.Returned entry amount m =
+    record { month = refl; want = refl; take = refl; delivered = refl; cuts = refl }
+stays quantity.Used entry amount m =
+    record { month = refl; want = refl; take = refl; delivered = refl; cuts = refl }
+stays quantity.Flow entry amount m =
+    record { month = refl; want = refl; take = refl; delivered = refl; cuts = refl }
+stays quantity.Outflow entry amount m =
+    record { month = refl; want = refl; take = refl; delivered = refl; cuts = refl }
+stays quantity.Closing entry amount m =
+    record { month = refl; want = refl; take = refl; delivered = refl; cuts = refl }
 
 -- callers follow from deliveries, wants and sets
-pub callers_same : (b : Basin) (m n : MonthRecord) → m.delivered ≡ n.delivered → m.want ≡ n.want → m.cuts.sets ≡ n.cuts.sets → (xs : List ℕ) →
+pub callers_same : (b : Basin) (m n : MonthRecord) → m.delivered ≡ n.delivered → m.want ≡ n.want →
+    m.cuts.sets ≡ n.cuts.sets → (xs : List ℕ) →
     callers_of b m xs ≡ callers_of b n xs
 unfolding calling_right calls
 callers_same b m n d w s xs = rw (d, w, s) refl
@@ -194,11 +202,13 @@ pub callers_stay : (b : Basin) (m n : MonthRecord) → Stays m n → (xs : List 
 callers_stay b m n s xs =
     callers_same b m n (sym s.delivered) (sym s.want) (ap (λ (cuts : CutSets). cuts.sets) (sym s.cuts)) xs
 
-pub lacks_stay : (m n : MonthRecord) → Stays m n → (xs : List ℕ) → list_any (lacks_call n) xs ≡ list_any (lacks_call m) xs
+pub lacks_stay : (m n : MonthRecord) → Stays m n → (xs : List ℕ) →
+    list_any (lacks_call n) xs ≡ list_any (lacks_call m) xs
 lacks_stay m n s xs = rw (s.delivered, s.want, s.cuts) refl
 
 -- the supply that is made stays so, unless it is made of the quantity
-pub supply_stays : (b : Basin) (series : Inflows) (q : Quantity) (entry amount : ℕ) (m now : MonthRecord) (made : Bool) →
+pub supply_stays : (b : Basin) (series : Inflows) (q : Quantity) (entry amount : ℕ) (m now : MonthRecord)
+    (made : Bool) →
     (made ≡ true → m.supply ≡ (with_supply b series now).supply) → made && not (is_supplied q) ≡ true →
     (with_amount q entry amount m).supply ≡ (with_supply b series (with_amount q entry amount now)).supply
 supply_stays b series q entry amount m now false h e = clash e

@@ -47,7 +47,8 @@ deliveries b s = map (λ x. line.Deliver x (s.delivered x) (s.want x)) (seniors_
 abbrev amounts : Basin → Sheet → List Item
 amounts b s =
     amounts_in b s quantity.Opening ++ (amounts_in b s quantity.Evaporated ++ (amounts_in b s quantity.Returned
-    ++ (amounts_in b s quantity.Used ++ (amounts_in b s quantity.Flow ++ (deliveries b s ++ amounts_in b s quantity.Outflow)))))
+    ++ (amounts_in b s quantity.Used ++
+    (amounts_in b s quantity.Flow ++ (deliveries b s ++ amounts_in b s quantity.Outflow)))))
 
 abbrev calls : Basin → Sheet → List Item
 calls b s = flat_map (λ r. call_items r (s.cut r)) (seniors_first b)
@@ -85,10 +86,13 @@ all_front b s =
     (all_amounts is_before_called (λ q v n h. ap not h) (λ v n w. refl) b s)
     (all_calls is_before_called (λ r. refl) (λ n. refl) s.cut (seniors_first b))
 
-all_behind : (p : Item → Bool) → ((r c : ℕ) → p (line.Called r c) ≡ true) → ((v n : ℕ) → p (line.Amount quantity.Closing v n) ≡ true) → (b : Basin) (s : Sheet) (dues : List (ℕ × ℕ)) →
+all_behind : (p : Item → Bool) → ((r c : ℕ) → p (line.Called r c) ≡ true) →
+    ((v n : ℕ) → p (line.Amount quantity.Closing v n) ≡ true) → (b : Basin) (s : Sheet) (dues : List (ℕ × ℕ)) →
     list_all p (behind_calls b s dues) ≡ true
 all_behind p called closing b s dues =
-    all_both p (map called_line dues) _ (all_each p called_line (λ x. called x.0 x.1) dues) (all_each p (λ x. line.Amount quantity.Closing x (s.amount quantity.Closing x)) (λ x. closing x _) (entries_with_line b quantity.Closing))
+    all_both p (map called_line dues) _ (all_each p called_line (λ x. called x.0 x.1) dues)
+    (all_each p (λ x. line.Amount quantity.Closing x (s.amount quantity.Closing x)) (λ x. closing x _)
+    (entries_with_line b quantity.Closing))
 
 -- no call of a right stands before its own
 calls_once : (cut : ℕ → Option (List Bool)) (rs : List ℕ) → AreApart rs → (xs : List Item) (r : ℕ) (ys : List Item) →

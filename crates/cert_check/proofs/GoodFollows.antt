@@ -158,7 +158,8 @@ good_follows b series before m valid a g index month opens = record {
   };
   index = index;
   month = month;
-  opening = same_number_lists m.opening (opening_after b before) (opening_len ∙ sym opens) (λ k l. g.opening k (with_line-has b quantity.Opening k (omega (arith, opening_len)) refl));
+  opening = same_number_lists m.opening (opening_after b before) (opening_len
+      ∙ sym opens) (λ k l. g.opening k (with_line-has b quantity.Opening k (omega (arith, opening_len)) refl));
   evaporated = λ v l. g.evaporated v (with_line-has b quantity.Evaporated v l refl);
   returned = λ n l. by_filter (λ k. has_line b quantity.Returned k) (in_order (space_of quantity.Returned) b) n
       (slice_index m.returned n) (returned_at b (map (λ k. k.delivered) before) n m.index)
@@ -174,7 +175,8 @@ good_follows b series before m valid a g index month opens = record {
     flow_len = listed_len quantity.Flow;
     take_len = told_len (seniors_first b) _ (length b.rights) m.plan.take a.take;
     out_len = listed_len quantity.Outflow;
-    carries = λ e l. is_most (carry_of b m.month e) (slice_index m.plan.flow e) (g.flow e (with_line-has b quantity.Flow e l refl));
+    carries = λ e l. is_most (carry_of b m.month e) (slice_index m.plan.flow e)
+        (g.flow e (with_line-has b quantity.Flow e l refl));
     wants = λ r l. (right r l).most;
     instream = λ r l e. (right r l).instream e;
     outlets = λ n l e. unlisted quantity.Outflow n

@@ -31,13 +31,17 @@ pub record HasOutlet (b : Basin) : Type 0 where
   pub others : List ℕ
   pub are : outlets b ≡ first ∷ others
 
-outflows_balance : (b : Basin) (series : Inflows) (a : ℕ → ℕ) (t : Told) → HasOutlet b → AreGood b series t (map (λ n. line.Amount quantity.Outflow n (a n)) (outlets b)) →
+outflows_balance : (b : Basin) (series : Inflows) (a : ℕ → ℕ) (t : Told) → HasOutlet b →
+    AreGood b series t (map (λ n. line.Amount quantity.Outflow n (a n)) (outlets b)) →
     IsInBalance b series (fold (tell b series) t (map (λ n. line.Amount quantity.Outflow n (a n)) (outlets b))).now
 outflows_balance b series a t h g =
-    subst (λ (xs : List ℕ). IsInBalance b series (fold (tell b series) t (map (λ n. line.Amount quantity.Outflow n (a n)) xs)).now) (sym h.are)
-    (outflows_told b series a h.first h.others [] t h.are (subst (λ (xs : List ℕ). AreGood b series t (map (λ n. line.Amount quantity.Outflow n (a n)) xs)) h.are g))
+    subst (λ (xs : List ℕ). IsInBalance b series
+    (fold (tell b series) t (map (λ n. line.Amount quantity.Outflow n (a n)) xs)).now) (sym h.are)
+    (outflows_told b series a h.first h.others [] t h.are
+    (subst (λ (xs : List ℕ). AreGood b series t (map (λ n. line.Amount quantity.Outflow n (a n)) xs)) h.are g))
 
-past_of : (b : Basin) (series : Inflows) (a : ℕ → ℕ) (xs : List ℕ) (t : Told) → AreGood b series t (map (λ x. line.Amount quantity.Closing x (a x)) xs ++ line.End ∷ []) → IsPast b series t
+past_of : (b : Basin) (series : Inflows) (a : ℕ → ℕ) (xs : List ℕ) (t : Told) →
+    AreGood b series t (map (λ x. line.Amount quantity.Closing x (a x)) xs ++ line.End ∷ []) → IsPast b series t
 past_of b series a [] t g = end_past b series t g.0
 past_of b series a (x ∷ xs) t g = closing_past b series t x (a x) g.0
 
@@ -95,7 +99,8 @@ inner_is_good b series before m dues outlet a t at g =
     let g7 = good_rest b series (behind_deliver b series m t) (out_lines b m) (call_lines b m ++ (due_lines dues ++ (closing_lines b m ++ (line.End ∷ [])))) g6 in
     let g8 = good_rest b series (behind_out b series m t) (call_lines b m) (due_lines dues ++ (closing_lines b m ++ (line.End ∷ []))) g7 in
     let g9 = good_rest b series (behind_calls b series m t) (due_lines dues) (closing_lines b m ++ (line.End ∷ [])) g8 in
-    let past = past_of b series (λ x. slice_index m.closing x) (entries_with_line b quantity.Closing) (behind_called b series m dues t) g9 in
+    let past = past_of b series (λ x. slice_index m.closing x) (entries_with_line b quantity.Closing)
+    (behind_called b series m dues t) g9 in
     let calls_here = good_first b series (behind_out b series m t) (call_lines b m) (due_lines dues ++ (closing_lines b m ++ (line.End ∷ []))) g7 in
     let dues_here = good_first b series (behind_calls b series m t) (due_lines dues) (closing_lines b m ++ (line.End ∷ [])) g8 in
     let closings_here = good_first b series (behind_called b series m dues t) (closing_lines b m) (line.End ∷ []) g9 in
@@ -106,16 +111,59 @@ inner_is_good b series before m dues outlet a t at g =
       take_is = ap (λ k. k.plan.take) called.0;
     } in (
       record {
-        opening = good_section b series (section.Behind before) _ (λ x. line.Amount quantity.Opening x (slice_index m.opening x)) (section.openings b series before (λ x. slice_index m.opening x)) (entries_with_line b quantity.Opening) (t) (at.calling, at.months) (good_first b series t (opening_lines b m) (evaporated_lines b m ++ (returned_lines b m ++ (used_lines b m ++ (flow_lines b m ++ (deliver_lines b m ++ (out_lines b m ++ (call_lines b m ++ (due_lines dues ++ (closing_lines b m ++ (line.End ∷ [])))))))))) g0);
-        evaporated = good_section b series (section.Opened m.index m.opening) _ (λ x. line.Amount quantity.Evaporated x (slice_index m.evaporated x)) (section.evaporations b series m.index m.opening (λ x. slice_index m.evaporated x)) (entries_with_line b quantity.Evaporated) (behind_opening b series m t) (s.opening.calling, ap (λ k. k.index) s.opening.now_is, ap (λ k. k.opening) s.opening.now_is) (good_first b series (behind_opening b series m t) (evaporated_lines b m) (returned_lines b m ++ (used_lines b m ++ (flow_lines b m ++ (deliver_lines b m ++ (out_lines b m ++ (call_lines b m ++ (due_lines dues ++ (closing_lines b m ++ (line.End ∷ []))))))))) g1);
-        returned = good_section b series (section.BehindAt before m.index) _ (λ x. line.Amount quantity.Returned x (slice_index m.returned x)) (section.returns b series before m.index (λ x. slice_index m.returned x)) (entries_with_line b quantity.Returned) (behind_evaporated b series m t) (s.evaporated.calling, s.evaporated.months, ap (λ k. k.index) s.evaporated.now_is) (good_first b series (behind_evaporated b series m t) (returned_lines b m) (used_lines b m ++ (flow_lines b m ++ (deliver_lines b m ++ (out_lines b m ++ (call_lines b m ++ (due_lines dues ++ (closing_lines b m ++ (line.End ∷ [])))))))) g2);
-        used = good_section b series (section.BehindAt before m.index) _ (λ x. line.Amount quantity.Used x (slice_index m.used x)) (section.uses b series before m.index (λ x. slice_index m.used x)) (entries_with_line b quantity.Used) (behind_returned b series m t) (s.returned.calling, s.returned.months, ap (λ k. k.index) s.returned.now_is) (good_first b series (behind_returned b series m t) (used_lines b m) (flow_lines b m ++ (deliver_lines b m ++ (out_lines b m ++ (call_lines b m ++ (due_lines dues ++ (closing_lines b m ++ (line.End ∷ []))))))) g3);
-        flow = good_section b series (section.InMonth m.month) _ (λ x. line.Amount quantity.Flow x (slice_index m.plan.flow x)) (section.flows b series m.month (λ x. slice_index m.plan.flow x)) (entries_with_line b quantity.Flow) (behind_used b series m t) (s.used.calling, ap (λ k. k.month) s.used.now_is) (good_first b series (behind_used b series m t) (flow_lines b m) (deliver_lines b m ++ (out_lines b m ++ (call_lines b m ++ (due_lines dues ++ (closing_lines b m ++ (line.End ∷ [])))))) g4);
+        opening = good_section b series (section.Behind before) _
+            (λ x. line.Amount quantity.Opening x (slice_index m.opening x))
+            (section.openings b series before (λ x. slice_index m.opening x)) (entries_with_line b quantity.Opening)
+            (t) (at.calling, at.months)
+            (good_first b series t (opening_lines b m)
+            (evaporated_lines b m ++
+            (returned_lines b m ++
+            (used_lines b m ++ (flow_lines b m ++
+            (deliver_lines b m ++
+            (out_lines b m ++ (call_lines b m ++ (due_lines dues ++ (closing_lines b m ++ (line.End ∷ [])))))))))) g0);
+        evaporated = good_section b series (section.Opened m.index m.opening) _
+            (λ x. line.Amount quantity.Evaporated x (slice_index m.evaporated x))
+            (section.evaporations b series m.index m.opening (λ x. slice_index m.evaporated x))
+            (entries_with_line b quantity.Evaporated) (behind_opening b series m t)
+            (s.opening.calling, ap (λ k. k.index) s.opening.now_is, ap (λ k. k.opening) s.opening.now_is)
+            (good_first b series (behind_opening b series m t) (evaporated_lines b m)
+            (returned_lines b m ++
+            (used_lines b m ++ (flow_lines b m ++
+            (deliver_lines b m ++
+            (out_lines b m ++ (call_lines b m ++ (due_lines dues ++ (closing_lines b m ++ (line.End ∷ []))))))))) g1);
+        returned = good_section b series (section.BehindAt before m.index) _
+            (λ x. line.Amount quantity.Returned x (slice_index m.returned x))
+            (section.returns b series before m.index (λ x. slice_index m.returned x))
+            (entries_with_line b quantity.Returned) (behind_evaporated b series m t)
+            (s.evaporated.calling, s.evaporated.months, ap (λ k. k.index) s.evaporated.now_is)
+            (good_first b series (behind_evaporated b series m t) (returned_lines b m)
+            (used_lines b m ++ (flow_lines b m ++
+            (deliver_lines b m ++
+            (out_lines b m ++ (call_lines b m ++ (due_lines dues ++ (closing_lines b m ++ (line.End ∷ [])))))))) g2);
+        used = good_section b series (section.BehindAt before m.index) _
+            (λ x. line.Amount quantity.Used x (slice_index m.used x))
+            (section.uses b series before m.index (λ x. slice_index m.used x)) (entries_with_line b quantity.Used)
+            (behind_returned b series m t) (
+              s.returned.calling,
+              s.returned.months,
+              ap (λ k. k.index) s.returned.now_is,
+            ) (good_first b series (behind_returned b series m t) (used_lines b m)
+            (flow_lines b m ++ (deliver_lines b m ++
+            (out_lines b m ++ (call_lines b m ++ (due_lines dues ++ (closing_lines b m ++ (line.End ∷ []))))))) g3);
+        flow = good_section b series (section.InMonth m.month) _
+            (λ x. line.Amount quantity.Flow x (slice_index m.plan.flow x))
+            (section.flows b series m.month (λ x. slice_index m.plan.flow x)) (entries_with_line b quantity.Flow)
+            (behind_used b series m t) (s.used.calling, ap (λ k. k.month) s.used.now_is)
+            (good_first b series (behind_used b series m t) (flow_lines b m)
+            (deliver_lines b m ++
+            (out_lines b m ++ (call_lines b m ++ (due_lines dues ++ (closing_lines b m ++ (line.End ∷ [])))))) g4);
         deliver = good_section b series (section.Flows m.index m.used m.plan.flow) _ (λ x. line.Deliver x (slice_index m.delivered x) (slice_index m.want x)) (section.deliveries b series m.index m.used m.plan.flow (λ x. slice_index m.delivered x) (λ x. slice_index m.want x)) (seniors_first b) (behind_flow b series m t) (s.flow.calling, ap (λ k. k.index) s.flow.now_is, ap (λ k. k.used) s.flow.now_is, ap (λ k. k.plan.flow) s.flow.now_is) (good_first b series (behind_flow b series m t) (deliver_lines b m) (out_lines b m ++ (call_lines b m ++ (due_lines dues ++ (closing_lines b m ++ (line.End ∷ []))))) g5);
         balance = balance_out b series m (behind_out b series m t) a s.out.now_is (outflows_balance b series (λ x. slice_index m.plan.out x) (behind_deliver b series m t) outlet (good_first b series (behind_deliver b series m t) (out_lines b m) (call_lines b m ++ (due_lines dues ++ (closing_lines b m ++ (line.End ∷ [])))) g6));
         sets = right_sets b series m (behind_out b series m t) (behind_called b series m dues t) a s.out.now_is calls_here called.0 settled past.all;
-        closing = good_section b series (Behind b series (callers_due b m) m.plan.take) _ (λ x. line.Amount quantity.Closing x (slice_index m.closing x))
-            (closings b series (callers_due b m) m.plan.take (λ x. slice_index m.closing x)) (entries_with_line b quantity.Closing) (behind_called b series m dues t) stands closings_here;
+        closing = good_section b series (Behind b series (callers_due b m) m.plan.take) _
+            (λ x. line.Amount quantity.Closing x (slice_index m.closing x))
+            (closings b series (callers_due b m) m.plan.take (λ x. slice_index m.closing x))
+            (entries_with_line b quantity.Closing) (behind_called b series m dues t) stands closings_here;
       },
       called.1,
     )

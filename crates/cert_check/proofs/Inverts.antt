@@ -121,7 +121,8 @@ pub record Lines (b : Basin) (line_at : ℕ → Shape) (xs : List ℕ) (ds : Lis
 pub each_line : (b : Basin) (line_at : ℕ → Shape) → ((x : ℕ) → is_optional (line_at x) ≡ false) →
     ((x : ℕ) (f : Fields) (members : List Item) → IsFollowedBy b (with_fields (line_at x) f) members → members ≡ []) →
     (xs : List ℕ) → AreApart xs → (ds : List Shape) (items : List Item) → Fills b (map line_at xs ++ ds) items → Lines b line_at xs ds items
-each_line b line_at o alone [] apart ds items h = record { fields = λ x. no_fields; others = items; are = refl; rest = h }
+each_line b line_at o alone [] apart ds items h =
+    record { fields = λ x. no_fields; others = items; are = refl; rest = h }
 each_line b line_at o alone (x ∷ xs) apart ds items h =
     let first = one_line b (line_at x) (map line_at xs ++ ds) items (o x) h in
     let later = each_line b line_at o alone xs apart.1 ds first.others first.rest in

@@ -29,6 +29,8 @@ pub mod UnderWay
 pub mod Fronts
 pub mod Fitting
 pub mod Entries
+pub mod SetEntries
+pub mod Kept
 pub mod Bounded
 pub mod Missing
 pub mod Dues

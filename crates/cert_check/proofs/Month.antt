@@ -98,9 +98,11 @@ lines_of b m q = map (λ x. line.Amount q x (slice_index (amounts_of q m) x)) (e
 
 amount_stage : (b : Basin) (series : Inflows) (before : List MonthRecord) (m : MonthRecord) → IsAllTold b series m →
     (q : Quantity) (now : MonthRecord) → amounts_of q now ≡ replicate (count_in (space_of q) b) 0 →
-    (t : Told) → At b before now t → At b before (with_amounts q now (amounts_of q m)) (fold (tell b series) t (lines_of b m q))
+    (t : Told) → At b before now t → At b before (with_amounts q now (amounts_of q m))
+    (fold (tell b series) t (lines_of b m q))
 amount_stage b series before m a q now none t at =
-    stage b series before now (with_amounts q now (amounts_of q m)) (λ x. line.Amount q x (slice_index (amounts_of q m) x))
+    stage b series before now (with_amounts q now (amounts_of q m))
+    (λ x. line.Amount q x (slice_index (amounts_of q m) x))
     (entries_with_line b q) _ (λ x t. refl) (λ x t. refl)
     (makes_amounts b series q (λ x. slice_index (amounts_of q m) x) (entries_with_line b q))
     (ap (λ xs. with_amounts q now (set_all (entries_with_line b q) (λ x. slice_index (amounts_of q m) x) xs)) none
@@ -110,10 +112,12 @@ abbrev pub deliver_lines : Basin → MonthRecord → List Item
 deliver_lines b m = map (λ x. line.Deliver x (slice_index m.delivered x) (slice_index m.want x)) (seniors_first b)
 
 deliver_stage : (b : Basin) (series : Inflows) (before : List MonthRecord) (m : MonthRecord) → IsAllTold b series m →
-    (t : Told) → At b before (with_flow b m) t → At b before (with_deliver b m) (fold (tell b series) t (deliver_lines b m))
+    (t : Told) → At b before (with_flow b m) t → At b before (with_deliver b m)
+    (fold (tell b series) t (deliver_lines b m))
 deliver_stage b series before m a t at =
     stage b series before (with_flow b m) (with_deliver b m)
-    (λ x. line.Deliver x (slice_index m.delivered x) (slice_index m.want x)) (seniors_first b) _ (λ x t. refl) (λ x t. refl)
+    (λ x. line.Deliver x (slice_index m.delivered x) (slice_index m.want x)) (seniors_first b) _ (λ x t. refl)
+    (λ x t. refl)
     (makes_deliveries b series (λ x. slice_index m.delivered x) (λ x. slice_index m.want x) (seniors_first b))
     (rw (a.delivered, a.want, a.take) refl) t at
 
@@ -165,13 +169,15 @@ section_is b m caller_of section.Calls = refl
 section_is b m caller_of section.Called = called_lines caller_of (seniors_first b)
 
 pub month_is : (b : Basin) (m : MonthRecord) (caller_of : ℕ → Option ℕ) →
-    month_lines b m caller_of ≡ line.Month m.month ∷ inner_lines b m (flat_map (λ r. caller_due r (caller_of r)) (seniors_first b))
+    month_lines b m caller_of ≡ line.Month m.month ∷ inner_lines b m
+    (flat_map (λ r. caller_due r (caller_of r)) (seniors_first b))
 unfolding month_lines
 month_is b m caller_of =
     ap (λ xs. line.Month m.month ∷ xs)
     (spread (λ k. lines_in k b m caller_of) SECTIONS (line.End ∷ [])
     ∙ onto_same (λ k. lines_in k b m caller_of)
-    (section_lines b m (flat_map (λ r. caller_due r (caller_of r)) (seniors_first b))) (section_is b m caller_of) SECTIONS
+    (section_lines b m (flat_map (λ r. caller_due r (caller_of r)) (seniors_first b)))
+    (section_is b m caller_of) SECTIONS
     (line.End ∷ []))
 
 abbrev pub behind_opening : Basin → Inflows → MonthRecord → Told → Told
@@ -218,12 +224,16 @@ pub stages : (b : Basin) (series : Inflows) (before : List MonthRecord) (m : Mon
     Stages b series before m t
 stages b series before m a t at =
     let s0 = amount_stage b series before m a quantity.Opening (begun b m) refl t at in
-    let s1 = amount_stage b series before m a quantity.Evaporated (with_opening b m) refl (behind_opening b series m t) s0 in
-    let s2 = amount_stage b series before m a quantity.Returned (with_evaporated b m) refl (behind_evaporated b series m t) s1 in
-    let s3 = amount_stage b series before m a quantity.Used (with_returned b m) refl (behind_returned b series m t) s2 in
+    let s1 = amount_stage b series before m a quantity.Evaporated (with_opening b m) refl
+    (behind_opening b series m t) s0 in
+    let s2 = amount_stage b series before m a quantity.Returned (with_evaporated b m) refl
+    (behind_evaporated b series m t) s1 in
+    let s3 = amount_stage b series before m a quantity.Used (with_returned b m) refl
+    (behind_returned b series m t) s2 in
     let s4 = amount_stage b series before m a quantity.Flow (with_used b m) refl (behind_used b series m t) s3 in
     let s5 = deliver_stage b series before m a (behind_flow b series m t) s4 in
-    let s6 = amount_stage b series before m a quantity.Outflow (with_deliver b m) refl (behind_deliver b series m t) s5 in
+    let s6 = amount_stage b series before m a quantity.Outflow (with_deliver b m) refl
+    (behind_deliver b series m t) s5 in
     record {
       opening = s0;
       evaporated = s1;
@@ -236,12 +246,16 @@ stages b series before m a t at =
 
 -- what a month's record has to keep, by the records before it, so that its lines are not refuted
 pub record IsGoodMonth (b : Basin) (series : Inflows) (before : List MonthRecord) (m : MonthRecord) : Type 0 where
-  pub opening : (x : ℕ) → Has (entries_with_line b quantity.Opening) x → slice_index m.opening x ≡ slice_index (opening_after b before) x
+  pub opening : (x : ℕ) → Has (entries_with_line b quantity.Opening) x →
+      slice_index m.opening x ≡ slice_index (opening_after b before) x
   pub evaporated : (x : ℕ) → Has (entries_with_line b quantity.Evaporated) x → slice_index m.evaporated x
       ≡ of_entry b.reservoirs x (λ r. evaporation r.area (slice_index m.opening x) (slice_index r.rate (in_year b m.index))) 0
-  pub returned : (x : ℕ) → Has (entries_with_line b quantity.Returned) x → slice_index m.returned x ≡ returned_at b (map (λ k. k.delivered) before) x m.index
-  pub used : (x : ℕ) → Has (entries_with_line b quantity.Used) x → slice_index m.used x ≡ used_of b (map (λ k. k.delivered) before) x m.index
-  pub flow : (x : ℕ) → Has (entries_with_line b quantity.Flow) x → nat_lt (carry_of b m.month x) (slice_index m.plan.flow x) ≡ false
+  pub returned : (x : ℕ) → Has (entries_with_line b quantity.Returned) x →
+      slice_index m.returned x ≡ returned_at b (map (λ k. k.delivered) before) x m.index
+  pub used : (x : ℕ) → Has (entries_with_line b quantity.Used) x →
+      slice_index m.used x ≡ used_of b (map (λ k. k.delivered) before) x m.index
+  pub flow : (x : ℕ) → Has (entries_with_line b quantity.Flow) x →
+      nat_lt (carry_of b m.month x) (slice_index m.plan.flow x) ≡ false
   pub deliver : (x : ℕ) → Has (seniors_first b) x → (slice_index m.want x ≡ want_of b series x m.index (slice_index m.used x))
       × (amount_wrong (instream_link b x) m.plan.flow (slice_index m.delivered x) (slice_index m.want x) ≡ false)
   pub balance : (n : ℕ) → n < length b.nodes → balances b m n ≡ true

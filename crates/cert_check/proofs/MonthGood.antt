@@ -62,11 +62,32 @@ pub inner_good : (b : Basin) (series : Inflows) (before : List MonthRecord) (m :
     (t : Told) → At b before (begun b m) t → AreGood b series t (inner_lines b m (callers_due b m))
 inner_good b series before m strict a good t at =
     let s = stages b series before m a t at in
-    let opening_good = section_good b series (section.Behind before) _ (λ x. line.Amount quantity.Opening x (slice_index m.opening x)) (section.openings b series before (λ x. slice_index m.opening x)) (entries_with_line b quantity.Opening) (t) (at.calling, at.months) good.opening in
-    let evaporated_good = section_good b series (section.Opened m.index m.opening) _ (λ x. line.Amount quantity.Evaporated x (slice_index m.evaporated x)) (section.evaporations b series m.index m.opening (λ x. slice_index m.evaporated x)) (entries_with_line b quantity.Evaporated) (behind_opening b series m t) (s.opening.calling, ap (λ k. k.index) s.opening.now_is, ap (λ k. k.opening) s.opening.now_is) good.evaporated in
-    let returned_good = section_good b series (section.BehindAt before m.index) _ (λ x. line.Amount quantity.Returned x (slice_index m.returned x)) (section.returns b series before m.index (λ x. slice_index m.returned x)) (entries_with_line b quantity.Returned) (behind_evaporated b series m t) (s.evaporated.calling, s.evaporated.months, ap (λ k. k.index) s.evaporated.now_is) good.returned in
-    let used_good = section_good b series (section.BehindAt before m.index) _ (λ x. line.Amount quantity.Used x (slice_index m.used x)) (section.uses b series before m.index (λ x. slice_index m.used x)) (entries_with_line b quantity.Used) (behind_returned b series m t) (s.returned.calling, s.returned.months, ap (λ k. k.index) s.returned.now_is) good.used in
-    let flow_good = section_good b series (section.InMonth m.month) _ (λ x. line.Amount quantity.Flow x (slice_index m.plan.flow x)) (section.flows b series m.month (λ x. slice_index m.plan.flow x)) (entries_with_line b quantity.Flow) (behind_used b series m t) (s.used.calling, ap (λ k. k.month) s.used.now_is) good.flow in
+    let opening_good = section_good b series (section.Behind before) _
+    (λ x. line.Amount quantity.Opening x (slice_index m.opening x))
+    (section.openings b series before (λ x. slice_index m.opening x)) (entries_with_line b quantity.Opening) (t)
+    (at.calling, at.months) good.opening in
+    let evaporated_good = section_good b series (section.Opened m.index m.opening) _
+    (λ x. line.Amount quantity.Evaporated x (slice_index m.evaporated x))
+    (section.evaporations b series m.index m.opening (λ x. slice_index m.evaporated x))
+    (entries_with_line b quantity.Evaporated) (behind_opening b series m t)
+    (s.opening.calling, ap (λ k. k.index) s.opening.now_is, ap (λ k. k.opening) s.opening.now_is) good.evaporated in
+    let returned_good = section_good b series (section.BehindAt before m.index) _
+    (λ x. line.Amount quantity.Returned x (slice_index m.returned x))
+    (section.returns b series before m.index (λ x. slice_index m.returned x))
+    (entries_with_line b quantity.Returned) (behind_evaporated b series m t)
+    (s.evaporated.calling, s.evaporated.months, ap (λ k. k.index) s.evaporated.now_is) good.returned in
+    let used_good = section_good b series (section.BehindAt before m.index) _
+    (λ x. line.Amount quantity.Used x (slice_index m.used x))
+    (section.uses b series before m.index (λ x. slice_index m.used x)) (entries_with_line b quantity.Used)
+    (behind_returned b series m t) (
+      s.returned.calling,
+      s.returned.months,
+      ap (λ k. k.index) s.returned.now_is,
+    ) good.used in
+    let flow_good = section_good b series (section.InMonth m.month) _
+    (λ x. line.Amount quantity.Flow x (slice_index m.plan.flow x))
+    (section.flows b series m.month (λ x. slice_index m.plan.flow x)) (entries_with_line b quantity.Flow)
+    (behind_used b series m t) (s.used.calling, ap (λ k. k.month) s.used.now_is) good.flow in
     let deliver_good = section_good b series (section.Flows m.index m.used m.plan.flow) _ (λ x. line.Deliver x (slice_index m.delivered x) (slice_index m.want x)) (section.deliveries b series m.index m.used m.plan.flow (λ x. slice_index m.delivered x) (λ x. slice_index m.want x)) (seniors_first b) (behind_flow b series m t) (s.flow.calling, ap (λ k. k.index) s.flow.now_is, ap (λ k. k.used) s.flow.now_is, ap (λ k. k.plan.flow) s.flow.now_is) good.deliver in
     let out_good = outflows_good b series (λ x. slice_index m.plan.out x) (outlets b) [] (behind_deliver b series m t) refl (outlets_rise b) s.deliver.calling
     (out_balance b series m (behind_out b series m t) a s.out.now_is good.balance) in
@@ -80,8 +101,10 @@ inner_good b series before m strict a good t at =
       take_is = ap (λ k. k.plan.take) (called_now b series (callers_due b m) (behind_calls b series m t) ∙ behind.now_is);
     } in
     let last = closings b series (callers_due b m) m.plan.take (λ x. slice_index m.closing x) in
-    let closing_good = section_good b series (Behind b series (callers_due b m) m.plan.take) _ (λ x. line.Amount quantity.Closing x (slice_index m.closing x)) last
+    let closing_good = section_good b series (Behind b series (callers_due b m) m.plan.take) _
+    (λ x. line.Amount quantity.Closing x (slice_index m.closing x)) last
     (entries_with_line b quantity.Closing) (behind_called b series m (callers_due b m) t) past good.closing in
-    let ended = section_keeps b series (Behind b series (callers_due b m) m.plan.take) _ (λ x. line.Amount quantity.Closing x (slice_index m.closing x)) last
+    let ended = section_keeps b series (Behind b series (callers_due b m) m.plan.take) _
+    (λ x. line.Amount quantity.Closing x (slice_index m.closing x)) last
     (entries_with_line b quantity.Closing) (behind_called b series m (callers_due b m) t) past in
     good_both b series t (opening_lines b m) (evaporated_lines b m ++ (returned_lines b m ++ (used_lines b m ++ (flow_lines b m ++ (deliver_lines b m ++ (out_lines b m ++ (call_lines b m ++ (due_lines (callers_due b m) ++ (closing_lines b m ++ (line.End ∷ [])))))))))) opening_good (good_both b series (behind_opening b series m t) (evaporated_lines b m) (returned_lines b m ++ (used_lines b m ++ (flow_lines b m ++ (deliver_lines b m ++ (out_lines b m ++ (call_lines b m ++ (due_lines (callers_due b m) ++ (closing_lines b m ++ (line.End ∷ []))))))))) evaporated_good (good_both b series (behind_evaporated b series m t) (returned_lines b m) (used_lines b m ++ (flow_lines b m ++ (deliver_lines b m ++ (out_lines b m ++ (call_lines b m ++ (due_lines (callers_due b m) ++ (closing_lines b m ++ (line.End ∷ [])))))))) returned_good (good_both b series (behind_returned b series m t) (used_lines b m) (flow_lines b m ++ (deliver_lines b m ++ (out_lines b m ++ (call_lines b m ++ (due_lines (callers_due b m) ++ (closing_lines b m ++ (line.End ∷ []))))))) used_good (good_both b series (behind_used b series m t) (flow_lines b m) (deliver_lines b m ++ (out_lines b m ++ (call_lines b m ++ (due_lines (callers_due b m) ++ (closing_lines b m ++ (line.End ∷ [])))))) flow_good (good_both b series (behind_flow b series m t) (deliver_lines b m) (out_lines b m ++ (call_lines b m ++ (due_lines (callers_due b m) ++ (closing_lines b m ++ (line.End ∷ []))))) deliver_good (good_both b series (behind_deliver b series m t) (out_lines b m) (call_lines b m ++ (due_lines (callers_due b m) ++ (closing_lines b m ++ (line.End ∷ [])))) out_good (good_both b series (behind_out b series m t) (call_lines b m) (due_lines (callers_due b m) ++ (closing_lines b m ++ (line.End ∷ []))) calls.0 (good_both b series (behind_calls b series m t) (due_lines (callers_due b m)) (closing_lines b m ++ (line.End ∷ [])) called.0 (good_both b series (behind_called b series m (callers_due b m) t) (closing_lines b m) (line.End ∷ []) closing_good ((end_good b series (callers_due b m) (behind_closing b series m (callers_due b m) t) ended.callers, tt)))))))))))

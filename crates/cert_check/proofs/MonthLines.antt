@@ -67,7 +67,8 @@ section_filled b valid (section.Amounts q) ds items h =
       rest = l.rest;
     }
 section_filled b valid section.Deliveries ds items h =
-    let l = each_line b (λ x. shape.Deliver x) (λ x. refl) (λ x f ms e. e) (seniors_first b) (seniors_apart b valid) ds items
+    let l = each_line b (λ x. shape.Deliver x) (λ x. refl) (λ x f ms e. e) (seniors_first b)
+    (seniors_apart b valid) ds items
     (subst (λ (xs : List Shape). Fills b (xs ++ ds) items) (flat_map_one (λ r. shape.Deliver r) (seniors_first b)) h) in
     record {
       content = record { fields = l.fields; cut = λ r. None; dues = [] };
@@ -111,7 +112,8 @@ abbrev all_lines : (ks : List Section) → Basin → Contents ks → List Item �
 all_lines [] b cs ys = ys
 all_lines (k ∷ ks) b cs ys = content_lines b k cs.0 ++ all_lines ks b cs.1 ys
 
-all_lines-then : (ks : List Section) (b : Basin) (cs : Contents ks) (ys zs : List Item) → all_lines ks b cs ys ++ zs ≡ all_lines ks b cs (ys ++ zs)
+all_lines-then : (ks : List Section) (b : Basin) (cs : Contents ks) (ys zs : List Item) →
+    all_lines ks b cs ys ++ zs ≡ all_lines ks b cs (ys ++ zs)
 all_lines-then [] b cs ys zs = refl
 all_lines-then (k ∷ ks) b cs ys zs =
     append_assoc (content_lines b k cs.0) (all_lines ks b cs.1 ys) zs
@@ -169,7 +171,8 @@ pub record MonthLines (b : Basin) (ds : List Shape) (items : List Item) : Type 0
 pub inner_filled : (b : Basin) → IsValidBasin b → (ds : List Shape) (items : List Item) → Fills b (due_in_month b ++ ds) items → MonthLines b ds items
 unfolding due_in_month
 inner_filled b valid ds items h =
-    let l = sections_filled b valid SECTIONS (shape.End ∷ ds) items (subst (λ (xs : List Shape). Fills b xs items) due_is h) in
+    let l = sections_filled b valid SECTIONS (shape.End ∷ ds) items
+    (subst (λ (xs : List Shape). Fills b xs items) due_is h) in
     let last = one_line b shape.End ds l.others refl l.rest in
     let end : l.others ≡ line.End ∷ last.others = last.are ∙ ap (λ ms. line.End ∷ (ms ++ last.others)) last.followed in
     record {
@@ -183,7 +186,8 @@ inner_filled b valid ds items h =
       rest = last.rest;
     }
   where
-    due_is : (flat_map (λ k. shapes_in k b) SECTIONS ++ shape.End ∷ []) ++ ds ≡ onto (λ k. shapes_in k b) SECTIONS (shape.End ∷ ds)
+    due_is : (flat_map (λ k. shapes_in k b) SECTIONS ++ shape.End ∷ []) ++ ds ≡ onto (λ k. shapes_in k b) SECTIONS
+        (shape.End ∷ ds)
     due_is =
         append_assoc (flat_map (λ k. shapes_in k b) SECTIONS) (shape.End ∷ []) ds
         ∙ spread (λ k. shapes_in k b) SECTIONS (shape.End ∷ ds)

@@ -90,14 +90,23 @@ fails_none b m (x ∷ xs) h n k = by_place k (parts (balances b m x) (list_any (
     by_place (inr l) p further = further p.1 l
 
 out_good : (b : Basin) (series : Inflows) (t : Told) (n amount : ℕ) → t.calling ≡ None →
-    list_all (λ other. nat_le other n) (outlets b) && list_any (λ node. not (balances b (with_supply b series (tell b series t (line.Amount quantity.Outflow n amount)).now) node)) (places_of b.nodes) ≡ false →
+    list_all (λ other. nat_le other n) (outlets b) && list_any
+    (λ node. not (balances b
+    (with_supply b series (tell b series t (line.Amount quantity.Outflow n amount)).now) node))
+    (places_of b.nodes) ≡ false →
     NoneHolds (rows b series t (line.Amount quantity.Outflow n amount))
-out_good b series t n amount h balance =
-    (rw h refl, (nothing_passed b t (line.Amount quantity.Outflow n amount) (λ r. refl) (places_of b.rights), (refl, (refl, (balance, tt)))))
+out_good b series t n amount h balance = (
+  rw h refl,
+  (
+    nothing_passed b t (line.Amount quantity.Outflow n amount) (λ r. refl) (places_of b.rights),
+    (refl, (refl, (balance, tt))),
+  ),
+)
 
 -- `out` lines aren't refuted where all nodes are in balance behind them
 pub outflows_good : (b : Basin) (series : Inflows) (a : ℕ → ℕ) (xs done : List ℕ) (t : Told) → outlets b ≡ done ++ xs → Rises xs → t.calling ≡ None →
-    IsInBalance b series (fold (tell b series) t (map (λ n. line.Amount quantity.Outflow n (a n)) xs)).now → AreGood b series t (map (λ n. line.Amount quantity.Outflow n (a n)) xs)
+    IsInBalance b series (fold (tell b series) t (map (λ n. line.Amount quantity.Outflow n (a n)) xs)).now →
+    AreGood b series t (map (λ n. line.Amount quantity.Outflow n (a n)) xs)
 unfolding IsInBalance
 outflows_good b series a [] done t is rises h balance = tt
 outflows_good b series a (x ∷ []) done t is rises h balance =
@@ -107,12 +116,20 @@ outflows_good b series a (x ∷ []) done t is rises h balance =
     never true = refl
     never false = refl
 
-    in_balance : list_any (λ node. not (balances b (with_supply b series (tell b series t (line.Amount quantity.Outflow x (a x))).now) node)) (places_of b.nodes) ≡ false
-    in_balance = none_fails b (with_supply b series (tell b series t (line.Amount quantity.Outflow x (a x))).now) (places_of b.nodes)
+    in_balance : list_any
+        (λ node. not (balances b
+        (with_supply b series (tell b series t (line.Amount quantity.Outflow x (a x))).now) node))
+        (places_of b.nodes) ≡ false
+    in_balance = none_fails b (with_supply b series (tell b series t (line.Amount quantity.Outflow x (a x))).now)
+        (places_of b.nodes)
         (λ n k. balance n (omega (arith, (numbers_from-below 0 (length b.nodes) n k).1)))
 outflows_good b series a (x ∷ y ∷ ys) done t is rises h balance = (
-  out_good b series t x (a x) h (ap (λ q. q && list_any (λ node. not (balances b (with_supply b series (tell b series t (line.Amount quantity.Outflow x (a x))).now) node)) (places_of b.nodes)) not_last),
-  outflows_good b series a (y ∷ ys) (done ++ x ∷ []) (tell b series t (line.Amount quantity.Outflow x (a x))) (is ∙ sym (append_assoc done (x ∷ []) (y ∷ ys))) rises.1 refl balance,
+  out_good b series t x (a x) h
+      (ap (λ q. q && list_any
+      (λ node. not (balances b (with_supply b series (tell b series t (line.Amount quantity.Outflow x (a x))).now) node))
+      (places_of b.nodes)) not_last),
+  outflows_good b series a (y ∷ ys) (done ++ x ∷ []) (tell b series t (line.Amount quantity.Outflow x (a x))) (is
+      ∙ sym (append_assoc done (x ∷ []) (y ∷ ys))) rises.1 refl balance,
 )
   where
     not_last : list_all (λ other. nat_le other x) (outlets b) ≡ false
@@ -120,11 +137,15 @@ outflows_good b series a (x ∷ y ∷ ys) done t is rises h balance = (
 
 -- and where they aren't refuted, all nodes are in balance behind the last
 pub outflows_told : (b : Basin) (series : Inflows) (a : ℕ → ℕ) (x : ℕ) (xs done : List ℕ) (t : Told) → outlets b ≡ done ++ (x ∷ xs) →
-    AreGood b series t (map (λ n. line.Amount quantity.Outflow n (a n)) (x ∷ xs)) → IsInBalance b series (fold (tell b series) t (map (λ n. line.Amount quantity.Outflow n (a n)) (x ∷ xs))).now
+    AreGood b series t (map (λ n. line.Amount quantity.Outflow n (a n)) (x ∷ xs)) →
+    IsInBalance b series (fold (tell b series) t (map (λ n. line.Amount quantity.Outflow n (a n)) (x ∷ xs))).now
 unfolding IsInBalance
 outflows_told b series a x [] done t is g n l =
     fails_none b (with_supply b series (tell b series t (line.Amount quantity.Outflow x (a x))).now) (places_of b.nodes)
-    (second (list_all (λ other. nat_le other x) (outlets b)) (list_any (λ node. not (balances b (with_supply b series (tell b series t (line.Amount quantity.Outflow x (a x))).now) node)) (places_of b.nodes))
+    (second (list_all (λ other. nat_le other x) (outlets b))
+    (list_any (λ node. not
+    (balances b (with_supply b series (tell b series t (line.Amount quantity.Outflow x (a x))).now) node))
+    (places_of b.nodes))
     is_last g.0.1.1.1.1.0) n (numbers_from-has 0 (length b.nodes) n n l (omega arith))
   where
     second : (p q : Bool) → p ≡ true → p && q ≡ false → q ≡ false
@@ -134,4 +155,5 @@ outflows_told b series a x [] done t is g n l =
     is_last : list_all (λ other. nat_le other x) (outlets b) ≡ true
     is_last = all_at_most (outlets b) x (λ y m. last_greatest done x y (rw (← is) (outlets_rise b)) (rw (← is) m))
 outflows_told b series a x (y ∷ ys) done t is g n l =
-    outflows_told b series a y ys (done ++ x ∷ []) (tell b series t (line.Amount quantity.Outflow x (a x))) (is ∙ sym (append_assoc done (x ∷ []) (y ∷ ys))) g.1 n l
+    outflows_told b series a y ys (done ++ x ∷ []) (tell b series t (line.Amount quantity.Outflow x (a x))) (is
+    ∙ sym (append_assoc done (x ∷ []) (y ∷ ys))) g.1 n l

@@ -171,15 +171,18 @@ open_calls m (x ∷ xs) = by_set (cut_of m x) (open_calls m xs)
     by_set None h = h
     by_set (Some set) h = open_both (map (λ n. line.Member n) (members_from 0 set)) (flat_map (λ r. call_items r (cut_of m r)) xs) (open_each (λ n. line.Member n) (λ n. refl) (members_from 0 set)) h
 
-open_section : (b : Basin) (m : MonthRecord) (dues : List (ℕ × ℕ)) (k : Section) → is_whole (section_lines b m dues k) ≡ false
+open_section : (b : Basin) (m : MonthRecord) (dues : List (ℕ × ℕ)) (k : Section) →
+    is_whole (section_lines b m dues k) ≡ false
 open_section b m dues (section.Amounts q) =
     open_each {X = ℕ} (λ x. line.Amount q x (slice_index (amounts_of q m) x)) (λ x. refl) (entries_with_line b q)
 open_section b m dues section.Deliveries =
-    open_each {X = ℕ} (λ x. line.Deliver x (slice_index m.delivered x) (slice_index m.want x)) (λ x. refl) (seniors_first b)
+    open_each {X = ℕ} (λ x. line.Deliver x (slice_index m.delivered x) (slice_index m.want x)) (λ x. refl)
+    (seniors_first b)
 open_section b m dues section.Calls = open_calls m (seniors_first b)
 open_section b m dues section.Called = open_each called_line (λ x. refl) dues
 
-open_onto : (f : Section → List Item) → ((k : Section) → is_whole (f k) ≡ false) → (ks : List Section) (ys : List Item) →
+open_onto : (f : Section → List Item) → ((k : Section) → is_whole (f k) ≡ false) →
+    (ks : List Section) (ys : List Item) →
     is_whole ys ≡ false → is_whole (onto f ks ys) ≡ false
 open_onto f h [] ys k = k
 open_onto f h (x ∷ xs) ys k = open_both (f x) (onto f xs ys) (h x) (open_onto f h xs ys k)

@@ -47,8 +47,23 @@ pub openings : (b : Basin) (series : Inflows) (before : List MonthRecord) (a : �
     (λ x. a x ≡ slice_index (opening_after b before) x)
     (λ x. line.Amount quantity.Opening x (a x))
 openings b series before a = record {
-  makes = λ x t p g.
-      (rw p.0 refl, (nothing_passed b t (line.Amount quantity.Opening x (a x)) (λ r. refl) (places_of b.rights), (refl, (refl, (same_is (a x) (slice_index (opening_after b t.months) x) (g ∙ ap (λ ms. slice_index (opening_after b ms) x) (sym p.1)), tt)))));
+  makes = λ x t p g. (
+    rw p.0 refl,
+    (
+      nothing_passed b t (line.Amount quantity.Opening x (a x)) (λ r. refl) (places_of b.rights),
+      (
+        refl,
+        (
+          refl,
+          (
+            same_is (a x) (slice_index (opening_after b t.months) x) (g
+                ∙ ap (λ ms. slice_index (opening_after b ms) x) (sym p.1)),
+            tt,
+          ),
+        ),
+      ),
+    ),
+  );
   tells = λ x t p n. is_same (a x) (slice_index (opening_after b t.months) x) n.1.1.1.1.0
       ∙ ap (λ ms. slice_index (opening_after b ms) x) p.1;
   keeps = λ x t p. (refl, p.1);
@@ -57,12 +72,33 @@ openings b series before a = record {
 -- `evap` lines
 pub evaporations : (b : Basin) (series : Inflows) (index : ℕ) (opening : List ℕ) (a : ℕ → ℕ) →
     Section b series (Opened index opening)
-    (λ x. a x ≡ of_entry b.reservoirs x (λ r. evaporation r.area (slice_index opening x) (slice_index r.rate (in_year b index))) 0)
+    (λ x. a x ≡ of_entry b.reservoirs x
+    (λ r. evaporation r.area (slice_index opening x) (slice_index r.rate (in_year b index))) 0)
     (λ x. line.Amount quantity.Evaporated x (a x))
 evaporations b series index opening a = record {
-  makes = λ x t p g.
-      (rw p.0 refl, (nothing_passed b t (line.Amount quantity.Evaporated x (a x)) (λ r. refl) (places_of b.rights), (refl, (refl, (same_is (a x) (of_entry b.reservoirs x (λ r. evaporation r.area (slice_index t.now.opening x) (slice_index r.rate (in_year b t.now.index))) 0) (rw (p.1, p.2) g), tt)))));
-  tells = λ x t p n. (let e = is_same (a x) (of_entry b.reservoirs x (λ r. evaporation r.area (slice_index t.now.opening x) (slice_index r.rate (in_year b t.now.index))) 0) n.1.1.1.1.0 in rw (p.1, p.2) at e);
+  makes = λ x t p g. (
+    rw p.0 refl,
+    (
+      nothing_passed b t (line.Amount quantity.Evaporated x (a x)) (λ r. refl) (places_of b.rights),
+      (
+        refl,
+        (
+          refl,
+          (
+            same_is (a x)
+                (of_entry b.reservoirs x
+                (λ r. evaporation r.area (slice_index t.now.opening x) (slice_index r.rate (in_year b t.now.index))) 0)
+                (rw (p.1, p.2) g),
+            tt,
+          ),
+        ),
+      ),
+    ),
+  );
+  tells = λ x t p n. (let e =
+      is_same (a x) (of_entry b.reservoirs x
+      (λ r. evaporation r.area (slice_index t.now.opening x) (slice_index r.rate (in_year b t.now.index))) 0)
+      n.1.1.1.1.0 in rw (p.1, p.2) at e);
   keeps = λ x t p. (refl, p.1, p.2);
 }
 
@@ -72,9 +108,24 @@ pub returns : (b : Basin) (series : Inflows) (before : List MonthRecord) (index 
     (λ x. a x ≡ returned_at b (map (λ m. m.delivered) before) x index)
     (λ x. line.Amount quantity.Returned x (a x))
 returns b series before index a = record {
-  makes = λ x t p g.
-      (rw p.0 refl, (nothing_passed b t (line.Amount quantity.Returned x (a x)) (λ r. refl) (places_of b.rights), (refl, (refl, (same_is (a x) (returned_at b (map (λ m. m.delivered) t.months) x t.now.index) (rw (p.1, p.2) g), tt)))));
-  tells = λ x t p n. (let e = is_same (a x) (returned_at b (map (λ m. m.delivered) t.months) x t.now.index) n.1.1.1.1.0 in rw (p.1, p.2) at e);
+  makes = λ x t p g. (
+    rw p.0 refl,
+    (
+      nothing_passed b t (line.Amount quantity.Returned x (a x)) (λ r. refl) (places_of b.rights),
+      (
+        refl,
+        (
+          refl,
+          (
+            same_is (a x) (returned_at b (map (λ m. m.delivered) t.months) x t.now.index) (rw (p.1, p.2) g),
+            tt,
+          ),
+        ),
+      ),
+    ),
+  );
+  tells = λ x t p n. (let e =
+      is_same (a x) (returned_at b (map (λ m. m.delivered) t.months) x t.now.index) n.1.1.1.1.0 in rw (p.1, p.2) at e);
   keeps = λ x t p. (refl, p.1, p.2);
 }
 
@@ -84,9 +135,24 @@ pub uses : (b : Basin) (series : Inflows) (before : List MonthRecord) (index : �
     (λ x. a x ≡ used_of b (map (λ m. m.delivered) before) x index)
     (λ x. line.Amount quantity.Used x (a x))
 uses b series before index a = record {
-  makes = λ x t p g.
-      (rw p.0 refl, (nothing_passed b t (line.Amount quantity.Used x (a x)) (λ r. refl) (places_of b.rights), (refl, (refl, (same_is (a x) (used_of b (map (λ m. m.delivered) t.months) x t.now.index) (rw (p.1, p.2) g), tt)))));
-  tells = λ x t p n. (let e = is_same (a x) (used_of b (map (λ m. m.delivered) t.months) x t.now.index) n.1.1.1.1.0 in rw (p.1, p.2) at e);
+  makes = λ x t p g. (
+    rw p.0 refl,
+    (
+      nothing_passed b t (line.Amount quantity.Used x (a x)) (λ r. refl) (places_of b.rights),
+      (
+        refl,
+        (
+          refl,
+          (
+            same_is (a x) (used_of b (map (λ m. m.delivered) t.months) x t.now.index) (rw (p.1, p.2) g),
+            tt,
+          ),
+        ),
+      ),
+    ),
+  );
+  tells = λ x t p n. (let e =
+      is_same (a x) (used_of b (map (λ m. m.delivered) t.months) x t.now.index) n.1.1.1.1.0 in rw (p.1, p.2) at e);
   keeps = λ x t p. (refl, p.1, p.2);
 }
 
@@ -96,8 +162,13 @@ pub flows : (b : Basin) (series : Inflows) (month : Month) (a : ℕ → ℕ) →
     (λ x. nat_lt (carry_of b month x) (a x) ≡ false)
     (λ x. line.Amount quantity.Flow x (a x))
 flows b series month a = record {
-  makes = λ x t p g.
-      (rw p.0 refl, (nothing_passed b t (line.Amount quantity.Flow x (a x)) (λ r. refl) (places_of b.rights), (refl, (refl, (ap (λ m. nat_lt (carry_of b m x) (a x)) p.1 ∙ g, tt)))));
+  makes = λ x t p g. (
+    rw p.0 refl,
+    (
+      nothing_passed b t (line.Amount quantity.Flow x (a x)) (λ r. refl) (places_of b.rights),
+      (refl, (refl, (ap (λ m. nat_lt (carry_of b m x) (a x)) p.1 ∙ g, tt))),
+    ),
+  );
   tells = λ x t p n. ap (λ m. nat_lt (carry_of b m x) (a x)) (sym p.1) ∙ n.1.1.1.1.0;
   keeps = λ x t p. (refl, p.1);
 }
@@ -105,7 +176,8 @@ flows b series month a = record {
 -- `deliver` lines
 pub deliveries : (b : Basin) (series : Inflows) (index : ℕ) (used flow : List ℕ) (a w : ℕ → ℕ) →
     Section b series (Flows index used flow)
-    (λ x. (w x ≡ want_of b series x index (slice_index used x)) × (amount_wrong (instream_link b x) flow (a x) (w x) ≡ false))
+    (λ x. (w x ≡ want_of b series x index (slice_index used x))
+    × (amount_wrong (instream_link b x) flow (a x) (w x) ≡ false))
     (λ x. line.Deliver x (a x) (w x))
 deliveries b series index used flow a w = record {
   makes = λ x t p g. (
@@ -117,30 +189,45 @@ deliveries b series index used flow a w = record {
         (
           refl,
           (
-            either_fails (not (w x == want_of b series x t.now.index (slice_index t.now.used x))) (amount_wrong (instream_link b x) t.now.plan.flow (a x) (w x))
-                (same_is (w x) (want_of b series x t.now.index (slice_index t.now.used x)) (rw (p.1, p.2) g.0)) (ap (λ f. amount_wrong (instream_link b x) f (a x) (w x)) p.3 ∙ g.1),
+            either_fails (not (w x == want_of b series x t.now.index (slice_index t.now.used x)))
+                (amount_wrong (instream_link b x) t.now.plan.flow (a x) (w x))
+                (same_is (w x) (want_of b series x t.now.index (slice_index t.now.used x)) (rw (p.1, p.2) g.0))
+                (ap (λ f. amount_wrong (instream_link b x) f (a x) (w x)) p.3 ∙ g.1),
             tt,
           ),
         ),
       ),
     ),
   );
-  tells = λ x t p n. (let h = both_fail (not (w x == want_of b series x t.now.index (slice_index t.now.used x))) (amount_wrong (instream_link b x) t.now.plan.flow (a x) (w x)) n.1.1.1.1.0 in
-      (is_same (w x) (want_of b series x t.now.index (slice_index t.now.used x)) h.0 ∙ rw (p.1, p.2) refl, ap (λ f. amount_wrong (instream_link b x) f (a x) (w x)) (sym p.3) ∙ h.1));
+  tells = λ x t p n. (let h = both_fail (not (w x == want_of b series x t.now.index (slice_index t.now.used x)))
+      (amount_wrong (instream_link b x) t.now.plan.flow (a x) (w x)) n.1.1.1.1.0 in (
+        is_same (w x) (want_of b series x t.now.index (slice_index t.now.used x)) h.0
+            ∙ rw (p.1, p.2) refl,
+        ap (λ f. amount_wrong (instream_link b x) f (a x) (w x)) (sym p.3) ∙ h.1,
+      ));
   keeps = λ x t p. (refl, p.1, p.2, p.3);
 }
 
 pub title_good : (b : Basin) (series : Inflows) (t : Told) → t.calling ≡ None → NoneHolds (rows b series t (line.Title))
-title_good b series t h = (rw h refl, (nothing_passed b t (line.Title) (λ r. refl) (places_of b.rights), (refl, (refl, tt))))
+title_good b series t h =
+    (rw h refl, (nothing_passed b t (line.Title) (λ r. refl) (places_of b.rights), (refl, (refl, tt))))
 
 pub month_good : (b : Basin) (series : Inflows) (t : Told) (month : Month) → t.calling ≡ None → NoneHolds (rows b series t (line.Month month))
-month_good b series t month h = (rw h refl, (nothing_passed b t (line.Month month) (λ r. refl) (places_of b.rights), (refl, (refl, tt))))
+month_good b series t month h =
+    (rw h refl, (nothing_passed b t (line.Month month) (λ r. refl) (places_of b.rights), (refl, (refl, tt))))
 
 pub last_good : (b : Basin) (series : Inflows) (t : Told) (months : ℕ) → t.calling ≡ None → NoneHolds (rows b series t (line.Done months))
-last_good b series t months h = (rw h refl, (nothing_passed b t (line.Done months) (λ r. refl) (places_of b.rights), (refl, (refl, tt))))
+last_good b series t months h =
+    (rw h refl, (nothing_passed b t (line.Done months) (λ r. refl) (places_of b.rights), (refl, (refl, tt))))
 
 pub run_good : (b : Basin) (series : Inflows) (t : Told) → t.calling ≡ None → NoneHolds (rows b series t (line.Run b.first b.months))
-run_good b series t h = (rw h refl, (nothing_passed b t (line.Run b.first b.months) (λ r. refl) (places_of b.rights), (refl, (refl, (run_same b.first.year b.first.month b.months, tt)))))
+run_good b series t h = (
+  rw h refl,
+  (
+    nothing_passed b t (line.Run b.first b.months) (λ r. refl) (places_of b.rights),
+    (refl, (refl, (run_same b.first.year b.first.month b.months, tt))),
+  ),
+)
   where
     run_same : (y m n : ℕ) → not (y == y && m == m && n == n) ≡ false
     run_same y m n = grind (arith, nat_tests)

@@ -112,7 +112,8 @@ record_of b series i s = supplied b series (record {
   closing = listed b s quantity.Closing;
 })
 
-pub amounts_are : (b : Basin) (series : Inflows) (i : ℕ) (s : Sheet) (q : Quantity) → amounts_of q (record_of b series i s) ≡ listed b s q
+pub amounts_are : (b : Basin) (series : Inflows) (i : ℕ) (s : Sheet) (q : Quantity) →
+    amounts_of q (record_of b series i s) ≡ listed b s q
 amounts_are b series i s quantity.Opening = refl
 amounts_are b series i s quantity.Evaporated = refl
 amounts_are b series i s quantity.Returned = refl
@@ -143,14 +144,17 @@ cut_is b cut k h =
 -- the record of a sheet tells all of itself
 pub record_told : (b : Basin) (series : Inflows) (i : ℕ) (s : Sheet) → ((r : ℕ) (set : List Bool) → s.cut r ≡ Some set → length set ≡ length b.nodes) → IsAllTold b series (record_of b series i s)
 record_told b series i s sized = record {
-  listed = λ q. ap (λ (xs : List ℕ). set_all (entries_with_line b q) (λ x. slice_index xs x) (zeros (count_in (space_of q) b)))
+  listed = λ q. ap (λ (xs : List ℕ). set_all (entries_with_line b q) (λ x. slice_index xs x)
+      (zeros (count_in (space_of q) b)))
       (amounts_are b series i s q)
       ∙ (told_again (entries_with_line b q) (s.amount q) (count_in (space_of q) b) (λ x h. (has-with_line b q x h).0)
       ∙ sym (amounts_are b series i s q));
   delivered = told_again (seniors_first b) s.delivered (length b.rights) (right_below b);
   want = told_again (seniors_first b) s.want (length b.rights) (right_below b);
-  take = set_all-same (seniors_first b) (take_of b (λ r. slice_index (record_of b series i s).delivered r)) (take_of b s.delivered) (zeros (length b.rights))
-      (λ k h. ap (λ n. if is_some (taking_node b k) then n else 0) (told_is (seniors_first b) s.delivered (length b.rights) k (right_below b) h));
+  take = set_all-same (seniors_first b) (take_of b (λ r. slice_index (record_of b series i s).delivered r))
+      (take_of b s.delivered) (zeros (length b.rights))
+      (λ k h. ap (λ n. if is_some (taking_node b k) then n else 0)
+      (told_is (seniors_first b) s.delivered (length b.rights) k (right_below b) h));
   sets = put_sets-same (seniors_first b) (λ r. cut_of (record_of b series i s) r) s.cut (replicate (length b.rights) None) (λ r h. cut_is b s.cut r h);
   nodes = refl;
   supply = refl;
@@ -173,10 +177,12 @@ record_told b series i s sized = record {
 pub record_lines : (b : Basin) (series : Inflows) (i : ℕ) (s : Sheet) (dues : List (ℕ × ℕ)) →
     sheet_lines b s dues ≡ inner_lines b (record_of b series i s) dues
 record_lines b series i s dues =
-    onto_same (sheet_section b s dues) (section_lines b (record_of b series i s) dues) by_section SECTIONS (line.End ∷ [])
+    onto_same (sheet_section b s dues) (section_lines b (record_of b series i s) dues) by_section SECTIONS
+    (line.End ∷ [])
   where
     deliver : (k : ℕ) → Has (seniors_first b) k → line.Deliver k (s.delivered k) (s.want k)
-        ≡ line.Deliver k (slice_index (record_of b series i s).delivered k) (slice_index (record_of b series i s).want k)
+        ≡ line.Deliver k (slice_index (record_of b series i s).delivered k)
+        (slice_index (record_of b series i s).want k)
     deliver k h =
         rw (
           told_is (seniors_first b) s.delivered (length b.rights) k (right_below b) h,
@@ -185,16 +191,20 @@ record_lines b series i s dues =
 
     by_section : (k : Section) → sheet_section b s dues k ≡ section_lines b (record_of b series i s) dues k
     by_section (section.Amounts q) =
-        map_same (λ x. line.Amount q x (s.amount q x)) (λ x. line.Amount q x (slice_index (amounts_of q (record_of b series i s)) x))
+        map_same (λ x. line.Amount q x (s.amount q x))
+        (λ x. line.Amount q x (slice_index (amounts_of q (record_of b series i s)) x))
         (entries_with_line b q)
         (λ k h. ap (λ n. line.Amount q k n)
         (sym (ap (λ (xs : List ℕ). slice_index xs k) (amounts_are b series i s q)
-        ∙ told_is (entries_with_line b q) (s.amount q) (count_in (space_of q) b) k (λ x l. (has-with_line b q x l).0) h)))
+        ∙ told_is (entries_with_line b q) (s.amount q) (count_in (space_of q) b) k
+        (λ x l. (has-with_line b q x l).0) h)))
     by_section section.Deliveries =
         map_same (λ x. line.Deliver x (s.delivered x) (s.want x))
-        (λ x. line.Deliver x (slice_index (record_of b series i s).delivered x) (slice_index (record_of b series i s).want x))
+        (λ x. line.Deliver x (slice_index (record_of b series i s).delivered x)
+        (slice_index (record_of b series i s).want x))
         (seniors_first b) deliver
     by_section section.Calls =
-        flat_same (λ r. call_items r (s.cut r)) (λ r. call_items r (cut_of (record_of b series i s) r)) (seniors_first b)
+        flat_same (λ r. call_items r (s.cut r)) (λ r. call_items r (cut_of (record_of b series i s) r))
+        (seniors_first b)
         (λ k h. ap (call_items k) (sym (cut_is b s.cut k h)))
     by_section section.Called = refl

@@ -12,7 +12,8 @@ pub spread : {A : Type 0} (f : Section → List A) (ks : List Section) (ys : Lis
 spread f [] ys = refl
 spread f (k ∷ ks) ys = append_assoc (f k) (flat_map f ks) ys ∙ ap (λ zs. f k ++ zs) (spread f ks ys)
 
-pub onto_same : {A : Type 0} (f g : Section → List A) → ((k : Section) → f k ≡ g k) → (ks : List Section) (ys : List A) →
+pub onto_same : {A : Type 0} (f g : Section → List A) → ((k : Section) → f k ≡ g k) →
+    (ks : List Section) (ys : List A) →
     onto f ks ys ≡ onto g ks ys
 onto_same f g h [] ys = refl
 onto_same f g h (k ∷ ks) ys =

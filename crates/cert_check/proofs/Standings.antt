@@ -47,7 +47,8 @@ few_lines b series k lines valid s =
     let fits = run_fits_more (length (due_in_month b)) b.months (length b.nodes) (length b.rights) (few_due b valid) valid.run.months.1 valid.few.nodes valid.few.rights in
     omega (arith, left, run, fits, s.counts.read)
   where
-    run_fits_more : (dues count nodes rights : ℕ) → dues ≤ 50000 → count ≤ 1200 → nodes ≤ 2000 → rights ≤ 2000 → count * (1 + dues + rights * nodes) + 3 + 1 < 2 ^ 64
+    run_fits_more : (dues count nodes rights : ℕ) → dues ≤ 50000 → count ≤ 1200 → nodes ≤ 2000 → rights ≤ 2000 →
+        count * (1 + dues + rights * nodes) + 3 + 1 < 2 ^ 64
     run_fits_more dues count nodes rights d m n r =
         let members : rights * nodes ≤ 2000 * 2000 = mul-le-mul r n in
         let month : 1 + dues + rights * nodes ≤ 1 + 50000 + 2000 * 2000 = omega arith in

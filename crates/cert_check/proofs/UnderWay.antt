@@ -115,7 +115,9 @@ in_month_more b valid series before i at l t line.Title h n m = m
 in_month_more b valid series before i at l t (line.Run first months) h n m = m
 in_month_more b valid series before i at l t (line.Month month) h n m = (let never : false ≡ true = h in cc)
 in_month_more b valid series before i at l t (line.Amount quantity.Opening v amount) h n m =
-    let is : amount ≡ slice_index (opening_after b before) v = is_same amount (slice_index (opening_after b t.months) v) n.1.1.1.1.0 ∙ ap (λ ms. slice_index (opening_after b ms) v) m.months in
+    let is : amount ≡ slice_index (opening_after b before) v =
+    is_same amount (slice_index (opening_after b t.months) v) n.1.1.1.1.0
+    ∙ ap (λ ms. slice_index (opening_after b ms) v) m.months in
     record {
       months = m.months;
       index = m.index;
@@ -130,7 +132,10 @@ in_month_more b valid series before i at l t (line.Amount quantity.Opening v amo
       };
     }
 in_month_more b valid series before i at l t (line.Amount quantity.Evaporated v amount) h n m =
-    let is = is_same amount (of_entry b.reservoirs v (λ r. evaporation r.area (slice_index t.now.opening v) (slice_index r.rate (in_year b t.now.index))) 0) n.1.1.1.1.0 in
+    let is = is_same amount
+    (of_entry b.reservoirs v
+    (λ r. evaporation r.area (slice_index t.now.opening v) (slice_index r.rate (in_year b t.now.index))) 0)
+    n.1.1.1.1.0 in
     record {
       months = m.months;
       index = m.index;
@@ -183,7 +188,8 @@ in_month_more b valid series before i at l t (line.Amount quantity.Flow e amount
       };
     }
 in_month_more b valid series before i at l t (line.Deliver r amount want) h n m =
-    let two = both_fail (want == want_of b series r t.now.index (slice_index t.now.used r)) (amount_wrong (instream_link b r) t.now.plan.flow amount want) n.1.1.1.1.0 in
+    let two = both_fail (want == want_of b series r t.now.index (slice_index t.now.used r))
+    (amount_wrong (instream_link b r) t.now.plan.flow amount want) n.1.1.1.1.0 in
     let is = equal want (want_of b series r t.now.index (slice_index t.now.used r)) two.0 in
     let small : amount ≤ 10 ^ 9 = omega (arith, is, wanted_most b valid series t.now.index r (slice_index t.now.used r), amount_most (instream_link b r) t.now.plan.flow amount want two.1) in
     record {

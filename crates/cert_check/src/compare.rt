@@ -132,7 +132,8 @@ fn evaporation_of(
     tables[reservoir as usize].evaporation(storage, rate)
 }
 
-/// Whether an amount is another than evaporates from what the reservoir opens with. `tables` has the area table of each.
+/// Whether an amount is another than evaporates from what the reservoir opens with. `tables` has the area table of
+/// each.
 pub fn evaporation_wrong(
     basin: &Basin,
     tables: &[AreaTable],

@@ -30,7 +30,8 @@ fn know_supply(means: &Means, account: &mut Account)
     requires means { AreMeans means.now }
     requires month { HasMonth means.now.basin.now means.now.series.now account.old }
     ensures rest { account.new ≡ record account.old { month = record account.old.month { supply = account.new.month.supply }; has_supply = true } }
-    ensures keeps { (t : Told) → Keeps means.now.basin.now means.now.series.now account.old t → Keeps means.now.basin.now means.now.series.now account.new t }
+    ensures keeps { (t : Told) → Keeps means.now.basin.now means.now.series.now account.old t →
+        Keeps means.now.basin.now means.now.series.now account.new t }
 {
     if !account.has_supply {
         make_supply(means.basin, means.series, &mut account.month);
@@ -43,7 +44,8 @@ fn know_closes(means: &Means, account: &mut Account)
     requires means { AreMeans means.now }
     requires month { HasMonth means.now.basin.now means.now.series.now account.old }
     ensures rest { account.new ≡ record account.old { closes = account.new.closes; has_closes = true } }
-    ensures keeps { (t : Told) → Keeps means.now.basin.now means.now.series.now account.old t → Keeps means.now.basin.now means.now.series.now account.new t }
+    ensures keeps { (t : Told) → Keeps means.now.basin.now means.now.series.now account.old t →
+        Keeps means.now.basin.now means.now.series.now account.new t }
 {
     if !account.has_closes {
         close_zones(
@@ -60,8 +62,11 @@ fn is_loose(means: &Means, account: &mut Account, right: u32) -> bool
     requires means { AreMeans means.now }
     requires month { HasMonth means.now.basin.now means.now.series.now account.old }
     requires calling { account.old.calling ≡ Some right }
-    ensures value { (t : Told) → Keeps means.now.basin.now means.now.series.now account.old t → result ≡ not (checking.has_tight means.now.basin.now (with_supply means.now.basin.now means.now.series.now t.now) right) }
-    ensures keeps { (t : Told) → Keeps means.now.basin.now means.now.series.now account.old t → Keeps means.now.basin.now means.now.series.now account.new t }
+    ensures value { (t : Told) → Keeps means.now.basin.now means.now.series.now account.old t →
+        result ≡ not (checking.has_tight means.now.basin.now
+        (with_supply means.now.basin.now means.now.series.now t.now) right) }
+    ensures keeps { (t : Told) → Keeps means.now.basin.now means.now.series.now account.old t →
+        Keeps means.now.basin.now means.now.series.now account.new t }
 {
     know_supply(means, account);
     !tight(
@@ -79,8 +84,10 @@ fn is_loose(means: &Means, account: &mut Account, right: u32) -> bool
 fn cut_loose(means: &Means, account: &mut Account, item: &Item) -> bool
     requires means { AreMeans means.now }
     requires awaits { Awaits means.now.basin.now means.now.series.now account.old item.now }
-    ensures value { (t : Told) → Keeps means.now.basin.now means.now.series.now account.old t → result ≡ checking.cut_loose means.now.basin.now means.now.series.now t item.now }
-    ensures keeps { (t : Told) → Keeps means.now.basin.now means.now.series.now account.old t → Keeps means.now.basin.now means.now.series.now account.new t }
+    ensures value { (t : Told) → Keeps means.now.basin.now means.now.series.now account.old t →
+        result ≡ checking.cut_loose means.now.basin.now means.now.series.now t item.now }
+    ensures keeps { (t : Told) → Keeps means.now.basin.now means.now.series.now account.old t →
+        Keeps means.now.basin.now means.now.series.now account.new t }
 {
     if compare::is_member(item) {
         return false;
@@ -96,8 +103,10 @@ fn cut_missing(means: &Means, account: &mut Account, item: &Item) -> bool
     requires means { AreMeans means.now }
     requires item { IsOfBasin means.now.basin.now item.now }
     requires awaits { Awaits means.now.basin.now means.now.series.now account.old item.now }
-    ensures value { (t : Told) → Keeps means.now.basin.now means.now.series.now account.old t → result ≡ checking.cut_missing means.now.basin.now t item.now }
-    ensures keeps { (t : Told) → Keeps means.now.basin.now means.now.series.now account.old t → Keeps means.now.basin.now means.now.series.now account.new t }
+    ensures value { (t : Told) → Keeps means.now.basin.now means.now.series.now account.old t →
+        result ≡ checking.cut_missing means.now.basin.now t item.now }
+    ensures keeps { (t : Told) → Keeps means.now.basin.now means.now.series.now account.old t →
+        Keeps means.now.basin.now means.now.series.now account.new t }
 {
     let order = means.roll.by_seniority();
     match pass_over(means.basin, order, &account.month, account.passed, item) {
@@ -113,8 +122,10 @@ fn cut_missing(means: &Means, account: &mut Account, item: &Item) -> bool
 fn has_due(means: &Means, account: &mut Account) -> bool
     requires means { AreMeans means.now }
     requires keeps { HasTold means.now.basin.now means.now.series.now account.old }
-    ensures value { (t : Told) → Keeps means.now.basin.now means.now.series.now account.old t → result ≡ nat_lt t.called (length (checking.callers_due means.now.basin.now t.now)) }
-    ensures keeps { (t : Told) → Keeps means.now.basin.now means.now.series.now account.old t → Keeps means.now.basin.now means.now.series.now account.new t }
+    ensures value { (t : Told) → Keeps means.now.basin.now means.now.series.now account.old t →
+        result ≡ nat_lt t.called (length (checking.callers_due means.now.basin.now t.now)) }
+    ensures keeps { (t : Told) → Keeps means.now.basin.now means.now.series.now account.old t →
+        Keeps means.now.basin.now means.now.series.now account.new t }
 {
     match next_due(means.basin, &means.roll, &account.month, account.answered) {
         Some(_) => true,
@@ -148,8 +159,10 @@ fn is_not_due(means: &Means, account: &Account, right: u32, by: u32) -> bool
 fn called_wrong(means: &Means, account: &mut Account, item: &Item) -> bool
     requires means { AreMeans means.now }
     requires keeps { HasTold means.now.basin.now means.now.series.now account.old }
-    ensures value { (t : Told) → Keeps means.now.basin.now means.now.series.now account.old t → result ≡ checking.called_wrong means.now.basin.now t item.now }
-    ensures keeps { (t : Told) → Keeps means.now.basin.now means.now.series.now account.old t → Keeps means.now.basin.now means.now.series.now account.new t }
+    ensures value { (t : Told) → Keeps means.now.basin.now means.now.series.now account.old t →
+        result ≡ checking.called_wrong means.now.basin.now t item.now }
+    ensures keeps { (t : Told) → Keeps means.now.basin.now means.now.series.now account.old t →
+        Keeps means.now.basin.now means.now.series.now account.new t }
 {
     match *item {
         Item::Called { right, by } => is_not_due(means, account, right, by),
@@ -162,9 +175,11 @@ fn is_uneven(means: &Means, account: &mut Account, node: u32, amount: u64) -> bo
     requires means { AreMeans means.now }
     requires node { node < length means.now.basin.now.nodes }
     requires month { HasMonth means.now.basin.now means.now.series.now account.old }
-    ensures value { (t : Told) → Keeps means.now.basin.now means.now.series.now account.old t → result ≡ list_any (λ n. not (checking.balances means.now.basin.now
+    ensures value { (t : Told) → Keeps means.now.basin.now means.now.series.now account.old t →
+        result ≡ list_any (λ n. not (checking.balances means.now.basin.now
         (with_supply means.now.basin.now means.now.series.now (with_outflow t.now node amount)) n)) (places_of means.now.basin.now.nodes) }
-    ensures keeps { (t : Told) → Keeps means.now.basin.now means.now.series.now account.old t → Keeps means.now.basin.now means.now.series.now account.new t }
+    ensures keeps { (t : Told) → Keeps means.now.basin.now means.now.series.now account.old t →
+        Keeps means.now.basin.now means.now.series.now account.new t }
 {
     know_supply(means, account);
     !in_balance(
@@ -184,7 +199,8 @@ fn balance_wrong(means: &Means, account: &mut Account, node: u32, amount: u64) -
     requires month { HasMonth means.now.basin.now means.now.series.now account.old }
     ensures value { (t : Told) → Keeps means.now.basin.now means.now.series.now account.old t →
         result ≡ checking.quantity_wrong means.now.basin.now means.now.series.now t Quantity.Outflow node amount }
-    ensures keeps { (t : Told) → Keeps means.now.basin.now means.now.series.now account.old t → Keeps means.now.basin.now means.now.series.now account.new t }
+    ensures keeps { (t : Told) → Keeps means.now.basin.now means.now.series.now account.old t →
+        Keeps means.now.basin.now means.now.series.now account.new t }
 {
     if node < means.last_outlet {
         return false;
@@ -199,7 +215,8 @@ fn closing_wrong(means: &Means, account: &mut Account, reservoir: u32, amount: u
     requires month { HasMonth means.now.basin.now means.now.series.now account.old }
     ensures value { (t : Told) → Keeps means.now.basin.now means.now.series.now account.old t →
         result ≡ checking.quantity_wrong means.now.basin.now means.now.series.now t Quantity.Closing reservoir amount }
-    ensures keeps { (t : Told) → Keeps means.now.basin.now means.now.series.now account.old t → Keeps means.now.basin.now means.now.series.now account.new t }
+    ensures keeps { (t : Told) → Keeps means.now.basin.now means.now.series.now account.old t →
+        Keeps means.now.basin.now means.now.series.now account.new t }
 {
     know_closes(means, account);
     compare::differs(account.closes.as_slice(), reservoir, amount)
@@ -210,8 +227,10 @@ fn call_row(means: &Means, account: &mut Account, item: &Item) -> Option<Refuted
     requires means { AreMeans means.now }
     requires item { IsOfBasin means.now.basin.now item.now }
     requires awaits { Awaits means.now.basin.now means.now.series.now account.old item.now }
-    ensures value { (t : Told) → Keeps means.now.basin.now means.now.series.now account.old t → result ≡ first_of (call_rows means.now.basin.now means.now.series.now t item.now) }
-    ensures keeps { (t : Told) → Keeps means.now.basin.now means.now.series.now account.old t → Keeps means.now.basin.now means.now.series.now account.new t }
+    ensures value { (t : Told) → Keeps means.now.basin.now means.now.series.now account.old t →
+        result ≡ first_of (call_rows means.now.basin.now means.now.series.now t item.now) }
+    ensures keeps { (t : Told) → Keeps means.now.basin.now means.now.series.now account.old t →
+        Keeps means.now.basin.now means.now.series.now account.new t }
 {
     if cut_loose(means, account, item) {
         return Some(RefutedKind::CutLoose);
@@ -239,9 +258,11 @@ fn quantity_wrong(
     requires means { AreMeans means.now }
     requires entry { entry < count_in (space_of quantity) means.now.basin.now }
     requires month { HasMonth means.now.basin.now means.now.series.now account.old }
-    ensures value { (t : Told) → Keeps means.now.basin.now means.now.series.now account.old t → IsUnderWay means.now.basin.now means.now.series.now t →
+    ensures value { (t : Told) → Keeps means.now.basin.now means.now.series.now account.old t →
+        IsUnderWay means.now.basin.now means.now.series.now t →
         result ≡ checking.quantity_wrong means.now.basin.now means.now.series.now t quantity entry amount }
-    ensures keeps { (t : Told) → Keeps means.now.basin.now means.now.series.now account.old t → Keeps means.now.basin.now means.now.series.now account.new t }
+    ensures keeps { (t : Told) → Keeps means.now.basin.now means.now.series.now account.old t →
+        Keeps means.now.basin.now means.now.series.now account.new t }
 {
     let basin = means.basin;
     match quantity {
@@ -284,9 +305,11 @@ fn own_row(means: &Means, account: &mut Account, item: &Item) -> Option<RefutedK
     requires means { AreMeans means.now }
     requires item { IsOfBasin means.now.basin.now item.now }
     requires awaits { Awaits means.now.basin.now means.now.series.now account.old item.now }
-    ensures value { (t : Told) → Keeps means.now.basin.now means.now.series.now account.old t → MayCome means.now.basin.now means.now.series.now t item.now →
+    ensures value { (t : Told) → Keeps means.now.basin.now means.now.series.now account.old t →
+        MayCome means.now.basin.now means.now.series.now t item.now →
         result ≡ first_of (own_rows means.now.basin.now means.now.series.now t item.now) }
-    ensures keeps { (t : Told) → Keeps means.now.basin.now means.now.series.now account.old t → Keeps means.now.basin.now means.now.series.now account.new t }
+    ensures keeps { (t : Told) → Keeps means.now.basin.now means.now.series.now account.old t →
+        Keeps means.now.basin.now means.now.series.now account.new t }
 {
     match *item {
         Item::Run { first, months } => {
@@ -322,9 +345,11 @@ pub fn first_row(means: &Means, account: &mut Account, item: &Item) -> Option<Re
     requires means { AreMeans means.now }
     requires item { IsOfBasin means.now.basin.now item.now }
     requires awaits { Awaits means.now.basin.now means.now.series.now account.old item.now }
-    ensures value { (t : Told) → Keeps means.now.basin.now means.now.series.now account.old t → MayCome means.now.basin.now means.now.series.now t item.now →
+    ensures value { (t : Told) → Keeps means.now.basin.now means.now.series.now account.old t →
+        MayCome means.now.basin.now means.now.series.now t item.now →
         result ≡ checking.first_row means.now.basin.now means.now.series.now t item.now }
-    ensures keeps { (t : Told) → Keeps means.now.basin.now means.now.series.now account.old t → Keeps means.now.basin.now means.now.series.now account.new t }
+    ensures keeps { (t : Told) → Keeps means.now.basin.now means.now.series.now account.old t →
+        Keeps means.now.basin.now means.now.series.now account.new t }
 {
     match call_row(means, account, item) {
         Some(kind) => Some(kind),

@@ -23,7 +23,8 @@ fn put(list: &mut [u64], place: u32, amount: u64)
 /// Tells an amount of an entry.
 pub fn tell_amount(month: &mut MonthRecord, quantity: Quantity, entry: u32, amount: u64)
     requires { entry < length (amounts_of quantity month.old) }
-    ensures exact { month.new ≡ with_amounts quantity month.old (slice_set (amounts_of quantity month.old) entry amount) }
+    ensures exact { month.new
+        ≡ with_amounts quantity month.old (slice_set (amounts_of quantity month.old) entry amount) }
     ensures shows { (b : Basin) (series : Inflows) (t : Told) → Shows month.old t.now →
         Shows month.new (tell b series t (line.Amount quantity entry amount)).now }
 {

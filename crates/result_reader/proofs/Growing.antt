@@ -5,13 +5,16 @@ use Rattle.std.specs.List.{flat_map}
 
 -- the elements of a list, one after another
 
-more : {X Y : Type 0} (f : X → List Y) (xs : List X) (k : ℕ) (x : X) → slice_get xs k ≡ Some x → flat_map f (take (suc k) xs) ≡ flat_map f (take k xs) ++ f x
+more : {X Y : Type 0} (f : X → List Y) (xs : List X) (k : ℕ) (x : X) → slice_get xs k ≡ Some x →
+    flat_map f (take (suc k) xs) ≡ flat_map f (take k xs) ++ f x
 more f [] k x h = let none : None ≡ Some x = h in cc
 more f (y ∷ ys) zero x h = let same : Some y ≡ Some x = h in let is : y ≡ x = cc in rw is (append-nil (f x))
-more f (y ∷ ys) (suc k) x h = ap (λ t. f y ++ t) (more f ys k x h) ∙ sym (append_assoc (f y) (flat_map f (take k ys)) (f x))
+more f (y ∷ ys) (suc k) x h = ap (λ t. f y ++ t) (more f ys k x h)
+    ∙ sym (append_assoc (f y) (flat_map f (take k ys)) (f x))
 
 -- what was added so far is that of the first elements, and then of one element more
-pub added-next : {X Y : Type 0} (f : X → List Y) (xs : List X) (k : ℕ) (x : X) (old mid new : List Y) → slice_get xs k ≡ Some x →
+pub added-next : {X Y : Type 0} (f : X → List Y) (xs : List X) (k : ℕ) (x : X) (old mid new : List Y) →
+    slice_get xs k ≡ Some x →
     mid ≡ old ++ flat_map f (take k xs) → new ≡ mid ++ f x → new ≡ old ++ flat_map f (take (k + 1) xs)
 added-next f xs k x old mid new at so_far here =
     here

@@ -107,7 +107,8 @@ exceed_entry b section.Called x = by_test (is_some (taking_node b x))
     by_test true = refl
     by_test false = refl
 
-exceed_entries : (b : Basin) (k : Section) (xs : List ℕ) → Exceeds b (flat_map (shapes_at k b) xs) (more_for k b * length xs)
+exceed_entries : (b : Basin) (k : Section) (xs : List ℕ) →
+    Exceeds b (flat_map (shapes_at k b) xs) (more_for k b * length xs)
 exceed_entries b k [] = omega arith
 exceed_entries b k (x ∷ xs) =
     exceed_both b (shapes_at k b x) (flat_map (shapes_at k b) xs) (more_for k b) (more_for k b * length xs)
@@ -137,7 +138,8 @@ unfolding due_in_month
 most_in_month b =
     exceed_both b (flat_map (λ k. shapes_in k b) SECTIONS) (shape.End ∷ []) (more_in b SECTIONS) 0
     (exceed_sections b SECTIONS) refl
-    ∙ ap (λ n. length (due_in_month b) + n) (all (length b.reservoirs) (length b.nodes) (length b.links) (length b.rights))
+    ∙ ap (λ n. length (due_in_month b) + n) (all (length b.reservoirs) (length b.nodes) (length b.links)
+    (length b.rights))
   where
     all : (v n e r : ℕ) →
         0 * v + (0 * v + (0 * n + (0 * r + (0 * e + (0 * r + (0 * n + (n * r + (0 * r + (0 * v + 0))))))))) + 0 ≡ n * r
@@ -179,7 +181,11 @@ few_sections b valid (k ∷ ks) =
 pub few_due : (b : Basin) → IsValidBasin b → length (due_in_month b) ≤ 50000
 unfolding due_in_month
 few_due b valid =
-    omega (arith, length-append (flat_map (λ k. shapes_in k b) SECTIONS) (shape.End ∷ []), few_sections b valid SECTIONS)
+    omega (
+      arith,
+      length-append (flat_map (λ k. shapes_in k b) SECTIONS) (shape.End ∷ []),
+      few_sections b valid SECTIONS,
+    )
 
 -- what is due in a run
 months : (b : Basin) (n from count : ℕ) → most_lines b (due_in_month b) ≡ n → most_lines b (flat_map (due_for_month b) (numbers_from from count)) ≡ count * (1 + n)

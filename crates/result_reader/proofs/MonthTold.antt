@@ -53,7 +53,8 @@ makes_each b series item f h (x ∷ xs) t =
 
 -- the lines of a quantity
 told_list : (q : Quantity) (a : ℕ → ℕ) (xs : List ℕ) (m : MonthRecord) →
-    fold (λ n x. with_amounts q n (slice_set (amounts_of q n) x (a x))) m xs ≡ with_amounts q m (set_all xs a (amounts_of q m))
+    fold (λ n x. with_amounts q n (slice_set (amounts_of q n) x (a x))) m xs ≡ with_amounts q m
+    (set_all xs a (amounts_of q m))
 told_list q a [] m = sym (with_own q m)
 told_list q a (x ∷ xs) m =
     let ys : List ℕ = slice_set (amounts_of q m) x (a x) in
@@ -87,7 +88,8 @@ unfolding put_one
 length-put_one r None ys = refl
 length-put_one r (Some set) ys = length-set ys r (Some set)
 
-pub put_sets-step : (r : ℕ) (rs : List ℕ) (cut : ℕ → Option (List Bool)) (ys : Sets) → put_sets (r ∷ rs) cut ys ≡ put_sets rs cut (put_one r (cut r) ys)
+pub put_sets-step : (r : ℕ) (rs : List ℕ) (cut : ℕ → Option (List Bool)) (ys : Sets) →
+    put_sets (r ∷ rs) cut ys ≡ put_sets rs cut (put_one r (cut r) ys)
 unfolding put_one
 put_sets-step r rs cut ys = by_set (cut r) refl
   where
@@ -98,7 +100,8 @@ put_sets-step r rs cut ys = by_set (cut r) refl
 pub length-put_sets : (rs : List ℕ) (cut : ℕ → Option (List Bool)) (ys : Sets) → length (put_sets rs cut ys) ≡ length ys
 length-put_sets [] cut ys = refl
 length-put_sets (r ∷ rs) cut ys =
-    ap length (put_sets-step r rs cut ys) ∙ (length-put_sets rs cut (put_one r (cut r) ys) ∙ length-put_one r (cut r) ys)
+    ap length (put_sets-step r rs cut ys)
+    ∙ (length-put_sets rs cut (put_one r (cut r) ys) ∙ length-put_one r (cut r) ys)
 
 abbrev pub with_sets : MonthRecord → List (Option (List Bool)) → MonthRecord
 with_sets m sets = record m { cuts = record m.cuts { sets = sets } }

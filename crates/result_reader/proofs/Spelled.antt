@@ -164,7 +164,11 @@ fields_plain b valid line.Title o = refl
 fields_plain b valid (line.Run first months) o = rw (month_plain first o.of_basin, decimal_plain months (omega (arith, o.numbers))) refl
 fields_plain b valid (line.Month month) o = rw (month_plain month o.of_basin) refl
 fields_plain b valid (line.Amount q entry amount) o =
-    rw (word_plain q, entry_plain b valid (space_of q) entry o.of_basin, decimal_plain amount (omega (arith, o.numbers)))
+    rw (
+      word_plain q,
+      entry_plain b valid (space_of q) entry o.of_basin,
+      decimal_plain amount (omega (arith, o.numbers)),
+    )
     refl
 fields_plain b valid (line.Deliver right amount want) o =
     rw (entry_plain b valid space.Rights right o.of_basin, decimal_plain amount (omega (arith, o.numbers.0)), decimal_plain want (omega (arith, o.numbers.1))) refl

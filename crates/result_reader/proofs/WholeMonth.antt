@@ -63,7 +63,8 @@ pub month_told : (b : Basin) (series : Inflows) (m : MonthRecord) (caller_of : �
     (fold (tell b series) t (month_lines b m caller_of)).months ≡ t.months ++ without_room m ∷ []
 unfolding month_lines
 month_told b series m caller_of t i a =
-    ap (λ u. u.months) (fold-both (tell b series) begun (flat_map (λ k. lines_in k b m caller_of) SECTIONS) (line.End ∷ []))
+    ap (λ u. u.months) (fold-both (tell b series) begun (flat_map (λ k. lines_in k b m caller_of) SECTIONS)
+    (line.End ∷ []))
     ∙ (ap (λ ms. ms ++ with_supply b series behind.now ∷ []) told.months_are
     ∙ ap (λ k. t.months ++ k ∷ []) (ap (with_supply b series) now_is ∙ end_is b series m a))
   where

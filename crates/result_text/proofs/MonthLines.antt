@@ -18,5 +18,6 @@ pub month_pieces : (h : Item → List ℕ) (b : Basin) (m : MonthRecord) (caller
     ≡ flat_map h (month_lines b m caller_of)
 unfolding month_lines
 month_pieces h b m caller_of =
-    ap (λ bytes. bytes ++ (flat_map h (inner b m caller_of) ++ flat_map h (line.End ∷ []))) (append-nil (h (line.Month m.month)))
+    ap (λ bytes. bytes ++ (flat_map h (inner b m caller_of) ++ flat_map h (line.End ∷ [])))
+    (append-nil (h (line.Month m.month)))
     ∙ ap (λ bytes. h (line.Month m.month) ++ bytes) (sym (flat_map-append h (inner b m caller_of) (line.End ∷ [])))

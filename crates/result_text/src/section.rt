@@ -82,7 +82,8 @@ pub fn line_at(
     requires month { FitsText basin.now month.now }
     requires single { section ≢ Section.Calls }
     requires entry { entry < count_in (section_space section) basin.now }
-    ensures value { option_to_list result ≡ lines_at section basin.now month.now (calling_right basin.now month.now) entry }
+    ensures value { option_to_list result
+        ≡ lines_at section basin.now month.now (calling_right basin.now month.now) entry }
     ensures named { IfSome result (IsOfBasin basin.now) }
 {
     match section {

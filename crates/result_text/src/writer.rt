@@ -50,7 +50,8 @@ fn put_line<K: Sink>(
     requires single { section ≢ Section.Calls }
     requires entry { entry < count_in (section_space section) basin.now }
     ensures text { Puts (K.taken sink.old) (K.taken sink.new) result
-        (flat_map (whole_line basin.now) (lines_at section basin.now month.now (calling_right basin.now month.now) entry)) }
+        (flat_map (whole_line basin.now)
+        (lines_at section basin.now month.now (calling_right basin.now month.now) entry)) }
     ensures cause { HasCause (K.faults sink.old) (K.faults sink.new) (IsErr result) }
 {
     match line_at(section, basin, roll, month, entry) {
@@ -146,7 +147,8 @@ fn put_entry<K: Sink>(
     requires month { FitsText basin.now month.now }
     requires entry { entry < count_in (section_space section) basin.now }
     ensures text { Puts (K.taken sink.old) (K.taken sink.new) result
-        (flat_map (whole_line basin.now) (lines_at section basin.now month.now (calling_right basin.now month.now) entry)) }
+        (flat_map (whole_line basin.now)
+        (lines_at section basin.now month.now (calling_right basin.now month.now) entry)) }
     ensures cause { HasCause (K.faults sink.old) (K.faults sink.new) (IsErr result) }
 {
     match section {
@@ -167,7 +169,8 @@ fn put_section<K: Sink>(
     requires roll { IsRollOf basin.now.rights roll.now }
     requires month { FitsText basin.now month.now }
     ensures text { Puts (K.taken sink.old) (K.taken sink.new) result
-        (flat_map (whole_line basin.now) (lines_in section basin.now month.now (calling_right basin.now month.now))) }
+        (flat_map (whole_line basin.now)
+        (lines_in section basin.now month.now (calling_right basin.now month.now))) }
     ensures cause { HasCause (K.faults sink.old) (K.faults sink.new) (IsErr result) }
 {
     let space = section.space();
@@ -190,7 +193,8 @@ fn put_sections<K: Sink>(
     requires roll { IsRollOf basin.now.rights roll.now }
     requires month { FitsText basin.now month.now }
     ensures text { Puts (K.taken sink.old) (K.taken sink.new) result
-        (flat_map (whole_line basin.now) (flat_map (λ section. lines_in section basin.now month.now (calling_right basin.now month.now)) SECTIONS)) }
+        (flat_map (whole_line basin.now)
+        (flat_map (λ section. lines_in section basin.now month.now (calling_right basin.now month.now)) SECTIONS)) }
     ensures cause { HasCause (K.faults sink.old) (K.faults sink.new) (IsErr result) }
 {
     for section in SECTIONS.iter() {

@@ -8,7 +8,8 @@ use Rattle.result_reader.specs.Telling.{Told, tell}
 use Rattle.cert_check.specs.Checking.{first_row}
 use Rattle.cert_check.specs.Coming.{is_before_called}
 use Rattle.cert_check.specs.Keeping.{Keeps}
-use Rattle.cert_check.proofs.Entries.{along, keeps_amount, keeps_month, keeps_call, keeps_stray, keeps_member, keeps_next, keeps_end}
+use Rattle.cert_check.proofs.Entries.{along, keeps_amount, keeps_month, keeps_next, keeps_end}
+use Rattle.cert_check.proofs.SetEntries.{keeps_call, keeps_stray, keeps_member}
 use Rattle.cert_check.proofs.Fitting.{amounts_sized}
 use Rattle.cert_check.proofs.entering.enter.Goals as goal
 

@@ -1,6 +1,6 @@
 use Rattle.std.proofs.Common.{length, sym, ap, ◌∙◌, arith}
 use Rattle.water_model.proofs.Order.{length-by_seniority}
-use Rattle.cert_check.proofs.Entries.{keeps_passed}
+use Rattle.cert_check.proofs.Kept.{keeps_passed}
 use Rattle.cert_check.proofs.Missing.{none_missed, some_missed, lacks_told}
 use Rattle.cert_check.proofs.refusing.cut_missing.Goals as goal
 

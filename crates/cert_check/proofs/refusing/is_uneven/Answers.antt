@@ -2,7 +2,7 @@ use Rattle.std.proofs.Common.{ap, ◌∙◌, arith, length}
 use Rattle.std.specs.Prelude.{slice_index}
 use Rattle.place_sums.proofs.Totals.{term_le_total}
 use Rattle.cert_check.proofs.Bounded.{supplies_small}
-use Rattle.cert_check.proofs.Entries.{keeps_room}
+use Rattle.cert_check.proofs.Kept.{keeps_room}
 use Rattle.cert_check.proofs.Even.{uneven_is}
 use Rattle.cert_check.proofs.refusing.is_uneven.Goals as goal
 

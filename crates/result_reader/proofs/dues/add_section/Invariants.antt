@@ -8,4 +8,5 @@ use Rattle.result_reader.proofs.dues.add_section.Given as goal
 abbrev pub invariant-loop-place : goal.invariant-loop-place
 invariant-loop-place l =
     l.dues.items
-    ≡ l.fn.dues.items ++ flat_map (shapes_at l.section l.basin) (take l.place (in_order (section_space l.section) l.basin))
+    ≡ l.fn.dues.items ++ flat_map (shapes_at l.section l.basin)
+    (take l.place (in_order (section_space l.section) l.basin))

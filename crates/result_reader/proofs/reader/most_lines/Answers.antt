@@ -4,7 +4,8 @@ use Rattle.result_reader.proofs.reader.most_lines.Goals as goal
 
 fits : (c : goal.After-from) → c.from.result * (1 + length c.args.dues.now + c.len.result * c.len-2.result) + 3 < 2 ^ 64
 fits c =
-    let dues : length c.args.dues.now ≤ 50000 = omega (arith, ap length c.requires.dues, few_due c.args.basin.now c.requires.basin) in
+    let dues : length c.args.dues.now ≤ 50000 =
+    omega (arith, ap length c.requires.dues, few_due c.args.basin.now c.requires.basin) in
     run_fits (length c.args.dues.now) c.from.result c.len-2.result c.len.result dues
     (omega (arith, c.from.ensures, c.requires.basin.run.months)) (omega (arith, c.len-2.ensures, c.requires.basin.few.nodes)) (omega (arith, c.len.ensures, c.requires.basin.few.rights))
 

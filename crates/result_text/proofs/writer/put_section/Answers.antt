@@ -11,7 +11,8 @@ pub loop-place-init : goal.loop-place-init
 loop-place-init g c =
     SoFar-none (whole_line c.args.basin.now)
     (lines_at c.args.section c.args.basin.now c.args.month.now (calling_right c.args.basin.now c.args.month.now))
-    (in_order (section_space c.args.section) c.args.basin.now) (g.K.Sink.taken c.args.sink.now) (g.K.Sink.faults c.args.sink.now)
+    (in_order (section_space c.args.section) c.args.basin.now) (g.K.Sink.taken c.args.sink.now)
+    (g.K.Sink.faults c.args.sink.now)
 
 pub returns-in_err-put_entry-clause-text : goal.returns-in_err-put_entry-clause-text
 returns-in_err-put_entry-clause-text g c =

@@ -1,0 +1,192 @@
+-- An account keeps what is told where it only learns what follows from it.
+use Rattle.std.proofs.Common.{◌≡◌, ℕ, zero, suc, ◌+◌, ◌<◌, ◌≤◌, Bool, true, false, refl, sym, ap, ◌∙◌, arith, inl, inr, List, [], ◌∷◌, ◌++◌, length, map, replicate, take, length-append}
+use Rattle.std.specs.Prelude.{Option, Some, None, IsSome, ◌&&◌, ◌||◌, not, is_none, is_some, slice_index, slice_set, slice_get, option_map, if◌then◌else◌}
+use Rattle.std.specs.List.{list_any}
+use Rattle.std.proofs.lemmas.Bool.{cases_eq}
+use Rattle.std.proofs.lemmas.List.{length-map, length-replicate, map-append}
+use Rattle.std.proofs.lemmas.Option.{slice_get_past}
+use Rattle.std.proofs.Math.ListN.{length-set}
+use Rattle.water_model.proofs.Order.{length-by_seniority}
+use Rattle.water_text.specs.Months.{IsMonth}
+use Rattle.water_text.specs.declared.month.Month.{Month}
+use Rattle.lag_returns.specs.Lags as lag
+use Rattle.place_sums.specs.Sums.{total_where}
+use Rattle.lag_returns.specs.Lags.{OnTheWay}
+use Rattle.month_terms.specs.Terms.{HasReturned}
+use Rattle.water_model.specs.Basin.{taking_node}
+use Rattle.water_model.specs.CutSets.{CutSets, set_of, with_set, with_room, without_sets, has_room}
+use Rattle.water_model.specs.History.{cut_of, is_zone_of}
+use Rattle.water_model.specs.Hydrology.{returned_at}
+use Rattle.water_model.specs.Lookups.{has}
+use Rattle.water_model.specs.Places.{seniors_first}
+use Rattle.water_model.specs.declared.item.Item.{Item}
+use Rattle.water_model.specs.declared.item.Item.TheVariants as line
+use Rattle.water_model.specs.declared.quantity.Quantity.{Quantity}
+use Rattle.water_model.specs.declared.types.Basin.{Basin}
+use Rattle.water_model.specs.declared.types.Inflows.{Inflows}
+use Rattle.water_model.specs.declared.types.MonthRecord.{MonthRecord}
+use Rattle.result_reader.specs.Telling.{Told, tell, with_supply, with_member}
+use Rattle.cert_check.specs.Checking.{first_row, is_short, is_due, callers_due}
+use Rattle.cert_check.specs.Keeping.{Keeps, callers_of, is_supplied, lacks_call}
+use Rattle.cert_check.specs.Shows.{Shows}
+use Rattle.cert_check.specs.Walks.{IsDueFrom, behind}
+use Rattle.cert_check.specs.declared.account.Account.{Account}
+use Rattle.cert_check.specs.declared.answering.Due.{Due}
+use Rattle.cert_check.proofs.Calls.{set_here, set_apart}
+use Rattle.cert_check.proofs.Fitting.{Stays, callers_same, callers_stay, fits_amount, fits_behind, fits_same, lacks_stay, shows_amount, stays, supply_stays, with_amount}
+use Rattle.cert_check.proofs.Rows.{good_row}
+use Rattle.cert_check.proofs.Supplies.{length-supply}
+use Rattle.cert_check.proofs.RunSound.{opens_with_last}
+
+same_supply : (b : Basin) (series : Inflows) (m : MonthRecord) (t : Told) → Shows m t.now →
+    (with_supply b series m).supply ≡ (with_supply b series t.now).supply
+same_supply b series m t s = rw (s.index, s.returned, s.opening, s.evaporated) refl
+
+-- the supply that is told is made
+pub keeps_supply : (b : Basin) (series : Inflows) (a : Account) (t : Told) → Keeps b series a t →
+    Keeps b series (record a { month = with_supply b series a.month; has_supply = true }) t
+keeps_supply b series a t k = record {
+  fits = record {
+    month = record {
+      fits = record {
+        opening = k.fits.month.fits.opening;
+        evaporated = k.fits.month.fits.evaporated;
+        closing = k.fits.month.fits.closing;
+        returned = k.fits.month.fits.returned;
+        supply = length-supply b series a.month;
+        used = k.fits.month.fits.used;
+        want = k.fits.month.fits.want;
+        delivered = k.fits.month.fits.delivered;
+        cuts = k.fits.month.fits.cuts;
+        cut_nodes = k.fits.month.fits.cut_nodes;
+      };
+      flow = k.fits.month.flow;
+      take = k.fits.month.take;
+      out = k.fits.month.out;
+    };
+    calendar = k.fits.calendar;
+    room = k.fits.room;
+    opens = k.fits.opens;
+    comes = k.fits.comes;
+    closes = k.fits.closes;
+    into = k.fits.into;
+    out_of = k.fits.out_of;
+    calling = k.fits.calling;
+    passed = k.fits.passed;
+    answered = k.fits.answered;
+  };
+  shows = record {
+    index = k.shows.index;
+    month = k.shows.month;
+    opening = k.shows.opening;
+    evaporated = k.shows.evaporated;
+    returned = k.shows.returned;
+    used = k.shows.used;
+    want = k.shows.want;
+    flow = k.shows.flow;
+    take = k.shows.take;
+    out = k.shows.out;
+    delivered = k.shows.delivered;
+    sets = k.shows.sets;
+    closing = k.shows.closing;
+  };
+  calling = k.calling;
+  done = k.done;
+  lags = k.lags;
+  opens = k.opens;
+  comes = k.comes;
+  supply = λ e. same_supply b series a.month t k.shows;
+  closes = k.closes;
+  passed = k.passed;
+  answered = k.answered;
+}
+
+-- So many rights are passed, or answered.
+pub keeps_passed : (b : Basin) (series : Inflows) (a : Account) (t : Told) (count : ℕ) → Keeps b series a t →
+    count ≤ length b.rights →
+    list_any (lacks_call t.now) (take count (seniors_first b)) ≡ false → Keeps b series (record a { passed = count }) t
+keeps_passed b series a t count k l h = record {
+  fits = record {
+    month = k.fits.month;
+    calendar = k.fits.calendar;
+    room = k.fits.room;
+    opens = k.fits.opens;
+    comes = k.fits.comes;
+    closes = k.fits.closes;
+    into = k.fits.into;
+    out_of = k.fits.out_of;
+    calling = k.fits.calling;
+    passed = l;
+    answered = k.fits.answered;
+  };
+  shows = k.shows;
+  calling = k.calling;
+  done = k.done;
+  lags = k.lags;
+  opens = k.opens;
+  comes = k.comes;
+  supply = k.supply;
+  closes = k.closes;
+  passed = h;
+  answered = k.answered;
+}
+
+pub keeps_answered : (b : Basin) (series : Inflows) (a : Account) (t : Told) (count : ℕ) → Keeps b series a t →
+    count ≤ length b.rights →
+    t.called ≡ length (callers_of b t.now (take count (seniors_first b))) →
+    Keeps b series (record a { answered = count }) t
+keeps_answered b series a t count k l h = record {
+  fits = record {
+    month = k.fits.month;
+    calendar = k.fits.calendar;
+    room = k.fits.room;
+    opens = k.fits.opens;
+    comes = k.fits.comes;
+    closes = k.fits.closes;
+    into = k.fits.into;
+    out_of = k.fits.out_of;
+    calling = k.fits.calling;
+    passed = k.fits.passed;
+    answered = l;
+  };
+  shows = k.shows;
+  calling = k.calling;
+  done = k.done;
+  lags = k.lags;
+  opens = k.opens;
+  comes = k.comes;
+  supply = k.supply;
+  closes = k.closes;
+  passed = k.passed;
+  answered = h;
+}
+
+-- The room for sums may have any.
+pub keeps_room : (b : Basin) (series : Inflows) (a : Account) (t : Told) (into out_of : List ℕ) →
+    Keeps b series a t → length into ≡ length b.nodes → length out_of ≡ length b.nodes →
+    Keeps b series (record a { into = into; out_of = out_of }) t
+keeps_room b series a t into out_of k l h = record {
+  fits = record {
+    month = k.fits.month;
+    calendar = k.fits.calendar;
+    room = k.fits.room;
+    opens = k.fits.opens;
+    comes = k.fits.comes;
+    closes = k.fits.closes;
+    into = l;
+    out_of = h;
+    calling = k.fits.calling;
+    passed = k.fits.passed;
+    answered = k.fits.answered;
+  };
+  shows = k.shows;
+  calling = k.calling;
+  done = k.done;
+  lags = k.lags;
+  opens = k.opens;
+  comes = k.comes;
+  supply = k.supply;
+  closes = k.closes;
+  passed = k.passed;
+  answered = k.answered;
+}
