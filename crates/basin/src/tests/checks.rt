@@ -84,6 +84,22 @@ fn accepts_other_cuts(rt: HostRuntime) -> Result<(), Fail> {
     Ok(())
 }
 
+/// A senior whose reach has the node of a junior: the text of the run, and one in which a smaller set shows the same shortage, so
+/// that nobody calls the junior.
+const HIDDEN: [&str; 3] = [
+    "format = 1\nfirst_month = \"1900-07\"\nmonths = 1\n[[node]]\nname = \"top\"\ninflow = 50\n[[node]]\nname = \"low\"\n[[node]]\nname = \"mouth\"\noutlet = true\n[[link]]\nname = \"a\"\nfrom = \"top\"\nto = \"low\"\n[[link]]\nname = \"b\"\nfrom = \"low\"\nto = \"mouth\"\n[[diversion]]\nname = \"old\"\nnode = \"top\"\ndate = \"1890-01-01\"\nwant = 100\n[[diversion]]\nname = \"new\"\nnode = \"low\"\ndate = \"1920-01-01\"\nwant = 10\n",
+    "river-result 1\nrun 1900-07 1\nmonth 1900-07\nflow a 0\nflow b 0\ndeliver old 50 100\ndeliver new 0 10\nout mouth 0\ncall old\nin top\nin low\nin mouth\ncall new\nin top\nin low\nin mouth\ncalled new old\nend\ndone 1\n",
+    "river-result 1\nrun 1900-07 1\nmonth 1900-07\nflow a 0\nflow b 0\ndeliver old 50 100\ndeliver new 0 10\nout mouth 0\ncall old\nin top\ncall new\nin top\nin low\nin mouth\nend\ndone 1\n",
+];
+
+#[test]
+fn accepts_a_set_that_hides_a_caller(rt: HostRuntime) -> Result<(), Fail> {
+    let run = files(rt.alloc(), HIDDEN[0], "")?;
+    expect(&rt, &["run", "BASIN"], run, (Status::Done, HIDDEN[1], ""))?;
+    checks(&rt, HIDDEN[0], "", HIDDEN[1], (Status::Done, "checked 1\n"))?;
+    checks(&rt, HIDDEN[0], "", HIDDEN[2], (Status::Done, "checked 1\n"))
+}
+
 /// Two springs above one user, who may take the water of either.
 const EITHER_SPRING: &str = r#"format = 1
 first_month = "1900-01"
