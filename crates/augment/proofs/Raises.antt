@@ -5,7 +5,7 @@ use Rattle.circulation.specs.Network.{IsFlow, HasEnds}
 use Rattle.circulation.specs.Contents.{Contents, network, flow_of, arcs, IsCirculation}
 use Rattle.circulation.specs.Residual.{is_back, IsPushed}
 use Rattle.augment.specs.Search.{node_at, step_at, IsTree, IsClosed, HasTree, SameButScratch}
-use Rattle.augment.specs.Raised.{HasWayOut, IsGreatestCut, position_of, SameButFlow, not_reached}
+use Rattle.augment.specs.Raised.{open_arcs, HasWayOut, IsGreatestCut, position_of, SameButFlow, not_reached}
 use Rattle.augment.proofs.Trees.{tight_cut, greatest_cut}
 use Rattle.augment.proofs.Rises.{remaining_rise}
 use Rattle.augment.proofs.Visits.{arc-forward, way-forward}
@@ -51,7 +51,7 @@ flow_over c d rest kept = subst (λ (x : Contents). IsFlow (network x) (flow_of 
 pub stopped_rise : (c d : Contents) (r least size : ℕ) → r < arcs c → 0 < least → SameButScratch c d → IsCirculation d →
     HasTree d r least size → position_of d (slice_index c.from r) ≡ 0 →
     IsClosed (network c) (flow_of c) r least (position_of d) → (h : ℕ → ℕ) → IsFlow (network c) h →
-    h r ≤ flow_of c r + arcs c * (least - 1)
+    h r ≤ flow_of c r + open_arcs (network c) * (least - 1)
 stopped_rise c d r least size b some rest kept t none closed h fh =
     let ends = subst (λ (x : Contents). HasEnds (network x)) rest kept.ends in
     let flow = subst (λ (x : Contents). IsFlow (network x) (flow_of x)) rest kept.flow in

@@ -5,23 +5,28 @@ use Rattle.std.proofs.Math.Pow.{pow_mono}
 use Rattle.std.proofs.lemmas.Bool.{eq-eqb, ne_eqb, eqb-false, lt-ltb, le-ltb, ltb-true, not-true, cases_lt, cases_eq, and_from, and_parts, and_right, and_left, both_ways}
 use Rattle.place_sums.specs.Sums.{total, when}
 use Rattle.circulation.specs.Network.{Network, IsFlow, HasEnds, enters, leaves}
-use Rattle.place_sums.proofs.Totals.{total_le, total_add, total_change}
+use Rattle.place_sums.proofs.Totals.{total_le, total_add, total_change, term_le_total}
+use Rattle.augment.specs.Raised.{open_arcs}
 use Rattle.augment.specs.Search.{IsTree, IsClosed}
 use Rattle.augment.proofs.Cuts.{crossing}
 use Rattle.augment.proofs.Trees.{in_set, set_from, not_in_set}
 
--- a sum of one number
-total-const : (n d : ℕ) → total n (λ k. d) ≡ n * d
+-- a number for each place that passes
+total-counted : (n d : ℕ) (p : ℕ → Bool) → total n (λ k. when (p k) d) ≡ total n (λ k. when (p k) 1) * d
 unfolding total
-total-const zero d = omega arith
-total-const (suc n) d = omega (arith, total-const n d)
+total-counted zero d p = omega arith
+total-counted (suc n) d p = omega (arith, total-counted n d p, one (p n))
+  where
+    one : (t : Bool) → when t d ≡ when t 1 * d
+    one true = omega arith
+    one false = omega arith
 
 -- two sets of arcs that are apart
-disjoint_sum : (n d : ℕ) (p q : ℕ → Bool) → ((a : ℕ) → a < n → when (p a) d + when (q a) d ≤ d) →
-    total n (λ a. when (p a) d) + total n (λ a. when (q a) d) ≤ n * d
+disjoint_sum : (n : ℕ) (d : ℕ → ℕ) (p q : ℕ → Bool) → ((a : ℕ) → a < n → when (p a) (d a) + when (q a) (d a) ≤ d a) →
+    total n (λ a. when (p a) (d a)) + total n (λ a. when (q a) (d a)) ≤ total n d
 disjoint_sum n d p q h =
-    let both = total_le n (λ a. when (p a) d + when (q a) d) (λ a. d) h in
-    omega (arith, both, total_add n (λ a. when (p a) d) (λ a. when (q a) d), total-const n d)
+    let both = total_le n (λ a. when (p a) (d a) + when (q a) (d a)) d h in
+    omega (arith, both, total_add n (λ a. when (p a) (d a)) (λ a. when (q a) (d a)))
 
 -- terms that are apart by at most d where the test holds
 when-slack : (b : Bool) (x y d : ℕ) → (b ≡ true → x ≤ y + d) → when b x ≤ when b y + when b d
@@ -29,12 +34,22 @@ when-slack true x y d h = h refl
 when-slack false x y d h = omega arith
 
 -- sums of terms that are apart by at most d each
-total-slack : (n d : ℕ) (p : ℕ → Bool) (f g : ℕ → ℕ) → ((a : ℕ) → a < n → p a ≡ true → f a ≤ g a + d) →
-    total n (λ a. when (p a) (f a)) ≤ total n (λ a. when (p a) (g a)) + total n (λ a. when (p a) d)
+total-slack : (n : ℕ) (d : ℕ → ℕ) (p : ℕ → Bool) (f g : ℕ → ℕ) → ((a : ℕ) → a < n → p a ≡ true → f a ≤ g a + d a) →
+    total n (λ a. when (p a) (f a)) ≤ total n (λ a. when (p a) (g a)) + total n (λ a. when (p a) (d a))
 total-slack n d p f g h =
-    let each = total_le n (λ a. when (p a) (f a)) (λ a. when (p a) (g a) + when (p a) d)
-    (λ a b. when-slack (p a) (f a) (g a) d (h a b)) in
-    omega (arith, each, total_add n (λ a. when (p a) (g a)) (λ a. when (p a) d))
+    let each = total_le n (λ a. when (p a) (f a)) (λ a. when (p a) (g a) + when (p a) (d a))
+    (λ a b. when-slack (p a) (f a) (g a) (d a) (h a b)) in
+    omega (arith, each, total_add n (λ a. when (p a) (g a)) (λ a. when (p a) (d a)))
+
+-- an arc that carries nothing in any flow leaves no room
+abbrev room_by : Network → ℕ → ℕ → ℕ
+room_by w d a = when (nat_lt 0 (w.upper a)) d
+
+open_room : (upper d x y : ℕ) → x ≤ upper → x ≤ y + d → x ≤ y + when (nat_lt 0 upper) d
+open_room upper d x y most room = elim (cases_lt 0 upper) [
+  | inl some ↦ omega (arith, room, ap (λ (t : Bool). when t d) (lt-ltb 0 upper some))
+  | inr none ↦ omega (arith, most)
+]
 
 -- a test that fails leaves the rest as it is
 same_when : (p t : Bool) (x : ℕ) → t ≡ false → when p x ≡ when (p && not t) x
@@ -63,36 +78,60 @@ apart_way false false e d = omega arith
 -- a set with r's tail and not its head
 rise_out : (w : Network) (r d : ℕ) (y : ℕ → Bool) (g h : ℕ → ℕ) → r < w.arcs → ((v : ℕ) → w.nodes ≤ v → y v ≡ false) →
     leaves w y r ≡ true → IsFlow w g → IsFlow w h → ((a : ℕ) → a < w.arcs → enters w y a ≡ true → w.upper a ≤ g a + d) →
-    ((a : ℕ) → a < w.arcs → leaves w y a ≡ true → a ≢ r → g a ≤ w.lower a + d) → h r ≤ g r + w.arcs * d
+    ((a : ℕ) → a < w.arcs → leaves w y a ≡ true → a ≢ r → g a ≤ w.lower a + d) → h r ≤ g r + open_arcs w * d
 rise_out w r d y g h b basin own fg fh full empty =
     let cross_g = crossing w y g basin fg in
     let cross_h = crossing w y h basin fh in
     let part_g = without w.arcs r (leaves w y) g b own in
     let part_h = without w.arcs r (leaves w y) h b own in
-    let into = total-slack w.arcs d (enters w y) h g (λ a c e. omega (arith, full a c e, fh.high a c)) in
-    let out = total-slack w.arcs d (λ a. leaves w y a && not (a == r)) g h (λ a c e.
+    let into = total-slack w.arcs (room_by w d) (enters w y) h g
+    (λ a c e. open_room (w.upper a) d (h a) (g a) (fh.high a c) (omega (arith, full a c e, fh.high a c))) in
+    let out = total-slack w.arcs (room_by w d) (λ a. leaves w y a && not (a == r)) g h (λ a c e.
     let parts = and_parts (leaves w y a) (not (a == r)) e in
-    omega (arith, empty a c parts.0 (eqb-false a r (not-true (a == r) parts.1)), fh.low a c)) in
-    let slack = disjoint_sum w.arcs d (enters w y) (λ a. leaves w y a && not (a == r))
-    (λ a c. apart_way (y (w.to a)) (y (w.from a)) (not (a == r)) d) in
-    omega (arith, cross_g, cross_h, part_g, part_h, into, out, slack)
+    open_room (w.upper a) d (g a) (h a) (fg.high a c)
+    (omega (arith, empty a c parts.0 (eqb-false a r (not-true (a == r) parts.1)), fh.low a c))) in
+    let slack = disjoint_sum w.arcs (room_by w d) (enters w y) (λ a. leaves w y a && not (a == r))
+    (λ a c. apart_way (y (w.to a)) (y (w.from a)) (not (a == r)) (room_by w d a)) in
+    omega (
+      arith,
+      cross_g,
+      cross_h,
+      part_g,
+      part_h,
+      into,
+      out,
+      slack,
+      total-counted w.arcs d (λ a. nat_lt 0 (w.upper a)),
+    )
 
 -- a set with r's head and not its tail
 rise_in : (w : Network) (r d : ℕ) (y : ℕ → Bool) (g h : ℕ → ℕ) → r < w.arcs → ((v : ℕ) → w.nodes ≤ v → y v ≡ false) →
     enters w y r ≡ true → IsFlow w g → IsFlow w h → ((a : ℕ) → a < w.arcs → leaves w y a ≡ true → w.upper a ≤ g a + d) →
-    ((a : ℕ) → a < w.arcs → enters w y a ≡ true → a ≢ r → g a ≤ w.lower a + d) → h r ≤ g r + w.arcs * d
+    ((a : ℕ) → a < w.arcs → enters w y a ≡ true → a ≢ r → g a ≤ w.lower a + d) → h r ≤ g r + open_arcs w * d
 rise_in w r d y g h b basin own fg fh full empty =
     let cross_g = crossing w y g basin fg in
     let cross_h = crossing w y h basin fh in
     let part_g = without w.arcs r (enters w y) g b own in
     let part_h = without w.arcs r (enters w y) h b own in
-    let out = total-slack w.arcs d (leaves w y) h g (λ a c e. omega (arith, full a c e, fh.high a c)) in
-    let into = total-slack w.arcs d (λ a. enters w y a && not (a == r)) g h (λ a c e.
+    let out = total-slack w.arcs (room_by w d) (leaves w y) h g
+    (λ a c e. open_room (w.upper a) d (h a) (g a) (fh.high a c) (omega (arith, full a c e, fh.high a c))) in
+    let into = total-slack w.arcs (room_by w d) (λ a. enters w y a && not (a == r)) g h (λ a c e.
     let parts = and_parts (enters w y a) (not (a == r)) e in
-    omega (arith, empty a c parts.0 (eqb-false a r (not-true (a == r) parts.1)), fh.low a c)) in
-    let slack = disjoint_sum w.arcs d (leaves w y) (λ a. enters w y a && not (a == r))
-    (λ a c. apart_way (y (w.from a)) (y (w.to a)) (not (a == r)) d) in
-    omega (arith, cross_g, cross_h, part_g, part_h, into, out, slack)
+    open_room (w.upper a) d (g a) (h a) (fg.high a c)
+    (omega (arith, empty a c parts.0 (eqb-false a r (not-true (a == r) parts.1)), fh.low a c))) in
+    let slack = disjoint_sum w.arcs (room_by w d) (leaves w y) (λ a. enters w y a && not (a == r))
+    (λ a c. apart_way (y (w.from a)) (y (w.to a)) (not (a == r)) (room_by w d a)) in
+    omega (
+      arith,
+      cross_g,
+      cross_h,
+      part_g,
+      part_h,
+      into,
+      out,
+      slack,
+      total-counted w.arcs d (λ a. nat_lt 0 (w.upper a)),
+    )
 
 -- a node that is not a reached basin node was not reached
 inside_not : (nodes : ℕ) (position : ℕ → ℕ) (v : ℕ) → v ≤ nodes → position nodes ≡ 0 →
@@ -109,7 +148,7 @@ inside_not nodes position v b outside e = elim (cases_lt v nodes) [
 -- when nothing more is reached over rooms of at least `least`, the flow of r can rise by less than that for each arc
 pub remaining_rise : (w : Network) (g h : ℕ → ℕ) (r least : ℕ) (position node step : ℕ → ℕ) (size : ℕ) → r < w.arcs →
     0 < least → HasEnds w → IsFlow w g → IsFlow w h → IsTree w g r least position node step size →
-    IsClosed w g r least position → position (w.from r) ≡ 0 → h r ≤ g r + w.arcs * (least - 1)
+    IsClosed w g r least position → position (w.from r) ≡ 0 → h r ≤ g r + open_arcs w * (least - 1)
 remaining_rise w g h r least position node step size b some ends fg fh t closed none =
     let head : 0 < position (w.to r) = omega (arith, ap position t.root, (t.placed 0 t.some).1) in
     let from_in = ends.from_in r b in
@@ -287,3 +326,15 @@ phases_cost count left arcs start before after b each more =
 -- the cost of at most thirty phases
 pub thirty : (count arcs : ℕ) → count ≤ 30 → count * (2 * arcs + 1) ≤ 30 * (2 * arcs + 1)
 thirty count arcs b = mul-le-mul_right (2 * arcs + 1) b
+
+-- an arc that may carry something is open
+pub open_some : (w : Network) (a : ℕ) → a < w.arcs → 0 < w.upper a → 1 ≤ open_arcs w
+open_some w a b some =
+    let term = term_le_total w.arcs (λ k. when (nat_lt 0 (w.upper k)) 1) a b in
+    omega (arith, term, ap (λ (t : Bool). when t 1) (lt-ltb 0 (w.upper a) some))
+
+-- what is missing is less than twice the room of the first phase
+pub first_rise : (arcs x most : ℕ) → 1 ≤ arcs → x ≤ most → x ≤ arcs * most
+first_rise arcs x most some h =
+    let all = mul-le-mul_right most some in
+    omega (arith, all, h)

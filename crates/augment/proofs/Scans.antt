@@ -1,12 +1,13 @@
--- A scan over the arcs of a node.
-use Rattle.std.proofs.Common.{ℕ, true, false, ◌≡◌, ◌≢◌, ◌+◌, ◌<◌, ◌≤◌, Option, Some, None, MatchOption, List, length, slice_index, refl, arith, ap, sym, subst, inl, inr, ◌∙◌}
-use Rattle.std.proofs.lemmas.Bool.{cases_eq, cases_lt}
-use Rattle.circulation.specs.ArcRows.{AnswersNext}
+-- A scan over the row of a node.
+use Rattle.std.proofs.Common.{ℕ, Bool, true, false, ◌≡◌, ◌≢◌, ◌+◌, ◌-◌, ◌*◌, ◌%◌, ◌<◌, ◌≤◌, length, slice_index, refl, arith, ap, sym, subst, inl, inr, ◌∙◌}
+use Rattle.std.proofs.lemmas.Bool.{cases_lt, eq-eqb, ne_eqb}
+use Rattle.circulation.specs.Network.{Network}
+use Rattle.circulation.specs.Residual.{arc_of, is_back, by_way, start_of, end_of, room_of}
+use Rattle.circulation.specs.Rows.{IsInRow}
 use Rattle.circulation.specs.Contents.{Contents, network, flow_of, arcs, IsCirculation}
-use Rattle.circulation.proofs.RowPlaces.{place, IsPlace, place_of}
-use Rattle.augment.specs.Search.{room_over, end_over, IsDoneOut, IsDoneIn, HasTree, Grows, IsVisitedBy, SameButScratch}
+use Rattle.augment.specs.Search.{HasTree, IsTried, IsExpanded, IsVisitedBy, Grows}
 use Rattle.augment.specs.Raised.{position_of}
-use Rattle.augment.proofs.Trees.{grows_more, grows_none}
+use Rattle.augment.proofs.Trees.{grows_more, grows_none, by_way_both}
 
 -- no visit adds nothing
 pub not_visited : (c : Contents) (r least size : ℕ) → HasTree c r least size → IsVisitedBy c c r least size size
@@ -23,184 +24,155 @@ visited_more c d e r least size more most a b = record {
       (ap (λ (x : Contents). x.nodes) a.rest) b.grows);
 }
 
--- what is done stays done, the arc that was tried is done, and none stands between it and the next
-done_more : (below upto next nodes r v : ℕ) (key other : ℕ → ℕ) (room : ℕ → Type 0) (old new : ℕ → ℕ) →
-    ((a : ℕ) → a < upto → other a ≤ nodes) → next ≤ upto → ((u : ℕ) → u ≤ nodes → 0 < old u → new u ≡ old u) →
-    ((a : ℕ) → a < below → key a ≡ v → a ≢ r → room a → 0 < old (other a)) →
-    (below ≢ r → room below → 0 < new (other below)) → ((b : ℕ) → below + 1 ≤ b → b < next → key b ≢ v) → (a : ℕ) →
-    a < next → key a ≡ v → a ≢ r → room a → 0 < new (other a)
-done_more below upto next nodes r v key other room old new within short same done here skipped a b e ne has = elim
-    (cases_lt a below) [
-      | inl c ↦ let was = done a c e ne has in omega (arith, same (other a) (within a (omega arith)) was, was)
-      | inr c ↦ elim (cases_eq a below) [
-        | inl is ↦ subst (λ (x : ℕ). 0 < new (other x)) (sym is) (here (λ f. ne (is ∙ f)) (subst room is has))
-        | inr more ↦ absurd (skipped a (omega arith) b e)
-      ]
-    ]
+-- a step enters a node
+pub end_within : (c : Contents) (s : ℕ) → IsCirculation c → arc_of s < arcs c → end_of (network c) s ≤ c.nodes
+end_within c s k b = by_way_both (is_back s) (slice_index c.to (arc_of s)) (slice_index c.from (arc_of s)) c.nodes
+    (k.ends.to_in (arc_of s) b) (k.ends.from_in (arc_of s) b)
 
--- one more arc that leaves the node was tried
-pub out_more : (c d e : Contents) (r least more most v via next : ℕ) → IsCirculation c → SameButScratch c d →
-    IsVisitedBy d e r least more most → via < arcs c → next ≤ arcs c →
-    IsDoneOut (network c) (flow_of c) r least (position_of d) v via →
-    (via ≢ r → least ≤ room_over d via true → 0 < position_of e (end_over d via true)) →
-    ((b : ℕ) → via + 1 ≤ b → b < next → slice_index d.from b ≢ v) →
-    IsDoneOut (network c) (flow_of c) r least (position_of e) v next
-out_more c d e r least more most v via next k rest visited b within done tried skipped =
-    let nodes = ap (λ (x : Contents). x.nodes) rest in
-    let upper = ap (λ (x : Contents). slice_index x.upper via) rest in
-    let flow = ap (λ (x : Contents). slice_index x.flow via) rest in
-    let to = ap (λ (x : Contents). position_of e (slice_index x.to via)) rest in
-    done_more via (arcs c) next c.nodes r v (slice_index c.from) (slice_index c.to)
-    (λ a. flow_of c a + least ≤ slice_index c.upper a) (position_of d) (position_of e) k.ends.to_in within
-    (λ u f m. visited.grows.same u (omega arith) m)
-    done
-    (λ ne room. let there = tried ne (omega arith) in omega arith)
-    (λ x f g. subst (λ (y : Contents). slice_index y.from x ≢ v) rest (skipped x f g))
+-- a forward step with its arc, and one backward
+expanded_out : (w : Network) (g : ℕ → ℕ) (r least a : ℕ) (position : ℕ → ℕ) → IsTried w g r least position (2 * a) → a ≢
+    r →
+    g a + least ≤ w.upper a → 0 < position (w.to a)
+expanded_out w g r least a position tried ne room =
+    let arc : arc_of (2 * a) ≡ a = omega arith in
+    let forth : is_back (2 * a) ≡ false = ne_eqb (2 * a % 2) 1 (λ e. absurd (omega (arith, e))) in
+    let end : end_of w (2 * a) ≡ w.to a =
+    ap (λ (t : Bool). by_way t (w.to (arc_of (2 * a))) (w.from (arc_of (2 * a)))) forth ∙ ap w.to arc in
+    let some : room_of w g (2 * a) ≡ w.upper a - g a =
+    ap (λ (t : Bool). by_way t (w.upper (arc_of (2 * a)) - g (arc_of (2 * a)))
+    (g (arc_of (2 * a)) - w.lower (arc_of (2 * a)))) forth
+    ∙ ap (λ (x : ℕ). w.upper x - g x) arc in
+    subst (λ (v : ℕ). 0 < position v) end (tried (λ e. ne (sym arc ∙ e)) (omega (arith, some, room)))
 
--- one more arc that enters the node was tried
-pub in_more : (c d e : Contents) (r least more most v via next : ℕ) → IsCirculation c → SameButScratch c d →
-    IsVisitedBy d e r least more most → via < arcs c → next ≤ arcs c →
-    IsDoneIn (network c) (flow_of c) r least (position_of d) v via →
-    (via ≢ r → least ≤ room_over d via false → 0 < position_of e (end_over d via false)) →
-    ((b : ℕ) → via + 1 ≤ b → b < next → slice_index d.to b ≢ v) →
-    IsDoneIn (network c) (flow_of c) r least (position_of e) v next
-in_more c d e r least more most v via next k rest visited b within done tried skipped =
-    let nodes = ap (λ (x : Contents). x.nodes) rest in
-    let lower = ap (λ (x : Contents). slice_index x.lower via) rest in
-    let flow = ap (λ (x : Contents). slice_index x.flow via) rest in
-    let from = ap (λ (x : Contents). position_of e (slice_index x.from via)) rest in
-    done_more via (arcs c) next c.nodes r v (slice_index c.to) (slice_index c.from)
-    (λ a. slice_index c.lower a + least ≤ flow_of c a) (position_of d) (position_of e) k.ends.from_in within
-    (λ u f m. visited.grows.same u (omega arith) m)
-    done
-    (λ ne room. let there = tried ne (omega arith) in omega arith)
-    (λ x f g. subst (λ (y : Contents). slice_index y.to x ≢ v) rest (skipped x f g))
+expanded_in : (w : Network) (g : ℕ → ℕ) (r least a : ℕ) (position : ℕ → ℕ) → IsTried w g r least position (2 * a + 1) →
+    a ≢ r →
+    w.lower a + least ≤ g a → 0 < position (w.from a)
+expanded_in w g r least a position tried ne room =
+    let arc : arc_of (2 * a + 1) ≡ a = omega arith in
+    let back : is_back (2 * a + 1) ≡ true = eq-eqb ((2 * a + 1) % 2) 1 (omega arith) in
+    let end : end_of w (2 * a + 1) ≡ w.from a =
+    ap (λ (t : Bool). by_way t (w.to (arc_of (2 * a + 1))) (w.from (arc_of (2 * a + 1)))) back ∙ ap w.from arc in
+    let some : room_of w g (2 * a + 1) ≡ g a - w.lower a =
+    ap (λ (t : Bool). by_way t (w.upper (arc_of (2 * a + 1)) - g (arc_of (2 * a + 1)))
+    (g (arc_of (2 * a + 1)) - w.lower (arc_of (2 * a + 1)))) back
+    ∙ ap (λ (x : ℕ). g x - w.lower x) arc in
+    subst (λ (v : ℕ). 0 < position v) end (tried (λ e. ne (sym arc ∙ e)) (omega (arith, some, room)))
 
--- a scan over the arcs that leave a node
-pub record IsScanOut (c d : Contents) (r least size count v start : ℕ) (answer : Option ℕ) : Type 0 where
+-- the step 2 * a leaves the tail of the arc a, and 2 * a + 1 its head
+start_out : (w : Network) (a : ℕ) → start_of w (2 * a) ≡ w.from a
+start_out w a =
+    let arc : arc_of (2 * a) ≡ a = omega arith in
+    ap (λ (t : Bool). by_way t (w.from (arc_of (2 * a))) (w.to (arc_of (2 * a))))
+    (ne_eqb (2 * a % 2) 1 (λ e. absurd (omega (arith, e))))
+    ∙ ap w.from arc
+
+start_in : (w : Network) (a : ℕ) → start_of w (2 * a + 1) ≡ w.to a
+start_in w a =
+    let arc : arc_of (2 * a + 1) ≡ a = omega arith in
+    ap (λ (t : Bool). by_way t (w.from (arc_of (2 * a + 1))) (w.to (arc_of (2 * a + 1))))
+    (eq-eqb ((2 * a + 1) % 2) 1 (omega arith))
+    ∙ ap w.to arc
+
+-- a node whose steps were all tried is expanded
+expanded_from : (w : Network) (g : ℕ → ℕ) (r least : ℕ) (position : ℕ → ℕ) (v : ℕ) →
+    ((s : ℕ) → arc_of s < w.arcs → start_of w s ≡ v → IsTried w g r least position s) → IsExpanded w g r least position
+    v
+expanded_from w g r least position v tried = record {
+  out = λ a b is ne room.
+      let arc : arc_of (2 * a) ≡ a = omega arith in
+      expanded_out w g r least a position (tried (2 * a) (omega (arith, arc)) (start_out w a ∙ is)) ne room;
+  into = λ a b is ne room.
+      let arc : arc_of (2 * a + 1) ≡ a = omega arith in
+      expanded_in w g r least a position (tried (2 * a + 1) (omega (arith, arc)) (start_in w a ∙ is)) ne room;
+}
+
+-- of the row of the node v, the steps before a place were tried
+pub record IsScan (c d : Contents) (r least size count v place : ℕ) : Type 0 where
   pub visited : IsVisitedBy c d r least size count
-  pub row : IsPlace c.from v start answer
-  pub done : IsDoneOut (network c) (flow_of c) r least (position_of d) v (place answer (arcs c))
+  pub tried : (p : ℕ) → slice_index c.rows.first v ≤ p → p < place →
+      IsTried (network c) (flow_of c) r least (position_of d) (slice_index c.rows.step p)
 
--- a scan at the first arc
-pub scan_out_start : (c : Contents) (r least size v : ℕ) (answer : Option ℕ) → HasTree c r least size →
-    AnswersNext answer c.from v 0 → IsScanOut c c r least size size v 0 answer
-scan_out_start c r least size v answer t h =
-    let p = place_of c.from v 0 answer h in
-    record {
-      visited = not_visited c r least size t;
-      row = p;
-      done = λ a b e. absurd (p.skipped a (omega arith) b e);
-    }
+-- a scan at the first place
+pub scan_start : (c : Contents) (r least size v place : ℕ) → HasTree c r least size → place ≡ slice_index c.rows.first v
+    →
+    IsScan c c r least size size v place
+scan_start c r least size v place t is = record {
+  visited = not_visited c r least size t;
+  tried = λ p b d. absurd (omega arith);
+}
 
--- a scan goes on to the next arc
-pub scan_out_next : (c d e : Contents) (r least size count most v start via : ℕ) (answer next : Option ℕ) →
-    IsCirculation c → IsScanOut c d r least size count v start answer → answer ≡ Some via →
-    IsVisitedBy d e r least count most →
-    (via ≢ r → least ≤ room_over d via true → 0 < position_of e (end_over d via true)) →
-    AnswersNext next e.from (slice_index e.from via) (via + 1) → IsScanOut c e r least size most v (via + 1) next
-scan_out_next c d e r least size count most v start via answer next k s is step tried h =
-    let some = subst (λ (o : Option ℕ). MatchOption o (Unit {0})
-    (λ a. (a < length c.from) × (slice_index c.from a ≡ v))) is s.row.some in
-    let done = subst (λ (o : Option ℕ). IsDoneOut (network c) (flow_of c) r least (position_of d) v (place o (arcs c)))
-    is s.done in
-    let all = visited_more c d e r least size count most s.visited step in
-    let keys : e.from ≡ c.from = ap (λ (x : Contents). x.from) all.rest in
-    let own = subst (λ (ks : List ℕ). AnswersNext next ks (slice_index ks via) (via + 1)) keys h in
-    let here = subst (λ (u : ℕ). AnswersNext next c.from u (via + 1)) some.1 own in
-    let p = place_of c.from v (via + 1) next here in
+-- what is known of the step at a place
+pub record IsAt (c d : Contents) (v s u : ℕ) : Type 0 where
+  pub arc : arc_of s < arcs d
+  pub end : end_of (network d) s ≡ u
+  pub marked : 0 < position_of d (start_of (network d) s)
+
+-- the step of a scan
+pub scan_at : (c d : Contents) (r least size count v place s u : ℕ) → IsCirculation c → v ≤ c.nodes → 0 < position_of c
+    v →
+    IsScan c d r least size count v place → slice_index c.rows.first v ≤ place → place < slice_index c.rows.first
+    (v + 1) →
+    s ≡ slice_index d.rows.step place → u ≡ slice_index d.rows.end place → IsAt c d v s u
+scan_at c d r least size count v place s u k within m scan from below is end =
+    let rest = scan.visited.rest in
+    let here : IsInRow c.rows v place = record { from = from; below = below } in
+    let row = (k.rows.rows v within).leads place here in
+    let step : s ≡ slice_index c.rows.step place = is ∙ ap (λ (x : Contents). slice_index x.rows.step place) rest in
+    let node : u ≡ slice_index c.rows.end place = end ∙ ap (λ (x : Contents). slice_index x.rows.end place) rest in
+    let marked : 0 < position_of d v = omega (arith, scan.visited.grows.same v within m, m) in
+    let own : IsAt c (record c { scratch = d.scratch }) v (slice_index c.rows.step place) (slice_index c.rows.end place)
+    =
+    record { arc = row.arc; end = row.end; marked = subst (λ (x : ℕ). 0 < position_of d x) (sym row.start) marked } in
+    subst (λ (x : ℕ). IsAt c d v x u) (sym step)
+    (subst (λ (x : ℕ). IsAt c d v (slice_index c.rows.step place) x) (sym node)
+    (subst (λ (x : Contents). IsAt c x v (slice_index c.rows.step place) (slice_index c.rows.end place)) (sym rest)
+    own))
+
+-- there are steps at the places of a row
+pub scan_inside : (c d : Contents) (r least size count v place : ℕ) → IsCirculation c → v ≤ c.nodes →
+    IsScan c d r least size count v place → place < slice_index c.rows.first (v + 1) → place < length d.rows.step
+scan_inside c d r least size count v place k within scan below =
+    let row = k.rows.rows v within in
+    omega (arith, row.within, ap (λ (x : Contents). length x.rows.step) scan.visited.rest)
+
+-- a scan goes on to the next place
+pub scan_next : (c d e : Contents) (r least size count most v place s : ℕ) → IsCirculation c → v ≤ c.nodes →
+    IsScan c d r least size count v place → place < slice_index c.rows.first (v + 1) → s ≡ slice_index d.rows.step place
+    →
+    IsVisitedBy d e r least count most → IsTried (network d) (flow_of d) r least (position_of e) s →
+    IsScan c e r least size most v (place + 1)
+scan_next c d e r least size count most v place s k within scan below is step tried =
+    let rest = scan.visited.rest in
+    let all = visited_more c d e r least size count most scan.visited step in
+    let own : s ≡ slice_index c.rows.step place = is ∙ ap (λ (x : Contents). slice_index x.rows.step place) rest in
+    let nodes = ap (λ (x : Contents). x.nodes) rest in
+    let here = subst (λ (x : ℕ). IsTried (network c) (flow_of c) r least (position_of e) x) own
+    (subst (λ (x : Contents). IsTried (network x) (flow_of x) r least (position_of e) s) rest tried) in
     record {
       visited = all;
-      row = p;
-      done = out_more c d e r least count most v via (place next (arcs c)) k s.visited.rest step some.0 p.within done tried
-          (λ b f g. subst (λ (x : Contents). slice_index x.from b ≢ v) (sym s.visited.rest) (p.skipped b f g));
+      tried = λ p b less. elim (cases_lt p place) [
+        | inl before ↦ λ ne room.
+            let in_row : IsInRow c.rows v p = record { from = b; below = omega arith } in
+            let arc = ((k.rows.rows v within).leads p in_row).arc in
+            let was = scan.tried p b before ne room in
+            let end = end_within c (slice_index c.rows.step p) k arc in
+            omega (arith, step.grows.same (end_of (network c) (slice_index c.rows.step p)) (omega arith) was, was)
+        | inr last ↦
+            let same : p ≡ place = omega arith in
+            subst (λ (x : ℕ). IsTried (network c) (flow_of c) r least (position_of e) (slice_index c.rows.step x))
+            (sym same) here
+      ];
     }
 
--- a scan past the last arc has tried all
-pub scan_out_end : (c d : Contents) (r least size count v start : ℕ) (answer : Option ℕ) →
-    IsScanOut c d r least size count v start answer → answer ≡ None →
-    IsDoneOut (network c) (flow_of c) r least (position_of d) v (arcs c)
-scan_out_end c d r least size count v start answer s is =
-    subst (λ (o : Option ℕ). IsDoneOut (network c) (flow_of c) r least (position_of d) v (place o (arcs c))) is s.done
-
--- what the arc of the scan is
-pub scan_out_at : (c d : Contents) (r least size count v start via : ℕ) (answer : Option ℕ) →
-    IsScanOut c d r least size count v start answer → answer ≡ Some via → v ≤ c.nodes → 0 < position_of c v →
-    (via < arcs d) × (0 < position_of d (slice_index d.from via)) × (via < arcs c)
-scan_out_at c d r least size count v start via answer s is b m =
-    let some = subst (λ (o : Option ℕ). MatchOption o (Unit {0})
-    (λ a. (a < length c.from) × (slice_index c.from a ≡ v))) is s.row.some in
-    let keys : d.from ≡ c.from = ap (λ (x : Contents). x.from) s.visited.rest in
-    let node : slice_index d.from via ≡ v = ap (λ (ks : List ℕ). slice_index ks via) keys ∙ some.1 in (
-      omega (arith, ap length keys, some.0),
-      subst (λ (u : ℕ). 0 < position_of d u) (sym node)
-          (omega (arith, s.visited.grows.same v b m)),
-      some.0,
-    )
-
--- a scan over the arcs that enter a node
-pub record IsScanIn (c d : Contents) (r least size count v start : ℕ) (answer : Option ℕ) : Type 0 where
-  pub visited : IsVisitedBy c d r least size count
-  pub row : IsPlace c.to v start answer
-  pub done : IsDoneIn (network c) (flow_of c) r least (position_of d) v (place answer (length c.to))
-
--- a scan at the first arc
-pub scan_in_start : (c : Contents) (r least size v : ℕ) (answer : Option ℕ) → HasTree c r least size →
-    AnswersNext answer c.to v 0 → IsScanIn c c r least size size v 0 answer
-scan_in_start c r least size v answer t h =
-    let p = place_of c.to v 0 answer h in
-    record {
-      visited = not_visited c r least size t;
-      row = p;
-      done = λ a b e. absurd (p.skipped a (omega arith) b e);
-    }
-
--- a scan goes on to the next arc
-pub scan_in_next : (c d e : Contents) (r least size count most v start via : ℕ) (answer next : Option ℕ) →
-    IsCirculation c → IsScanIn c d r least size count v start answer → answer ≡ Some via →
-    IsVisitedBy d e r least count most →
-    (via ≢ r → least ≤ room_over d via false → 0 < position_of e (end_over d via false)) →
-    AnswersNext next e.to (slice_index e.to via) (via + 1) → IsScanIn c e r least size most v (via + 1) next
-scan_in_next c d e r least size count most v start via answer next k s is step tried h =
-    let some = subst (λ (o : Option ℕ). MatchOption o (Unit {0}) (λ a. (a < length c.to) × (slice_index c.to a ≡ v)))
-    is s.row.some in
-    let done = subst (λ (o : Option ℕ). IsDoneIn (network c) (flow_of c) r least (position_of d) v
-    (place o (length c.to))) is s.done in
-    let all = visited_more c d e r least size count most s.visited step in
-    let length_is : length c.to ≡ arcs c = k.shape.to in
-    let keys : e.to ≡ c.to = ap (λ (x : Contents). x.to) all.rest in
-    let own = subst (λ (ks : List ℕ). AnswersNext next ks (slice_index ks via) (via + 1)) keys h in
-    let here = subst (λ (u : ℕ). AnswersNext next c.to u (via + 1)) some.1 own in
-    let p = place_of c.to v (via + 1) next here in
-    record {
-      visited = all;
-      row = p;
-      done = in_more c d e r least count most v via (place next (length c.to)) k s.visited.rest step
-          (omega (arith, some.0, length_is)) (omega (arith, p.within, length_is)) done tried
-          (λ b f g. subst (λ (x : Contents). slice_index x.to b ≢ v) (sym s.visited.rest) (p.skipped b f g));
-    }
-
--- a scan past the last arc has tried all
-pub scan_in_end : (c d : Contents) (r least size count v start : ℕ) (answer : Option ℕ) → IsCirculation c →
-    IsScanIn c d r least size count v start answer → answer ≡ None →
-    IsDoneIn (network c) (flow_of c) r least (position_of d) v (arcs c)
-scan_in_end c d r least size count v start answer k s is =
-    subst (λ (n : ℕ). IsDoneIn (network c) (flow_of c) r least (position_of d) v n) k.shape.to
-    (subst (λ (o : Option ℕ). IsDoneIn (network c) (flow_of c) r least (position_of d) v (place o (length c.to)))
-    is s.done)
-
--- what the arc of the scan is
-pub scan_in_at : (c d : Contents) (r least size count v start via : ℕ) (answer : Option ℕ) → IsCirculation c →
-    IsScanIn c d r least size count v start answer → answer ≡ Some via → v ≤ c.nodes → 0 < position_of c v →
-    (via < arcs d) × (0 < position_of d (slice_index d.to via)) × (via < arcs c)
-scan_in_at c d r least size count v start via answer k s is b m =
-    let some = subst (λ (o : Option ℕ). MatchOption o (Unit {0}) (λ a. (a < length c.to) × (slice_index c.to a ≡ v)))
-    is s.row.some in
-    let keys : d.to ≡ c.to = ap (λ (x : Contents). x.to) s.visited.rest in
-    let node : slice_index d.to via ≡ v = ap (λ (ks : List ℕ). slice_index ks via) keys ∙ some.1 in (
-      omega (arith, ap (λ (x : Contents). length x.from) s.visited.rest, k.shape.to, some.0),
-      subst
-          (λ (u : ℕ). 0 < position_of d u) (sym node) (omega (arith, s.visited.grows.same v b m)),
-      omega
-          (arith, k.shape.to, some.0),
-    )
+-- at the end of the row all steps were tried
+pub scan_end : (c d : Contents) (r least size count v place : ℕ) → IsCirculation c → v ≤ c.nodes →
+    IsScan c d r least size count v place → slice_index c.rows.first (v + 1) ≤ place →
+    IsExpanded (network c) (flow_of c) r least (position_of d) v
+scan_end c d r least size count v place k within scan past =
+    expanded_from (network c) (flow_of c) r least (position_of d) v
+    (λ s b is.
+    let p = (k.rows.rows v within).all s b is in
+    let from = p.1.0.from in
+    let below = p.1.0.below in
+    subst (λ (x : ℕ). IsTried (network c) (flow_of c) r least (position_of d) x) p.1.1
+    (scan.tried p.0 from (omega arith)))

@@ -3,11 +3,10 @@ use Rattle.std.proofs.Common.{ℕ, ◌≡◌, ◌+◌, ◌-◌, ◌*◌, ◌<◌
 use Rattle.std.proofs.lemmas.Bool.{cases_eq, cases_lt}
 use Rattle.circulation.specs.Network.{Network, HasEnds}
 use Rattle.circulation.specs.Contents.{Contents, network, flow_of, arcs, IsCirculation}
-use Rattle.augment.specs.Search.{node_at, IsDoneOut, IsDoneIn, IsExpanded, HasTree, IsVisitedBy, SameButScratch}
+use Rattle.augment.specs.Search.{node_at, IsExpanded, HasTree, IsVisitedBy, SameButScratch}
 use Rattle.augment.specs.Raised.{position_of}
 use Rattle.augment.proofs.Trees.{tree_start}
 use Rattle.augment.proofs.Visits.{three, at_first, at_second, elsewhere}
-use Rattle.augment.proofs.Scans.{visited_more}
 
 -- the words after a visit of the head when nothing was reached
 planted_at : (c : Contents) (r least : ℕ) → IsCirculation c → r < arcs c →
@@ -30,7 +29,10 @@ planted_at c r least k b none =
 -- the tree of the head alone, as it was written
 pub planted : (c d : Contents) (r least head : ℕ) → IsCirculation c → r < arcs c →
     ((v : ℕ) → v ≤ c.nodes → position_of c v ≡ 0) → head ≡ slice_index c.to r →
-    d ≡ record c { scratch = slice_set (slice_set (slice_set c.scratch head 1) (c.nodes + 1 + 0) head) (2 * c.nodes + 2 + 0) 0 } →
+    d ≡ record c {
+      scratch = slice_set (slice_set (slice_set c.scratch head 1) (c.nodes + 1 + 0) head)
+          (2 * c.nodes + 2 + 0) 0;
+    } →
     HasTree d r least 1
 planted c d r least head k b none is made =
     let at = planted_at c r least k b none in
@@ -43,7 +45,8 @@ expanded-grows : (w : Network) (g : ℕ → ℕ) (r least : ℕ) (old new : ℕ 
     ((u : ℕ) → u ≤ w.nodes → 0 < old u → new u ≡ old u) → IsExpanded w g r least old v → IsExpanded w g r least new v
 expanded-grows w g r least old new v ends same e = record {
   out = λ a b is ne room. let was = e.out a b is ne room in omega (arith, same (w.to a) (ends.to_in a b) was, was);
-  into = λ a b is ne room. let was = e.into a b is ne room in omega (arith, same (w.from a) (ends.from_in a b) was, was);
+  into = λ a b is ne room. let was = e.into a b is ne room in omega
+      (arith, same (w.from a) (ends.from_in a b) was, was);
 }
 
 -- the nodes that were reached first are done
@@ -51,39 +54,26 @@ abbrev pub AreDone : Contents → Contents → ℕ → ℕ → ℕ → Type 0
 AreDone c d r least done = (v : ℕ) → v ≤ c.nodes → 0 < position_of d v → position_of d v ≤ done → IsExpanded
     (network c) (flow_of c) r least (position_of d) v
 
--- one more node is done after both of its scans
-pub done_next : (c d e f : Contents) (r least size more most done : ℕ) → HasEnds (network c) → SameButScratch c d →
+-- one more node is done after its scan
+pub done_next : (c d e : Contents) (r least size more done : ℕ) → HasEnds (network c) → SameButScratch c d →
     HasTree d r least size → done < size → AreDone c d r least done → IsVisitedBy d e r least size more →
-    IsDoneOut (network d) (flow_of d) r least (position_of e) (node_at d done) (arcs d) →
-    IsVisitedBy e f r least more most →
-    IsDoneIn (network e) (flow_of e) r least (position_of f) (node_at d done) (arcs e) →
-    AreDone c f r least (done + 1)
-done_next c d e f r least size more most done k rest t b before first out second into v within marked upto =
-    let all = visited_more d e f r least size more most first second in
+    IsExpanded (network d) (flow_of d) r least (position_of e) (node_at d done) → AreDone c e r least (done + 1)
+done_next c d e r least size more done k rest t b before all scanned v within marked upto =
     let nodes : d.nodes ≡ c.nodes = ap (λ (x : Contents). x.nodes) rest in
-    let nodes_e : e.nodes ≡ d.nodes = ap (λ (x : Contents). x.nodes) first.rest in
     let same = λ (u : ℕ) (x : u ≤ c.nodes) (m : 0 < position_of d u). all.grows.same u (omega arith) m in
-    let rest_e = first.rest ∙ ap (λ (x : Contents). record x { scratch = e.scratch }) rest in
     elim (cases_eq (position_of d v) 0) [
       | inl none ↦ absurd (omega (arith, all.grows.fresh v (omega arith) none marked))
       | inr ne ↦
-          let place : position_of f v ≡ position_of d v = same v within (omega arith) in
+          let place : position_of e v ≡ position_of d v = same v within (omega arith) in
           elim (cases_lt (position_of d v) (done + 1)) [
-            | inl earlier ↦ expanded-grows (network c) (flow_of c) r least (position_of d) (position_of f) v k same
+            | inl earlier ↦ expanded-grows (network c) (flow_of c) r least (position_of d) (position_of e) v k same
                 (before v within (omega arith) (omega arith))
             | inr now ↦
                 let there = t.marked v (omega arith) (omega arith) in
                 let index : position_of d v - 1 ≡ done = omega arith in
                 let is : node_at d done ≡ v = sym (ap (node_at d) index) ∙ there.1 in
-                let grown = λ (u : ℕ) (x : u ≤ c.nodes) (m : 0 < position_of e u). second.grows.same u (omega arith) m in
-                let own_out = subst (λ (x : Contents). IsDoneOut (network x) (flow_of x) r least (position_of e)
-                (node_at d done) (arcs x)) rest out in
-                let own_in = subst (λ (x : Contents). IsDoneIn (network x) (flow_of x) r least (position_of f)
-                (node_at d done) (arcs x)) rest_e into in
-                record {
-                  out = λ a x is_v ne_r room. let was = own_out a x (is_v ∙ sym is) ne_r room in omega
-                      (arith, grown (slice_index c.to a) (k.to_in a x) was, was);
-                  into = λ a x is_v ne_r room. own_in a x (is_v ∙ sym is) ne_r room;
-                }
+                subst (λ (u : ℕ). IsExpanded (network c) (flow_of c) r least (position_of e) u) is
+                (subst (λ (x : Contents). IsExpanded (network x) (flow_of x) r least (position_of e) (node_at d done))
+                rest scanned)
           ]
     ]

@@ -68,7 +68,7 @@ tree_start w g r least position node step b root here none = record {
 }
 
 -- what bounds both bounds either
-by_way_both : (back : Bool) (x y n : ℕ) → x ≤ n → y ≤ n → by_way back x y ≤ n
+pub by_way_both : (back : Bool) (x y n : ℕ) → x ≤ n → y ≤ n → by_way back x y ≤ n
 by_way_both true x y n a b = b
 by_way_both false x y n a b = a
 

@@ -1,5 +1,6 @@
 -- What a raise answers and leaves.
 use Rattle.std.specs.Prelude.{ℕ, ◌≡◌, ◌<◌, ◌≤◌, nat_lt, ◌==◌, ◌&&◌, true, Bool, List, slice_index}
+use Rattle.place_sums.specs.Sums.{total, when}
 use Rattle.circulation.specs.Network.{Network, IsFlow, IsTight, LeadsOut}
 use Rattle.circulation.specs.Contents.{Contents}
 
@@ -7,6 +8,10 @@ use Rattle.circulation.specs.Contents.{Contents}
 pub record HasWayOut (w : Network) (r : ℕ) : Type 0 where
   pub path : List ℕ
   pub leads : LeadsOut w r (w.to r) path
+
+-- how many arcs have an upper bound above 0: the others carry nothing in any flow
+abbrev pub open_arcs : Network → ℕ
+open_arcs w = total w.arcs (λ a. when (nat_lt 0 (w.upper a)) 1)
 
 -- some flow has x on the arc r
 abbrev pub CanCarry : Network → ℕ → ℕ → Type 0

@@ -1,9 +1,9 @@
 -- A search through the residual graph, by the words in which it keeps what it reached.
-use Rattle.std.specs.Prelude.{ℕ, ◌≡◌, ◌≢◌, ◌+◌, ◌-◌, ◌*◌, ◌<◌, ◌≤◌, nat_lt, not, Bool, slice_index, slice_set}
+use Rattle.std.specs.Prelude.{ℕ, ◌≡◌, ◌≢◌, ◌+◌, ◌-◌, ◌*◌, ◌<◌, ◌≤◌, nat_lt, slice_index, slice_set}
 use Rattle.place_sums.specs.Sums.{total, when}
 use Rattle.circulation.specs.Network.{Network}
 use Rattle.circulation.specs.Contents.{Contents, network, flow_of}
-use Rattle.circulation.specs.Residual.{arc_of, by_way, start_of, end_of, room_of}
+use Rattle.circulation.specs.Residual.{arc_of, start_of, end_of, room_of}
 use Rattle.augment.specs.Raised.{position_of}
 
 -- the node that was reached as number k
@@ -20,19 +20,6 @@ with_node c size node step =
     let position = slice_set c.scratch node (size + 1) in
     let placed = slice_set position (c.nodes + 1 + size) node in
     record c { scratch = slice_set placed (2 * c.nodes + 2 + size) step }
-
--- the node that a step over an arc leaves
-abbrev pub start_over : Contents → ℕ → Bool → ℕ
-start_over c via forward = by_way (not forward) (slice_index c.from via) (slice_index c.to via)
-
--- the node that a step over an arc enters
-abbrev pub end_over : Contents → ℕ → Bool → ℕ
-end_over c via forward = by_way (not forward) (slice_index c.to via) (slice_index c.from via)
-
--- how much more a step over an arc can carry
-abbrev pub room_over : Contents → ℕ → Bool → ℕ
-room_over c via forward =
-    by_way (not forward) (slice_index c.upper via - flow_of c via) (flow_of c via - slice_index c.lower via)
 
 -- the k-th node is reached by a step with room from one before it, which does not go over r
 pub record IsBranch (w : Network) (g : ℕ → ℕ) (r least : ℕ) (position : ℕ → ℕ) (k s v : ℕ) : Type 0 where
@@ -52,20 +39,15 @@ pub record IsTree (w : Network) (g : ℕ → ℕ) (r least : ℕ) (position node
   pub marked : (v : ℕ) → v ≤ w.nodes → 0 < position v → (position v ≤ size) × (node (position v - 1) ≡ v)
   pub grown : (k : ℕ) → 0 < k → k < size → IsBranch w g r least position k (step k) (node k)
 
--- every arc that leaves the node, with room, leads to a node that was reached
-abbrev pub IsDoneOut : Network → (ℕ → ℕ) → ℕ → ℕ → (ℕ → ℕ) → ℕ → ℕ → Type 0
-IsDoneOut w g r least position v below =
-    (a : ℕ) → a < below → w.from a ≡ v → a ≢ r → g a + least ≤ w.upper a → 0 < position (w.to a)
+-- the step goes over r, or lacks room, or leads to a node that was reached
+abbrev pub IsTried : Network → (ℕ → ℕ) → ℕ → ℕ → (ℕ → ℕ) → ℕ → Type 0
+IsTried w g r least position s = arc_of s ≢ r → least ≤ room_of w g s → 0 < position (end_of w s)
 
--- the same for arcs that enter it, backward
-abbrev pub IsDoneIn : Network → (ℕ → ℕ) → ℕ → ℕ → (ℕ → ℕ) → ℕ → ℕ → Type 0
-IsDoneIn w g r least position v below =
-    (a : ℕ) → a < below → w.to a ≡ v → a ≢ r → w.lower a + least ≤ g a → 0 < position (w.from a)
-
--- every step with room from the node leads to a node that was reached
+-- every arc that leaves the node, with room, leads to a node that was reached; and the same for arcs that enter it,
+-- backward
 pub record IsExpanded (w : Network) (g : ℕ → ℕ) (r least : ℕ) (position : ℕ → ℕ) (v : ℕ) : Type 0 where
-  pub out : IsDoneOut w g r least position v w.arcs
-  pub into : IsDoneIn w g r least position v w.arcs
+  pub out : (a : ℕ) → a < w.arcs → w.from a ≡ v → a ≢ r → g a + least ≤ w.upper a → 0 < position (w.to a)
+  pub into : (a : ℕ) → a < w.arcs → w.to a ≡ v → a ≢ r → w.lower a + least ≤ g a → 0 < position (w.from a)
 
 -- nothing more can be reached
 abbrev pub IsClosed : Network → (ℕ → ℕ) → ℕ → ℕ → (ℕ → ℕ) → Type 0

@@ -13,9 +13,9 @@
 ghost use Rattle.std.specs.Prelude.{min, ◌≡◌, true, false, ℕ, ◌+◌, ◌-◌, ◌*◌, ◌^◌, ◌<◌, ◌≤◌, ◌≢◌, length, slice_index, slice_set, IsTrue, ◌↔◌};
 ghost use Rattle.circulation.specs.Contents.{arcs, flow_of, network, step_of, IsCirculation};
 ghost use Rattle.circulation.specs.Network.{IsFlow};
-ghost use Rattle.circulation.specs.Residual.{arc_of, room_of, start_of, IsClosedWalk};
-ghost use Rattle.augment.specs.Search.{start_over, end_over, room_over, with_node, IsDoneOut, IsDoneIn, IsClosed, HasTree, IsVisitedBy, SameButScratch};
-ghost use Rattle.augment.specs.Raised.{HasWayOut, CanCarry, CarriesAtMost, IsGreatestCut, position_of, IsReached, SameButFlow, not_reached};
+ghost use Rattle.circulation.specs.Residual.{arc_of, room_of, start_of, end_of, IsClosedWalk};
+ghost use Rattle.augment.specs.Search.{with_node, IsTried, IsExpanded, IsClosed, HasTree, IsVisitedBy, SameButScratch};
+ghost use Rattle.augment.specs.Raised.{HasWayOut, open_arcs, CanCarry, CarriesAtMost, IsGreatestCut, position_of, IsReached, SameButFlow, not_reached};
 
 use circulation::Circulation;
 use std::sync::ledger::Ledger;
@@ -69,36 +69,31 @@ fn visit(circ: &mut Circulation, node: u32, step: u64, size: usize) -> usize
     }
 }
 
-/// Visits the node to which a step over the arc `via` leads, if the step has enough room.
-fn try_arc(
-    circ: &mut Circulation,
-    arc: u32,
-    least: u64,
-    via: u32,
-    forward: bool,
-    size: usize,
-) -> usize
-    requires via { via < arcs circ.old }
-    requires marked { IsReached circ.old (start_over circ.old via forward) }
+/// Visits the node that a step enters, if the step has enough room and doesn't go over `arc`.
+fn try_step(circ: &mut Circulation, arc: u32, least: u64, step: u64, end: u32, size: usize) -> usize
+    requires step { arc_of step < arcs circ.old }
+    requires end { end_of (network circ.old) step ≡ end }
+    requires marked { IsReached circ.old (start_of (network circ.old) step) }
     requires tree { HasTree circ.old arc least size }
     requires kept { IsCirculation circ.old }
     ensures kept { IsCirculation circ.new }
     ensures visited { IsVisitedBy circ.old circ.new arc least size result }
-    ensures done { via ≢ arc → least ≤ room_over circ.old via forward → IsReached circ.new (end_over circ.old via forward) }
+    ensures done { IsTried (network circ.old) (flow_of circ.old) arc least (position_of circ.new) step }
 {
-    if via == arc || circ.room(via, forward) < least {
+    if position(circ, end) != 0 {
         return size;
     }
-    let ends = circ.ends(via);
-    if forward {
-        visit(circ, ends.to, 2 * u64::from(via), size)
-    } else {
-        visit(circ, ends.from, 2 * u64::from(via) + 1, size)
+    if arc_of_step(circ, step) == arc {
+        return size;
     }
+    if room(circ, step) < least {
+        return size;
+    }
+    visit(circ, end, step, size)
 }
 
-/// Visits the nodes to which the arcs that leave a node lead, until the tail of `arc` is reached.
-fn scan_out(circ: &mut Circulation, arc: u32, least: u64, node: u32, size: usize) -> usize
+/// Visits the nodes to which the steps of a node's row lead, until the tail of `arc` is reached.
+fn scan(circ: &mut Circulation, arc: u32, least: u64, node: u32, size: usize) -> usize
     requires arc { arc < arcs circ.old }
     requires node { node ≤ circ.old.nodes }
     requires marked { IsReached circ.old node }
@@ -107,42 +102,16 @@ fn scan_out(circ: &mut Circulation, arc: u32, least: u64, node: u32, size: usize
     ensures kept { IsCirculation circ.new }
     ensures visited { IsVisitedBy circ.old circ.new arc least size result }
     ensures done { position_of circ.new (slice_index circ.old.from arc) ≡ 0 →
-        IsDoneOut (network circ.old) (flow_of circ.old) arc least (position_of circ.new) node (arcs circ.old) }
+        IsExpanded (network circ.old) (flow_of circ.old) arc least (position_of circ.new) node }
 {
     let tail = circ.ends(arc).from;
     let mut count = size;
-    let mut next = circ.first_out(node);
-    while let Some(via) = next {
+    for place in circ.row_first(node)..circ.row_last(node) {
         if position(circ, tail) != 0 {
             return count;
         }
-        count = try_arc(circ, arc, least, via, true, count);
-        next = circ.next_out(via);
-    }
-    count
-}
-
-/// Visits the nodes from which arcs lead to a node, backward over them, until the tail of `arc` is reached.
-fn scan_in(circ: &mut Circulation, arc: u32, least: u64, node: u32, size: usize) -> usize
-    requires arc { arc < arcs circ.old }
-    requires node { node ≤ circ.old.nodes }
-    requires marked { IsReached circ.old node }
-    requires tree { HasTree circ.old arc least size }
-    requires kept { IsCirculation circ.old }
-    ensures kept { IsCirculation circ.new }
-    ensures visited { IsVisitedBy circ.old circ.new arc least size result }
-    ensures done { position_of circ.new (slice_index circ.old.from arc) ≡ 0 →
-        IsDoneIn (network circ.old) (flow_of circ.old) arc least (position_of circ.new) node (arcs circ.old) }
-{
-    let tail = circ.ends(arc).from;
-    let mut count = size;
-    let mut next = circ.first_in(node);
-    while let Some(via) = next {
-        if position(circ, tail) != 0 {
-            return count;
-        }
-        count = try_arc(circ, arc, least, via, false, count);
-        next = circ.next_in(via);
+        let step = circ.step_at(place);
+        count = try_step(circ, arc, least, step, circ.end_at(place), count);
     }
     count
 }
@@ -192,8 +161,7 @@ fn search(circ: &mut Circulation, arc: u32, least: u64) -> usize
     let mut done = 0;
     while done < size && position(circ, tail) == 0 {
         let node = word(circ, nodes + 1 + done) as u32;
-        size = scan_out(circ, arc, least, node, size);
-        size = scan_in(circ, arc, least, node, size);
+        size = scan(circ, arc, least, node, size);
         done += 1;
     }
     size
@@ -308,7 +276,7 @@ fn round<L: Ledger>(
         flow_of circ.old arc + min least (want - flow_of circ.old arc) ≤ flow_of circ.new arc }
     ensures stopped { result ≡ false → SameButScratch circ.old circ.new × (searches.new ≡ searches.old) }
     ensures rise { result ≡ false →
-        CarriesAtMost (network circ.old) arc (flow_of circ.old arc + arcs circ.old * (least - 1)) }
+        CarriesAtMost (network circ.old) arc (flow_of circ.old arc + open_arcs (network circ.old) * (least - 1)) }
     ensures cut { result ≡ false → least ≡ 1 →
         IsGreatestCut (network circ.old) (flow_of circ.old) arc (not_reached circ.new) }
 {
@@ -325,7 +293,7 @@ fn round<L: Ledger>(
 }
 
 /// One phase: raises the flow over rooms of at least `least`, until it is what is wanted or no walk is
-/// left. Then it can rise by less than `least` for each arc, so the next phase has few pushes.
+/// left. Then it can rise by less than `least` for each arc that may carry anything, so the next phase has few pushes.
 fn phase<L: Ledger>(
     circ: &mut Circulation,
     arc: u32,
@@ -339,17 +307,17 @@ fn phase<L: Ledger>(
     requires limit { flow_of circ.old arc ≤ want }
     requires least { 0 < least }
     requires rise { (h : ℕ → ℕ) → IsFlow (network circ.old) h → h arc ≤ want →
-        h arc ≤ flow_of circ.old arc + arcs circ.old * (2 * least - 1) }
+        h arc ≤ flow_of circ.old arc + open_arcs (network circ.old) * (2 * least - 1) }
     requires kept { IsCirculation circ.old }
     ensures kept { IsCirculation circ.new }
     ensures rest { SameButFlow circ.old circ.new }
     ensures limit { flow_of circ.new arc ≤ want }
     ensures rises { flow_of circ.old arc ≤ flow_of circ.new arc }
     ensures left { flow_of circ.new arc < want →
-        CarriesAtMost (network circ.old) arc (flow_of circ.new arc + arcs circ.old * (least - 1)) }
+        CarriesAtMost (network circ.old) arc (flow_of circ.new arc + open_arcs (network circ.old) * (least - 1)) }
     ensures cut { flow_of circ.new arc < want → least ≡ 1 →
         IsGreatestCut (network circ.old) (flow_of circ.new) arc (not_reached circ.new) }
-    ensures cost { searches.new ≤ searches.old + (2 * arcs circ.old + 1) }
+    ensures cost { searches.new ≤ searches.old + (2 * open_arcs (network circ.old) + 1) }
 {
     while circ.flow(arc) < want {
         if !round(circ, arc, want, least, searches) {
@@ -395,7 +363,7 @@ fn run_phases<L: Ledger>(
     ensures limit { flow_of circ.new arc ≤ want }
     ensures cut { flow_of circ.new arc < want →
         IsGreatestCut (network circ.old) (flow_of circ.new) arc (not_reached circ.new) }
-    ensures cost { missing ≤ 1000000000 → searches.new ≤ searches.old + 30 * (2 * arcs circ.old + 1) }
+    ensures cost { missing ≤ 1000000000 → searches.new ≤ searches.old + 30 * (2 * open_arcs (network circ.old) + 1) }
 {
     let (first, count) = first_phase(missing);
     let mut least = first;
@@ -443,7 +411,7 @@ pub fn raise<L: Ledger>(
     ensures cut { result ≡ Raised.Stopped →
         IsGreatestCut (network circ.old) (flow_of circ.new) arc (not_reached circ.new) }
 
-    ensures cost { want ≤ 1000000000 → searches.new ≤ searches.old + 30 * (2 * arcs circ.old + 1) }
+    ensures cost { want ≤ 1000000000 → searches.new ≤ searches.old + 30 * (2 * open_arcs (network circ.old) + 1) }
 {
     let start = circ.flow(arc);
     if want <= start {

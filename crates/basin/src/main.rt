@@ -90,7 +90,10 @@ fn run<L: Ledger, R: Files + Env + AllocGlobal, W: Write + Drop, V: Write + Drop
             &mut err,
             &mut searches,
         ),
-        Err(()) => ExitCode::from(Status::OutOfMemory.code()),
+        Err(()) => {
+            let _ = err.put(b"out of memory\n");
+            ExitCode::from(Status::OutOfMemory.code())
+        }
     }
 }
 

@@ -3,6 +3,7 @@ ghost use Rattle.std.specs.Prelude.{◌≡◌, ◌<◌};
 mod canals;
 mod checks;
 mod comparing;
+mod editing;
 mod explaining;
 mod gathering;
 mod lakes;
@@ -27,12 +28,15 @@ use std::test::Fail;
 use steps::Steps;
 use water_edge::{MemoryShelf, MemorySink};
 
-/// The bytes of the files BASIN, SERIES and RESULT, and the numbers of the calls of the shelf and of out that fail.
+/// The bytes of the files BASIN, BASIN2, SERIES, RESULT and SCRIPT, and the numbers of the calls of the shelf and of out
+/// that fail.
 #[derive(Drop)]
 struct Set {
     basin: Vec<u8>,
+    second: Vec<u8>,
     series: Vec<u8>,
     result: Vec<u8>,
+    script: Vec<u8>,
     shelf_fails: u64,
     out_fails: u64,
 }
@@ -43,8 +47,10 @@ const NEVER: u64 = 1_000_000;
 fn files(alloc: Global, basin: &str, series: &str) -> Result<Set, Fail> {
     Ok(Set {
         basin: Vec::from_slice(alloc, basin.as_bytes())?,
+        second: Vec::new(alloc),
         series: Vec::from_slice(alloc, series.as_bytes())?,
         result: Vec::new(alloc),
+        script: Vec::new(alloc),
         shelf_fails: NEVER,
         out_fails: NEVER,
     })
@@ -58,8 +64,10 @@ fn set_up(alloc: Global, words: &[&str], set: Set) -> Result<(Vec<String>, Memor
     }
     let mut held = Vec::new(alloc);
     held.push((String::from_str(alloc, "BASIN")?, set.basin))?;
+    held.push((String::from_str(alloc, "BASIN2")?, set.second))?;
     held.push((String::from_str(alloc, "SERIES")?, set.series))?;
     held.push((String::from_str(alloc, "RESULT")?, set.result))?;
+    held.push((String::from_str(alloc, "SCRIPT")?, set.script))?;
     let failing = vec![in alloc; set.shelf_fails; 1]?;
     Ok((list, MemoryShelf::new(held, failing)))
 }
@@ -76,7 +84,7 @@ fn call_over<L: Ledger>(
     requires some { 0 < L.parts }
 {
     let mut searches = Steps::<L>::new(blank);
-    let mut out = MemorySink::new(alloc, 8192, vec![in alloc; set.out_fails; 1]?)?;
+    let mut out = MemorySink::new(alloc, 131_072, vec![in alloc; set.out_fails; 1]?)?;
     let mut err = MemorySink::new(alloc, 4096, Vec::new(alloc))?;
     let (words, mut shelf) = set_up(alloc, words, set)?;
     let status = basin_main(alloc, &words, &mut shelf, &mut out, &mut err, &mut searches);
@@ -95,6 +103,12 @@ fn expect<R: Abort + AllocGlobal>(
     assert_eq!(rt; out.bytes(), want.1.as_bytes());
     assert_eq!(rt; err.bytes(), want.2.as_bytes());
     Ok(())
+}
+
+/// A text with other words in the place of some that stand in it.
+fn with(alloc: Global, text: &str, old: &str, new: &str) -> Result<String, Fail> {
+    let (before, after) = text.split_once(old).ok_or("nothing to change")?;
+    Ok(format!(in alloc; "{before}{new}{after}")?)
 }
 
 const RIVER: &str =

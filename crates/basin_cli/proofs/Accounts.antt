@@ -18,7 +18,10 @@ use Rattle.basin_cli.specs.Actions.{AnswersAt, EndsAsking, IsAnswered}
 use Rattle.basin_cli.specs.Command.{Files}
 use Rattle.basin_cli.specs.Ending.{status_of}
 use Rattle.basin_cli.specs.Explained.{HasMonth, HasRight, IsAbout, IsMonthAt, IsRecordOf, IsRightNamed, PushesUpTo}
-use Rattle.basin_cli.specs.Outcome.{AreSpelled, HasExplainingCause, IsAsked, IsGoodBasin, IsGoodSeries, IsOutsideRun, IsShortIn, IsUnknownRight, MayWrite, OfBoth, StopsReading, Told, WritesAccount, series_told}
+use Rattle.basin_cli.specs.Bytes.{AreSpelled, IsGoodBasin, IsGoodSeries, Told, series_told}
+use Rattle.basin_cli.specs.Out.{MayWrite}
+use Rattle.basin_cli.specs.Outcome.{HasExplainingCause, IsAsked, IsOutsideRun, IsShortIn, IsUnknownRight, WritesAccount}
+use Rattle.basin_cli.specs.Reading.{OfBoth}
 use Rattle.basin_cli.specs.Series.{AreLoaded, IsBasinText, IsSeriesText}
 use Rattle.basin_cli.proofs.Asked.{one_index}
 use Rattle.basin_cli.proofs.Explained.{last_of, one_answer}
@@ -152,19 +155,7 @@ asking_cause told files month name b series (ending.ScriptRefused script.NoSuchN
       (λ bytes s spelled. record { basin = b; spelled = spelled.basin_spelled; has_month = ends.1; unknown = ends.2 }),
 )
 asking_cause told files month name b series ending.OutOfMemory read write valid fits loaded ends = tt
-asking_cause told files month name b series (ending.Refuted refuted) read write valid fits loaded ends = absurd ends
-asking_cause told files month name b series ending.Injured read write valid fits loaded ends = absurd ends
-asking_cause told files month name b series ending.PartYear read write valid fits loaded ends = absurd ends
-asking_cause told files month name b series ending.Usage read write valid fits loaded ends = absurd ends
-asking_cause told files month name b series (ending.BasinRefused finding) read write valid fits loaded ends = absurd ends
-asking_cause told files month name b series (ending.SeriesRefused finding) read write valid fits loaded ends = absurd ends
-asking_cause told files month name b series (ending.ReadFault file) read write valid fits loaded ends = absurd ends
-asking_cause told files month name b series (ending.InputTooLong file) read write valid fits loaded ends = absurd ends
-asking_cause told files month name b series (ending.ScriptRefused script.AfterEnd line) read write valid fits loaded ends = absurd ends
-asking_cause told files month name b series (ending.ScriptRefused script.BadLine line) read write valid fits loaded ends = absurd ends
-asking_cause told files month name b series (ending.ScriptRefused script.NotSeries line) read write valid fits loaded ends = absurd ends
-asking_cause told files month name b series (ending.ScriptRefused script.EarlyEnd line) read write valid fits loaded ends = absurd ends
-asking_cause told files month name b series (ending.SecondRefused finding) read write valid fits loaded ends = absurd ends
+asking_cause told files month name b series other read write valid fits loaded ends = absurd ends
 
 -- what is left on out
 pub asking_writes : (told : Told) (files : Files) (month : Month) (name : List ℕ) (b : Basin) (series : Inflows) (how : Ending) (old new : Option (List ℕ)) →

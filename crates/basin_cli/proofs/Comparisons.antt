@@ -1,13 +1,10 @@
 -- From the cause of how a comparison ends: where nothing is refused and nothing fails, the basins are compared.
-use Rattle.std.proofs.Common.{◌≡◌, inl, inr, refl, sym, ◌∙◌, ap, subst, ℕ, List, Option, Some, None, arith, length}
+use Rattle.std.proofs.Common.{◌≡◌, inl, inr, refl, sym, ◌∙◌, ap, subst, ℕ, List, Option, Some, None, arith}
 use Rattle.std.specs.Prelude.{IfSome}
 use Rattle.std.specs.Option.{option_and_then}
-use Rattle.basin_file.specs.BasinFaults.{Spells}
 use Rattle.basin_tree.specs.declared.walk.Finding.{Finding}
 use Rattle.inflow_file.specs.SeriesFaults.{series_fault}
 use Rattle.water_model.specs.declared.types.Basin.{Basin}
-use Rattle.basin_cli.specs.declared.status.Status.{Status}
-use Rattle.basin_cli.specs.declared.status.Status.TheVariants as its
 use Rattle.basin_cli.specs.declared.ending.Ending.{Ending}
 use Rattle.basin_cli.specs.declared.ending.Ending.TheVariants as ending
 use Rattle.basin_cli.specs.declared.ending.File.TheVariants as file
@@ -119,7 +116,6 @@ module _ (files : Files) (second : List ℕ) (told : Told) (read write : Type 0)
   comparing (ending.ReadFault file.Basin) h = failed (ending.ReadFault file.Basin) h
   comparing (ending.ReadFault file.SecondBasin) h = failed (ending.ReadFault file.SecondBasin) h.0
   comparing (ending.ReadFault file.Series) h = failed (ending.ReadFault file.Series) h.0
-  comparing (ending.ReadFault file.Result) h = absurd h
   comparing (ending.InputTooLong file.Basin) h =
       not_good (told files.basin) (told second) (series_told told files.series) (Answered (ending.InputTooLong file.Basin) read write) IsTooLong not_long h
   comparing (ending.InputTooLong file.SecondBasin) h =
@@ -129,11 +125,6 @@ module _ (files : Files) (second : List ℕ) (told : Told) (read write : Type 0)
       by_series (told files.basin) (told second) (series_told told files.series) (Answered (ending.InputTooLong file.Series) read write)
       (λ _ _ series. IsTooLong series) h
       (λ _ _ series is good _ _. absurd (omega (arith, is.beyond, good.first.within)))
-  comparing (ending.InputTooLong file.Result) h = absurd h
   comparing ending.OutOfMemory h =
       always (told files.basin) (told second) (series_told told files.series) (Answered ending.OutOfMemory read write) (λ _ _ _ _ _. inl refl)
-  comparing ending.Usage h = absurd h
-  comparing (ending.Refuted refuted) h = absurd h
-  comparing ending.Met h = absurd h
-  comparing ending.PartYear h = absurd h
-  comparing (ending.ScriptRefused fault line) h = absurd h
+  comparing other h = absurd h

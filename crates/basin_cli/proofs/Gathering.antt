@@ -1,6 +1,6 @@
 -- Behind the files of an ensemble.
-use Rattle.std.proofs.Common.{◌≡◌, ℕ, ◌+◌, ◌*◌, ◌≤◌, subst, List, Option, Some, None}
-use Rattle.std.specs.Prelude.{IfErr, IfSome, Err, Ok, Result}
+use Rattle.std.proofs.Common.{ℕ, ◌+◌, ◌*◌, ◌≤◌, subst, List, Option, Some, None}
+use Rattle.std.specs.Prelude.{IfSome}
 use Rattle.basin_file.specs.BasinFaults.{Spells}
 use Rattle.index_seq.specs.Traces.{HasWholeYears, years_of}
 use Rattle.month_fold.specs.Runs.{run_pushes}
@@ -9,12 +9,14 @@ use Rattle.water_model.specs.declared.types.Basin.{Basin}
 use Rattle.water_model.specs.declared.types.Inflows.{Inflows}
 use Rattle.basin_cli.specs.declared.ending.Ending.{Ending}
 use Rattle.basin_cli.specs.declared.ending.Ending.TheVariants as ending
-use Rattle.basin_cli.specs.declared.ending.File.TheVariants as file
 use Rattle.basin_cli.specs.Actions.{LeavesTraces}
 use Rattle.basin_cli.specs.Command.{Files}
 use Rattle.basin_cli.specs.Ending.{status_of}
-use Rattle.basin_cli.specs.Outcome.{AreAccepted, HasEnsembleCause, HasTrialCause, IsGoodBasin, IsOfYears, IsPartYear, IsSeriesRefusedFor, MayWrite, OfBoth, StopsReading, StopsReadingYears, Told, WritesEnsemble, series_told}
-use Rattle.basin_cli.specs.Series.{AreLoaded, BasinReadEnds, IsBasinText, IsSeriesText, SeriesReadEnds, YearsReadEnds}
+use Rattle.basin_cli.specs.Bytes.{Told, series_told}
+use Rattle.basin_cli.specs.Out.{MayWrite}
+use Rattle.basin_cli.specs.Outcome.{HasEnsembleCause, HasTrialCause, IsOfYears, IsPartYear, WritesEnsemble}
+use Rattle.basin_cli.specs.Reading.{OfBoth}
+use Rattle.basin_cli.specs.Series.{AreLoaded, IsBasinText, IsSeriesText}
 use Rattle.basin_cli.proofs.Judged.{accepted, spelled_by}
 use Rattle.basin_cli.proofs.OneSeries.{one_basin}
 
@@ -36,17 +38,7 @@ gathering_cause told files b series ending.Done read write whole loaded ends =
 gathering_cause told files b series ending.WriteFault read write whole loaded ends =
     (ends, of_years (told files.basin) b whole loaded.from_basin, accepted (told files.basin) (series_told told files.series) b series loaded.from_basin loaded.from_series)
 gathering_cause told files b series ending.OutOfMemory read write whole loaded ends = tt
-gathering_cause told files b series ending.PartYear read write whole loaded ends = absurd ends
-gathering_cause told files b series (ending.Refuted refuted) read write whole loaded ends = absurd ends
-gathering_cause told files b series ending.Injured read write whole loaded ends = absurd ends
-gathering_cause told files b series (ending.SecondRefused finding) read write whole loaded ends = absurd ends
-gathering_cause told files b series ending.Met read write whole loaded ends = absurd ends
-gathering_cause told files b series ending.Usage read write whole loaded ends = absurd ends
-gathering_cause told files b series (ending.BasinRefused finding) read write whole loaded ends = absurd ends
-gathering_cause told files b series (ending.SeriesRefused finding) read write whole loaded ends = absurd ends
-gathering_cause told files b series (ending.ReadFault file) read write whole loaded ends = absurd ends
-gathering_cause told files b series (ending.InputTooLong file) read write whole loaded ends = absurd ends
-gathering_cause told files b series (ending.ScriptRefused fault line) read write whole loaded ends = absurd ends
+gathering_cause told files b series other read write whole loaded ends = absurd ends
 
 -- what is left on out
 pub gathering_writes : (told : Told) (files : Files) (b : Basin) (series : Inflows) (how : Ending) (old new : Option (List ℕ)) →

@@ -1,11 +1,11 @@
 -- Whether somebody is injured, as the list of injuries says.
-use Rattle.std.proofs.Common.{◌≡◌, ℕ, ◌+◌, ◌≤◌, zero, suc, refl, sym, ◌∙◌, subst, arith, List, [], ◌∷◌, length, Option, Some, None, ap}
+use Rattle.std.proofs.Common.{◌≡◌, ℕ, ◌+◌, ◌≤◌, suc, refl, sym, ◌∙◌, subst, arith, List, [], ◌∷◌, length, Option, Some, None}
 use Rattle.std.proofs.lemmas.Bool.Decides.{nat_tests}
 use Rattle.std.specs.Prelude.{IfSome, Contains, ◌==◌, Bool, true, false, if◌then◌else◌}
 use Rattle.basin_file.specs.BasinFaults.{Spells}
 use Rattle.inflow_file.specs.SeriesFaults.{SpellsSeries}
 use Rattle.water_model.specs.History.{IsHistory}
-use Rattle.water_model.specs.Valid.{IsValidBasin, IsSeriesOf}
+use Rattle.water_model.specs.Valid.{IsValidBasin}
 use Rattle.water_model.specs.declared.types.Basin.{Basin}
 use Rattle.water_model.specs.declared.types.Inflows.{Inflows}
 use Rattle.water_model.specs.declared.types.MonthRecord.{MonthRecord}
@@ -20,12 +20,13 @@ use Rattle.basin_cli.specs.declared.ending.SecondFinding.TheVariants as of_secon
 use Rattle.basin_cli.specs.declared.pairs.Pair.{Pair}
 use Rattle.basin_cli.specs.Bytes.{AreSpelled, IsGoodBasin, Told, series_told}
 use Rattle.basin_cli.specs.Command.{Files}
-use Rattle.basin_cli.specs.Compared.{Compares, EndsComparing, ending_with}
+use Rattle.basin_cli.specs.Compared.{Compares, ending_with}
 use Rattle.basin_cli.specs.Comparison.{IsGoodSecond, IsGoodForBoth, SomebodyIsInjured, BehindBoth, HasComparingCause, WritesComparison, ComparisonWrites, ComparisonPushes}
 use Rattle.basin_cli.specs.Ending.{status_of}
 use Rattle.basin_cli.specs.Out.{MayWrite}
 use Rattle.basin_cli.specs.Pairs.{ArePaired}
 use Rattle.basin_cli.specs.Series.{IsBasinText, IsSeriesText}
+use Rattle.basin_cli.proofs.Judged.{spelled_by}
 use Rattle.basin_cli.proofs.OneSeries.{one_basin, one_series, same_history}
 
 -- a history of what bytes spell is one of any basin and series that they spell
@@ -108,10 +109,6 @@ ends_not how n e not_done not_injured = by_test (n == 0) e
     by_test false f = not_injured f
 
 -- what holds of what is told of the files
-spelled_by : (bytes s : List ℕ) (b : Basin) (series : Inflows) → IsSeriesOf b series → IsBasinText b bytes → IsSeriesText b series s → AreSpelled bytes s b series
-spelled_by bytes s b series fits text series_text =
-    record { basin_spelled = text.spelled; series_spelled = series_text.spelled; fits = fits }
-
 module _ (told : Told) (files : Files) (second : List ℕ) (pair : Pair) (paired : ArePaired told files second pair) where
   behind : (t o s : Option (List ℕ)) (P : List ℕ → List ℕ → List ℕ → Type 0) → IfSome t (IsBasinText pair.first.basin) → IfSome o (IsBasinText pair.second.basin) →
       IfSome s (IsSeriesText pair.first.basin pair.first.series) → IfSome s (IsSeriesText pair.second.basin pair.second.series) →

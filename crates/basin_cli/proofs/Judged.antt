@@ -17,8 +17,13 @@ use Rattle.basin_cli.specs.declared.ending.Ending.TheVariants as ending
 use Rattle.basin_cli.specs.Actions.{EndsChecking}
 use Rattle.basin_cli.specs.Command.{Files}
 use Rattle.basin_cli.specs.Ending.{status_of}
-use Rattle.basin_cli.specs.Outcome.{AreSpelled, IsHistoryText, IsAccepted, IsRefuted, HasCheckingCause, IsGoodBasin, IsGoodSeries, Leaves, MayWrite, OfBoth, Told, WritesAnswer, answer_line, file_limit, series_told}
+use Rattle.basin_cli.specs.Bytes.{AreSpelled, IsGoodBasin, IsGoodSeries, Told, file_limit, series_told}
+use Rattle.basin_cli.specs.Out.{Leaves, MayWrite}
+use Rattle.basin_cli.specs.Outcome.{IsHistoryText, IsAccepted, IsRefuted, HasCheckingCause, WritesAnswer, answer_line}
+use Rattle.basin_cli.specs.Reading.{OfBoth}
 use Rattle.basin_cli.specs.Series.{AreLoaded, IsBasinText, IsSeriesText}
+use Rattle.basin_file.specs.BasinFaults.{Spells}
+use Rattle.basin_file.proofs.Faultless.{faultless_files_are_valid}
 use Rattle.basin_cli.proofs.OneSeries.{one_basin, one_series, same_history}
 
 -- bytes on which the verdict is a yes are the text of a history
@@ -53,16 +58,25 @@ is_no_text bytes s text b series refuted valid spelled bad is =
 
 -- Behind the files of a command.
 
-pub spelled_by : (bytes s : List ℕ) (b : Basin) (series : Inflows) → IsSeriesOf b series → IsBasinText b bytes → IsSeriesText b series s → AreSpelled bytes s b series
-spelled_by bytes s b series fits basin_text series_text =
-    record { basin_spelled = basin_text.spelled; series_spelled = series_text.spelled; fits = fits }
+-- what a file without a fault spells is valid
+pub spelled_by : (bytes s : List ℕ) (b : Basin) (series : Inflows) → IsSeriesOf b series → IsBasinText b bytes → IsSeriesText b series s →
+    AreSpelled bytes s b series
+spelled_by bytes s b series fits basin_text series_text = record {
+  basin_spelled = basin_text.spelled;
+  series_spelled = series_text.spelled;
+  valid = valid (faultless_files_are_valid bytes basin_text.good.sound);
+  fits = fits;
+}
+  where
+    valid : ((c : Basin) × Spells bytes c × IsValidBasin c) → IsValidBasin b
+    valid found = subst IsValidBasin (one_basin bytes found.0 b found.1 basin_text.spelled) found.2
 
 pub good_series : (bytes s : List ℕ) (b : Basin) (series : Inflows) → IsBasinText b bytes → IsSeriesText b series s → IsGoodSeries bytes s
 good_series bytes s b series basin_text series_text =
     record { basin = b; spelled = basin_text.spelled; within = series_text.within; sound = series_text.sound }
 
 -- what holds of the bytes that are read holds as far as they are told
-behind : (t o r : Option (List ℕ)) (b : Basin) (series : Inflows) (text : List ℕ) (P : List ℕ → List ℕ → List ℕ → Type 0) → IsSeriesOf b series →
+pub behind : (t o r : Option (List ℕ)) (b : Basin) (series : Inflows) (text : List ℕ) (P : List ℕ → List ℕ → List ℕ → Type 0) → IsSeriesOf b series →
     IfSome t (IsBasinText b) → IfSome o (IsSeriesText b series) → IfSome r (λ bytes. text ≡ bytes) →
     ((bytes s : List ℕ) → AreSpelled bytes s b series → P bytes s text) →
     IfSome t (λ bytes. IsGoodBasin bytes × IfSome o (λ s. IsGoodSeries bytes s × IfSome r (P bytes s)))
@@ -96,22 +110,13 @@ checking_cause told files result text b series (ending.Refuted refuted) read wri
       verdict = ends;
       no_text = is_no_text bytes s text b series refuted valid spelled ends;
     })
-checking_cause told files result text b series ending.Met read write valid fits loaded within is ends = absurd ends
-checking_cause told files result text b series (ending.ScriptRefused fault line) read write valid fits loaded within is ends = absurd ends
-checking_cause told files result text b series ending.PartYear read write valid fits loaded within is ends = absurd ends
-checking_cause told files result text b series ending.Injured read write valid fits loaded within is ends = absurd ends
-checking_cause told files result text b series ending.Usage read write valid fits loaded within is ends = absurd ends
-checking_cause told files result text b series (ending.BasinRefused finding) read write valid fits loaded within is ends = absurd ends
-checking_cause told files result text b series (ending.SeriesRefused finding) read write valid fits loaded within is ends = absurd ends
-checking_cause told files result text b series (ending.SecondRefused finding) read write valid fits loaded within is ends = absurd ends
-checking_cause told files result text b series (ending.ReadFault file) read write valid fits loaded within is ends = absurd ends
 checking_cause told files result text b series ending.WriteFault read write valid fits loaded within is ends =
     (ends, accepted (told files.basin) (series_told told files.series) b series loaded.from_basin loaded.from_series)
 checking_cause told files result text b series ending.OutOfMemory read write valid fits loaded within is ends = tt
-checking_cause told files result text b series (ending.InputTooLong file) read write valid fits loaded within is ends = absurd ends
+checking_cause told files result text b series other read write valid fits loaded within is ends = absurd ends
 
 -- what a check leaves on out
-of_both : (t o r : Option (List ℕ)) (b : Basin) (series : Inflows) (text : List ℕ) (P : List ℕ → List ℕ → List ℕ → Type 0) → IsSeriesOf b series →
+pub of_both : (t o r : Option (List ℕ)) (b : Basin) (series : Inflows) (text : List ℕ) (P : List ℕ → List ℕ → List ℕ → Type 0) → IsSeriesOf b series →
     IfSome t (IsBasinText b) → IfSome o (IsSeriesText b series) → IfSome r (λ bytes. text ≡ bytes) →
     ((bytes s : List ℕ) → AreSpelled bytes s b series → P bytes s text) → IfSome t (λ bytes. IfSome o (λ s. IfSome r (P bytes s)))
 of_both None o r b series text P fits from_basin from_series is holds = tt

@@ -14,3 +14,5 @@ pub mod Asked
 pub mod Explained
 pub mod Accounts
 pub mod Gathering
+pub mod Edited
+pub mod FoundBytes

@@ -63,6 +63,7 @@ file_name_short file.Basin = omega arith
 file_name_short file.Series = omega arith
 file_name_short file.Result = omega arith
 file_name_short file.SecondBasin = omega arith
+file_name_short file.Script = omega arith
 
 pub series_fault_short : (f : SeriesFault) → length (series.fault_name f) ≤ 16
 unfolding series.fault_name

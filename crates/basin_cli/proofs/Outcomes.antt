@@ -16,12 +16,16 @@ use Rattle.basin_cli.specs.declared.ending.File.TheVariants as file
 use Rattle.basin_cli.specs.declared.ending.SeriesFinding.{SeriesFinding}
 use Rattle.basin_cli.specs.declared.ending.SecondFinding.{SecondFinding}
 use Rattle.basin_cli.specs.declared.ending.SecondFinding.TheVariants as of_second
-use Rattle.basin_cli.specs.Command.{Command, Files, run, check, report, trial, why, compare, ensemble}
+use Rattle.basin_cli.specs.Command.{Command, Files, run, check, report, trial, why, compare, ensemble, edit}
 use Rattle.basin_cli.specs.Ending.{line_of, status_of, status_of_second, finding_of}
 use Rattle.basin_cli.specs.Explained.{HasMonth, HasRight}
-use Rattle.basin_cli.specs.Outcome.{IsGoodBasin, IsGoodSeries, IsHistoryText, IsAccepted, IsRefuted, IsRefusedFor, IsSeriesRefusedFor, IsTooLong, IsDone, IsJudged, Told, StopsReading, HasSolvingCause, HasCheckingCause, HasTrialCause, HasEnsembleCause, HasExplainingCause, IsOfYears, IsPartYear, IsAsked, IsOutsideRun, IsUnknownRight, IsShortIn, EndingHasCause, Completes, CompletesBehind, IsQuiet, Tells, file_limit, series_told}
+use Rattle.basin_cli.specs.Bytes.{IsGoodBasin, IsGoodSeries, IsRefusedFor, IsSeriesRefusedFor, IsTooLong, Told, file_limit, series_told}
+use Rattle.basin_cli.specs.Outcome.{IsHistoryText, IsAccepted, IsRefuted, HasSolvingCause, HasCheckingCause, HasTrialCause, HasEnsembleCause, HasExplainingCause, IsOfYears, IsPartYear, IsAsked, IsOutsideRun, IsUnknownRight, IsShortIn, EndingHasCause, Completes, IsQuiet, Tells}
+use Rattle.basin_cli.specs.Reading.{IsDone, IsJudged, StopsReading, CompletesBehind}
 use Rattle.basin_cli.proofs.OneSeries.{one_basin}
+use Rattle.basin_cli.specs.Edited.{HasEditingCause, IsGoodScript, IsScriptRefusedFor}
 use Rattle.basin_cli.proofs.Comparisons.{comparing}
+use Rattle.basin_cli.proofs.Edited.{refused_not_good}
 
 -- what is to be shown of what is told of two files
 abbrev Shown : Option (List ℕ) → Option (List ℕ) → (List ℕ → List ℕ → Type 0) → Type 0
@@ -82,23 +86,11 @@ stopped files (ending.SeriesRefused finding) told read P by_read by_memory h =
     not_good_series (told files.basin) (series_told told files.series) P (series_refused (told files.basin) _ finding h)
 stopped files (ending.ReadFault file.Basin) told read P by_read by_memory h = always (told files.basin) _ P (by_read h)
 stopped files (ending.ReadFault file.Series) told read P by_read by_memory h = always (told files.basin) _ P (by_read h.0)
-stopped files (ending.ReadFault file.Result) told read P by_read by_memory h = absurd h
-stopped files (ending.ReadFault file.SecondBasin) told read P by_read by_memory h = absurd h
 stopped files (ending.InputTooLong file.Basin) told read P by_read by_memory h = not_good (told files.basin) _ P (too_long (told files.basin) h)
 stopped files (ending.InputTooLong file.Series) told read P by_read by_memory h =
     not_good_series (told files.basin) (series_told told files.series) P (series_too_long (told files.basin) _ h)
-stopped files (ending.InputTooLong file.Result) told read P by_read by_memory h = absurd h
-stopped files (ending.InputTooLong file.SecondBasin) told read P by_read by_memory h = absurd h
 stopped files ending.OutOfMemory told read P by_read by_memory h = always (told files.basin) _ P (by_memory refl)
-stopped files ending.Done told read P by_read by_memory h = absurd h
-stopped files (ending.Refuted refuted) told read P by_read by_memory h = absurd h
-stopped files ending.Injured told read P by_read by_memory h = absurd h
-stopped files ending.PartYear told read P by_read by_memory h = absurd h
-stopped files ending.Met told read P by_read by_memory h = absurd h
-stopped files (ending.ScriptRefused fault line) told read P by_read by_memory h = absurd h
-stopped files ending.Usage told read P by_read by_memory h = absurd h
-stopped files (ending.SecondRefused finding) told read P by_read by_memory h = absurd h
-stopped files ending.WriteFault told read P by_read by_memory h = absurd h
+stopped files other told read P by_read by_memory h = absurd h
 
 -- a command that solves the months of a basin
 abbrev Solved : Status → Type 0 → Type 0 → List ℕ → List ℕ → Type 0
@@ -120,13 +112,7 @@ solving files (ending.ReadFault file) told read write h =
 solving files (ending.InputTooLong file) told read write h =
     stopped files (ending.InputTooLong file) told read (Solved its.InputTooLong read write) (λ is _ _ no_read _. absurd (no_read is)) (memory_done (ending.InputTooLong file) read write) h
 solving files ending.OutOfMemory told read write h = always (told files.basin) _ (Solved its.OutOfMemory read write) (λ _ _ _ _. inr refl)
-solving files (ending.Refuted refuted) told read write h = absurd h
-solving files ending.Injured told read write h = absurd h
-solving files ending.PartYear told read write h = absurd h
-solving files ending.Met told read write h = absurd h
-solving files (ending.ScriptRefused fault line) told read write h = absurd h
-solving files ending.Usage told read write h = absurd h
-solving files (ending.SecondRefused finding) told read write h = absurd h
+solving files other told read write h = absurd h
 
 -- a check
 abbrev Checked : Status → Option (List ℕ) → Type 0 → Type 0 → List ℕ → List ℕ → Type 0
@@ -144,15 +130,20 @@ memory_checked how result read write e bytes s = of_result result (status_of how
 fault_checked : (status : Status) (result : Option (List ℕ)) (read write : Type 0) → read → (bytes s : List ℕ) → Checked status result read write bytes s
 fault_checked status result read write is bytes s = of_result result status read write bytes s (λ _ no_read _. absurd (no_read is))
 
--- what holds of the result behind both files shows it
+-- what holds of a third file behind both files shows it
+behind_third : (told series third : Option (List ℕ)) (P Q : List ℕ → List ℕ → List ℕ → Type 0) → ((bytes s text : List ℕ) → P bytes s text → Q bytes s text) →
+    IfSome told (λ bytes. IsGoodBasin bytes × IfSome series (λ s. IsGoodSeries bytes s × IfSome third (P bytes s))) →
+    Shown told series (λ bytes s. IfSome third (Q bytes s))
+behind_third None series third P Q shows h = tt
+behind_third (Some bytes) None third P Q shows h = λ _. tt
+behind_third (Some bytes) (Some s) None P Q shows h = λ _ _. tt
+behind_third (Some bytes) (Some s) (Some text) P Q shows h = λ _ _. shows bytes s text h.1.1
+
 behind_series : (told series result : Option (List ℕ)) (P : List ℕ → List ℕ → List ℕ → Type 0) (status : Status) (read write : Type 0) →
     ((bytes s text : List ℕ) → P bytes s text → length text ≤ file_limit → (read → ⊥) → (write → ⊥) → IsJudged status (IsHistoryText bytes s text)) →
     IfSome told (λ bytes. IsGoodBasin bytes × IfSome series (λ s. IsGoodSeries bytes s × IfSome result (P bytes s))) →
     Shown told series (Checked status result read write)
-behind_series None series result P status read write judge h = tt
-behind_series (Some bytes) None result P status read write judge h = λ _. tt
-behind_series (Some bytes) (Some s) None P status read write judge h = λ _ _. tt
-behind_series (Some bytes) (Some s) (Some text) P status read write judge h = λ _ _ within. judge bytes s text h.1.1 within
+behind_series told series result P status read write judge h = behind_third told series result P _ judge h
 
 checking : (files : Files) (result : List ℕ) (how : Ending) (told : Told) (read write : Type 0) → HasCheckingCause files result how told read write →
     CompletesBehind told files (Checked (status_of how) (told result) read write)
@@ -189,14 +180,7 @@ checking files result (ending.InputTooLong file.Result) told read write h =
 checking files result ending.OutOfMemory told read write h =
     always (told files.basin) _ (Checked its.OutOfMemory (told result) read write)
     (λ bytes s. of_result (told result) its.OutOfMemory read write bytes s (λ _ _ _. inl refl))
-checking files result ending.Usage told read write h = absurd h
-checking files result (ending.SecondRefused finding) told read write h = absurd h
-checking files result (ending.ReadFault file.SecondBasin) told read write h = absurd h
-checking files result (ending.InputTooLong file.SecondBasin) told read write h = absurd h
-checking files result ending.Injured told read write h = absurd h
-checking files result ending.PartYear told read write h = absurd h
-checking files result ending.Met told read write h = absurd h
-checking files result (ending.ScriptRefused fault line) told read write h = absurd h
+checking files result other told read write h = absurd h
 
 -- a question why a right got no more
 abbrev Explained : Status → Month → List ℕ → Type 0 → Type 0 → List ℕ → List ℕ → Type 0
@@ -241,20 +225,12 @@ explaining files month name (ending.ScriptRefused script.OutsideRun line) told r
 explaining files month name (ending.ScriptRefused script.NoSuchName line) told read write h =
     behind_both (told files.basin) _ (λ bytes _. IsUnknownRight month name bytes) (Explained its.ScriptRefused month name read write)
     (λ bytes _ is asked _ _. absurd (unknown month name bytes is asked)) h.1
-explaining files month name (ending.ScriptRefused script.AfterEnd line) told read write h = absurd h
-explaining files month name (ending.ScriptRefused script.BadLine line) told read write h = absurd h
-explaining files month name (ending.ScriptRefused script.NotSeries line) told read write h = absurd h
-explaining files month name (ending.ScriptRefused script.EarlyEnd line) told read write h = absurd h
 explaining files month name (ending.BasinRefused finding) told read write h = explained_by_stop files month name (ending.BasinRefused finding) told read write h
 explaining files month name (ending.SeriesRefused finding) told read write h = explained_by_stop files month name (ending.SeriesRefused finding) told read write h
 explaining files month name (ending.ReadFault file) told read write h = explained_by_stop files month name (ending.ReadFault file) told read write h
 explaining files month name (ending.InputTooLong file) told read write h = explained_by_stop files month name (ending.InputTooLong file) told read write h
 explaining files month name ending.OutOfMemory told read write h = explained_by_stop files month name ending.OutOfMemory told read write h
-explaining files month name ending.Usage told read write h = absurd h
-explaining files month name (ending.SecondRefused finding) told read write h = absurd h
-explaining files month name ending.Injured told read write h = absurd h
-explaining files month name ending.PartYear told read write h = absurd h
-explaining files month name (ending.Refuted refuted) told read write h = absurd h
+explaining files month name other told read write h = absurd h
 
 -- an ensemble
 abbrev Gathered : Status → Type 0 → Type 0 → List ℕ → List ℕ → Type 0
@@ -289,32 +265,57 @@ gathering files (ending.BasinRefused finding) told read write h = gathered_by_st
 gathering files (ending.ReadFault file.Basin) told read write h = gathered_by_stop files (ending.ReadFault file.Basin) told read write h
 gathering files (ending.InputTooLong file.Basin) told read write h = gathered_by_stop files (ending.InputTooLong file.Basin) told read write h
 gathering files ending.OutOfMemory told read write h = gathered_by_stop files ending.OutOfMemory told read write h
-gathering files (ending.ReadFault file.Result) told read write h = absurd h
-gathering files (ending.ReadFault file.SecondBasin) told read write h = absurd h
-gathering files (ending.InputTooLong file.Result) told read write h = absurd h
-gathering files (ending.InputTooLong file.SecondBasin) told read write h = absurd h
-gathering files (ending.SecondRefused finding) told read write h = absurd h
-gathering files (ending.Refuted refuted) told read write h = absurd h
-gathering files ending.Injured told read write h = absurd h
-gathering files ending.Met told read write h = absurd h
-gathering files ending.Usage told read write h = absurd h
-gathering files (ending.ScriptRefused fault line) told read write h = absurd h
+gathering files other told read write h = absurd h
+
+-- a script of changes
+abbrev Edited : Status → Type 0 → Type 0 → List ℕ → List ℕ → List ℕ → Type 0
+Edited status read write bytes s text = IsGoodScript bytes s text → (read → ⊥) → (write → ⊥) → IsDone status
+
+abbrev EditedBy : Status → Option (List ℕ) → Type 0 → Type 0 → List ℕ → List ℕ → Type 0
+EditedBy status script read write bytes s = IfSome script (Edited status read write bytes s)
+
+of_script : (script : Option (List ℕ)) (status : Status) (read write : Type 0) (bytes s : List ℕ) → ((read → ⊥) → (write → ⊥) → IsDone status) →
+    EditedBy status script read write bytes s
+of_script None status read write bytes s h = tt
+of_script (Some text) status read write bytes s h = λ _. h
+
+edited_by_stop : (files : Files) (script : List ℕ) (how : Ending) (told : Told) (read write : Type 0) → StopsReading files how told read →
+    CompletesBehind told files (EditedBy (status_of how) (told script) read write)
+edited_by_stop files script how told read write h =
+    stopped files how told read (EditedBy (status_of how) (told script) read write)
+    (λ is bytes s. of_script (told script) (status_of how) read write bytes s (λ no_read _. absurd (no_read is)))
+    (λ e bytes s. of_script (told script) (status_of how) read write bytes s (λ _ _. inr (ap status_of e))) h
+
+editing : (files : Files) (script : List ℕ) (how : Ending) (told : Told) (read write : Type 0) → HasEditingCause files script how told read write →
+    CompletesBehind told files (EditedBy (status_of how) (told script) read write)
+editing files script ending.Done told read write h =
+    always (told files.basin) _ (EditedBy its.Done (told script) read write) (λ bytes s. of_script (told script) its.Done read write bytes s (λ _ _. inl refl))
+editing files script ending.WriteFault told read write h =
+    always (told files.basin) _ (EditedBy its.WriteFault (told script) read write)
+    (λ bytes s. of_script (told script) its.WriteFault read write bytes s (λ _ no_write. absurd (no_write h.0)))
+editing files script (ending.ScriptRefused fault line) told read write h =
+    behind_third (told files.basin) _ (told script) (IsScriptRefusedFor fault line) (Edited its.ScriptRefused read write)
+    (λ bytes s text is good _ _. absurd (refused_not_good bytes s text fault line is good)) h
+editing files script (ending.ReadFault file.Script) told read write h =
+    always (told files.basin) _ (EditedBy its.ReadFault (told script) read write)
+    (λ bytes s. of_script (told script) its.ReadFault read write bytes s (λ no_read _. absurd (no_read h.0)))
+editing files script (ending.InputTooLong file.Script) told read write h =
+    behind_third (told files.basin) _ (told script) (λ _ _ bytes. IsTooLong bytes) (Edited its.InputTooLong read write)
+    (λ _ _ _ is good _ _. absurd (omega (arith, is.beyond, good.within))) h
+editing files script (ending.BasinRefused finding) told read write h = edited_by_stop files script (ending.BasinRefused finding) told read write h
+editing files script (ending.SeriesRefused finding) told read write h = edited_by_stop files script (ending.SeriesRefused finding) told read write h
+editing files script (ending.ReadFault file.Basin) told read write h = edited_by_stop files script (ending.ReadFault file.Basin) told read write h
+editing files script (ending.ReadFault file.Series) told read write h = edited_by_stop files script (ending.ReadFault file.Series) told read write h
+editing files script (ending.InputTooLong file.Basin) told read write h = edited_by_stop files script (ending.InputTooLong file.Basin) told read write h
+editing files script (ending.InputTooLong file.Series) told read write h = edited_by_stop files script (ending.InputTooLong file.Series) told read write h
+editing files script ending.OutOfMemory told read write h = edited_by_stop files script ending.OutOfMemory told read write h
+editing files script other told read write h = absurd h
 
 trying : (how : Ending) (write : Type 0) → HasTrialCause how write → (write → ⊥) → IsDone (status_of how)
 trying ending.Done write h no_write = inl refl
 trying ending.WriteFault write h no_write = absurd (no_write h)
 trying ending.OutOfMemory write h no_write = inr refl
-trying ending.Usage write h no_write = absurd h
-trying (ending.SecondRefused finding) write h no_write = absurd h
-trying (ending.Refuted refuted) write h no_write = absurd h
-trying ending.Injured write h no_write = absurd h
-trying ending.PartYear write h no_write = absurd h
-trying ending.Met write h no_write = absurd h
-trying (ending.ScriptRefused fault line) write h no_write = absurd h
-trying (ending.BasinRefused finding) write h no_write = absurd h
-trying (ending.SeriesRefused finding) write h no_write = absurd h
-trying (ending.ReadFault file) write h no_write = absurd h
-trying (ending.InputTooLong file) write h no_write = absurd h
+trying other write h no_write = absurd h
 
 pub completes : (command : Option Command) (how : Ending) (told : Told) (read write : Type 0) →
     EndingHasCause command how told read write → Completes command (status_of how) told read write
@@ -326,6 +327,7 @@ completes (Some (trial number size)) how told read write h = trying how write h
 completes (Some (compare files second)) how told read write h = comparing files second told read write how h
 completes (Some (why files month name)) how told read write h = explaining files month name how told read write h
 completes (Some (ensemble files)) how told read write h = gathering files how told read write h
+completes (Some (edit files script)) how told read write h = editing files script how told read write h
 
 -- nothing was told
 pub tells_nothing : (old : Option (List ℕ)) (before : ℕ) → Tells old old before before []

@@ -6,7 +6,7 @@ use Rattle.water_model.specs.declared.types.Inflows.{Inflows}
 use Rattle.basin_cli.specs.declared.ending.Ending.{Ending}
 use Rattle.basin_cli.specs.declared.ending.Ending.TheVariants.{Done, Refuted, Injured, Usage, BasinRefused, SeriesRefused, SecondRefused, ReadFault, WriteFault, OutOfMemory, InputTooLong, Met, PartYear, ScriptRefused}
 use Rattle.basin_cli.specs.Header.{header}
-use Rattle.basin_cli.specs.Outcome.{file_limit}
+use Rattle.basin_cli.specs.Bytes.{file_limit}
 use Rattle.basin_cli.specs.Series.{SeriesEnds, SeriesReadEnds}
 
 -- bytes that were read are refused as they are

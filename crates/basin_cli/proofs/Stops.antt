@@ -1,7 +1,6 @@
 -- How the reading of a comparison's files ends.
 use Rattle.std.proofs.Common.{◌≡◌, refl, subst, ℕ, ◌≤◌, List, Option, Some, None, length, arith}
 use Rattle.std.specs.Prelude.{IfSome, IfErr, Result, Ok, Err}
-use Rattle.inflow_file.specs.SeriesFaults.{series_fault}
 use Rattle.water_edge.specs.Edge.{Rose}
 use Rattle.water_model.specs.declared.types.Basin.{Basin}
 use Rattle.water_model.specs.declared.types.Inflows.{Inflows}
@@ -12,10 +11,10 @@ use Rattle.basin_cli.specs.declared.ending.SecondFinding.TheVariants as of_secon
 use Rattle.basin_cli.specs.Bytes.{IsGoodBasin, IsTooLong, Told, file_limit, series_told}
 use Rattle.basin_cli.specs.Command.{Files}
 use Rattle.basin_cli.specs.Comparison.{HaveSameMonths, IsGoodSecond, StopsComparing, BehindFirst, BehindBoth, ComparisonWrites, WritesComparison}
-use Rattle.basin_cli.specs.Ending.{second_of, status_of}
+use Rattle.basin_cli.specs.Ending.{status_of}
 use Rattle.basin_cli.specs.Out.{MayWrite}
-use Rattle.basin_cli.specs.Pairs.{BothSeriesEnd, BothSeriesReadEnd, IsOtherRun, SecondEnds, SecondReadEnds}
-use Rattle.basin_cli.specs.Series.{BasinEnds, BasinReadEnds, IsBasinText, SeriesEnds}
+use Rattle.basin_cli.specs.Pairs.{BothSeriesEnd, BothSeriesReadEnd}
+use Rattle.basin_cli.specs.Series.{IsBasinText}
 
 -- bytes that were read are refused as they are
 both_read : (first second : Basin) (bytes : List ℕ) (read : Type 0) (how : Ending) → length bytes ≤ file_limit →

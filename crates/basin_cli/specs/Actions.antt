@@ -14,7 +14,7 @@ use Rattle.basin_cli.specs.declared.ending.Ending.{Ending}
 use Rattle.basin_cli.specs.declared.ending.Ending.TheVariants as ending
 use Rattle.basin_cli.specs.Ending.{status_of}
 use Rattle.basin_cli.specs.Explained.{EndsExplaining, Explains, HasMonth, HasRight, IsAbout, IsRecordOf}
-use Rattle.basin_cli.specs.Outcome.{Leaves, MayWrite}
+use Rattle.basin_cli.specs.Out.{Leaves, MayWrite}
 
 -- out was left with the text of some records of which this holds, or with a front of it
 abbrev pub LeavesRecords : (List MonthRecord → Type 0) → (List MonthRecord → List ℕ) → Ending → Option (List ℕ) → Option (List ℕ) → Type 0

@@ -4,7 +4,7 @@ use Rattle.std.specs.Option.{option_and_then}
 use Rattle.basin_tree.specs.declared.walk.Finding.{Finding}
 use Rattle.basin_file.specs.BasinFaults.{Spells, file_fault}
 use Rattle.inflow_file.specs.SeriesFaults.{series_fault, SpellsSeries}
-use Rattle.water_model.specs.Valid.{IsSeriesOf}
+use Rattle.water_model.specs.Valid.{IsSeriesOf, IsValidBasin}
 use Rattle.water_model.specs.declared.types.Basin.{Basin}
 use Rattle.water_model.specs.declared.types.Inflows.{Inflows}
 use Rattle.water_model.specs.declared.types.MonthRecord.{MonthRecord}
@@ -44,10 +44,11 @@ pub record IsSeriesRefusedFor (finding : SeriesFinding) (basin_bytes bytes : Lis
   pub within : length bytes ≤ file_limit
   pub first : option_and_then (finding_of basin) (series_fault basin bytes) ≡ Some finding
 
--- the basin and the series that bytes spell
+-- the basin and the series that bytes spell, both valid
 pub record AreSpelled (bytes series_bytes : List ℕ) (basin : Basin) (series : Inflows) : Type 0 where
   pub basin_spelled : Spells bytes basin
   pub series_spelled : SpellsSeries basin series_bytes series
+  pub valid : IsValidBasin basin
   pub fits : IsSeriesOf basin series
 
 -- what a shelf tells under a name

@@ -16,7 +16,7 @@ pub record Files : Type 0 where
 
 -- a command with the names of its files, or with its numbers: `run` and `report` have the files of a basin and its series,
 -- `check` the file of a result besides, `compare` the file of a second basin, `trial` the number and the size of a generated
--- basin, `why` a month and the name of a right beside the files, and `ensemble` the files
+-- basin, `why` a month and the name of a right beside the files, `ensemble` the files, and `edit` the file of a script besides
 pub data Command : Type 0 where
   run : Files → Command
   check : Files → List ℕ → Command
@@ -25,6 +25,7 @@ pub data Command : Type 0 where
   compare : Files → List ℕ → Command
   why : Files → Month → List ℕ → Command
   ensemble : Files → Command
+  edit : Files → List ℕ → Command
 
 -- the word `-` names no file
 abbrev pub series_named : List ℕ → Option (List ℕ)
@@ -53,7 +54,8 @@ command_of (word ∷ one ∷ other ∷ []) =
     else (if bytes_eq word (codes "trial") then trial_of (read_amount one 4294967295) (read_amount other 2000) else None)))
 command_of (word ∷ basin ∷ one ∷ other ∷ []) =
     if bytes_eq word (codes "check") then Some (check (record { basin = basin; series = series_named one }) other)
-    else (if bytes_eq word (codes "compare") then Some (compare (record { basin = basin; series = series_named other }) one) else None)
+    else (if bytes_eq word (codes "edit") then Some (edit (record { basin = basin; series = series_named one }) other)
+    else (if bytes_eq word (codes "compare") then Some (compare (record { basin = basin; series = series_named other }) one) else None))
 command_of (word ∷ basin ∷ series ∷ month ∷ right ∷ []) =
     if bytes_eq word (codes "why") then why_of (record { basin = basin; series = series_named series }) (read_month month) right else None
 command_of _ = None
@@ -70,6 +72,7 @@ command_named (words.Trial number size) = trial number size
 command_named (words.Compare inputs second) = compare (named inputs) second.now
 command_named (words.Why inputs month right) = why (named inputs) month right.now
 command_named (words.Ensemble inputs) = ensemble (named inputs)
+command_named (words.Edit inputs script) = edit (named inputs) script.now
 
 -- the size of a trial is from 2 to 2,000, and the month of a `why` is one of the calendar
 abbrev pub IsInForm : Words → Type 0
@@ -91,3 +94,4 @@ ServesFiles serves (Some (trial number size)) = ⊤
 ServesFiles serves (Some (compare files second)) = serves files.basin × ServesSeries serves files.series × serves second
 ServesFiles serves (Some (why files month right)) = serves files.basin × ServesSeries serves files.series
 ServesFiles serves (Some (ensemble files)) = serves files.basin × ServesSeries serves files.series
+ServesFiles serves (Some (edit files script)) = serves files.basin × ServesSeries serves files.series × serves script

@@ -9,7 +9,7 @@ use Rattle.injury.specs.declared.injuries.Injury.{Injury}
 use Rattle.basin_cli.specs.declared.ending.Ending.{Ending}
 use Rattle.basin_cli.specs.declared.ending.Ending.TheVariants as ending
 use Rattle.basin_cli.specs.Ending.{status_of}
-use Rattle.basin_cli.specs.Outcome.{Leaves}
+use Rattle.basin_cli.specs.Out.{Leaves}
 use Rattle.basin_cli.specs.Headline.{KeepsPriority}
 
 -- two runs went through equally many months, and the bytes are the rows of the injuries in them, which were counted

@@ -61,6 +61,7 @@ file_name file.Basin = codes "BASIN"
 file_name file.Series = codes "SERIES"
 file_name file.Result = codes "RESULT"
 file_name file.SecondBasin = codes "BASIN2"
+file_name file.Script = codes "SCRIPT"
 
 -- whose basin it is, and FAULT TABLE ENTRY
 unfoldable pub refusal_line : List ℕ → Finding → List ℕ

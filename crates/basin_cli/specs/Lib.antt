@@ -4,6 +4,8 @@ pub mod Header
 pub mod Headline
 pub mod Bytes
 pub mod Out
+pub mod Reading
+pub mod Edited
 pub mod Comparison
 pub mod Outcome
 pub mod Code
@@ -14,3 +16,4 @@ pub mod Actions
 pub mod Answer
 pub mod Compared
 pub mod Explained
+pub mod Found

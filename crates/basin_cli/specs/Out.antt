@@ -1,8 +1,9 @@
 -- What a status leaves on out.
-use Rattle.std.specs.Prelude.{ℕ, List, take, Option, ⊤}
+use Rattle.std.specs.Prelude.{ℕ, List, take, Option, Some, ⊤}
 use Rattle.std.specs.Io.KnownBytes.{Appends}
 use Rattle.basin_cli.specs.declared.status.Status.{Status}
-use Rattle.basin_cli.specs.declared.status.Status.TheVariants.{Done, No, WriteFault}
+use Rattle.basin_cli.specs.declared.status.Status.TheVariants.{Done, No, WriteFault, OutOfMemory}
+use Rattle.basin_cli.specs.Command.{Command, edit}
 
 -- only these statuses may leave bytes on out
 abbrev pub MayWrite : Status → Type 0
@@ -10,6 +11,23 @@ MayWrite Done = ⊤
 MayWrite No = ⊤
 MayWrite WriteFault = ⊤
 MayWrite status = ⊥
+
+-- of `edit` also want of memory, which may come behind months that were shown
+abbrev pub MayShow : Status → Type 0
+MayShow OutOfMemory = ⊤
+MayShow status = MayWrite status
+
+abbrev pub MayLeave : Option Command → Status → Type 0
+MayLeave (Some (edit files script)) status = MayShow status
+MayLeave command status = MayWrite status
+
+-- words, a file or a script were refused, or not read: nothing is solved
+abbrev pub IsRefusal : Status → Type 0
+IsRefusal Done = ⊥
+IsRefusal No = ⊥
+IsRefusal WriteFault = ⊥
+IsRefusal OutOfMemory = ⊥
+IsRefusal status = ⊤
 
 -- the text is appended to out, or after a fault of out a front of it
 abbrev pub Leaves : Status → List ℕ → Option (List ℕ) → Option (List ℕ) → Type 0

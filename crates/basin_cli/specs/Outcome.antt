@@ -1,5 +1,5 @@
 -- What each status of a call means: its cause, and what it leaves on out and err.
-use Rattle.std.specs.Prelude.{◌≡◌, ℕ, ◌+◌, ◌*◌, ◌<◌, ◌≤◌, ◌++◌, List, length, take, codes, Option, Some, None, Result, Ok, Err, ⊤, IfSome, ◌⊎◌}
+use Rattle.std.specs.Prelude.{◌≡◌, ℕ, ◌+◌, ◌*◌, ◌<◌, ◌≤◌, ◌++◌, List, length, take, codes, Option, Some, None, Result, Ok, Err, ⊤, IfSome}
 use Rattle.std.specs.Fmt.{decimal}
 use Rattle.std.specs.Io.KnownBytes.{Appends}
 use Rattle.water_edge.specs.Edge.{Rose}
@@ -22,16 +22,18 @@ use Rattle.water_model.specs.declared.types.Inflows.{Inflows}
 use Rattle.water_model.specs.declared.types.MonthRecord.{MonthRecord}
 use Rattle.water_text.specs.declared.month.Month.{Month}
 use Rattle.basin_cli.specs.declared.status.Status.{Status}
-use Rattle.basin_cli.specs.declared.status.Status.TheVariants.{Done, No, OutOfMemory}
+use Rattle.basin_cli.specs.declared.status.Status.TheVariants.{Done, No}
 use Rattle.basin_cli.specs.declared.ending.Ending.{Ending}
 use Rattle.basin_cli.specs.declared.ending.Ending.TheVariants as ending
 use Rattle.basin_cli.specs.declared.ending.File.TheVariants as file
-use Rattle.basin_cli.specs.Command.{Command, Files, run, check, report, trial, why, compare, ensemble}
+use Rattle.basin_cli.specs.Command.{Command, Files, run, check, report, trial, why, compare, ensemble, edit}
 use Rattle.basin_cli.specs.Ending.{status_of, line_of}
 use Rattle.basin_cli.specs.Explained.{Explains, HasMonth, HasRight, IsAbout, PushesUpTo}
 use Rattle.basin_cli.specs.Headline.{HasGreatestPlans}
-pub use Rattle.basin_cli.specs.Bytes.{AreSpelled, IsGoodBasin, IsGoodSeries, IsRefusedFor, IsRunOf, IsSeriesRefusedFor, IsTooLong, Told, file_limit, series_told}
-pub use Rattle.basin_cli.specs.Out.{Leaves, MayWrite}
+use Rattle.basin_cli.specs.Bytes.{AreSpelled, IsGoodBasin, IsRunOf, IsSeriesRefusedFor, IsTooLong, Told, file_limit}
+use Rattle.basin_cli.specs.Out.{Leaves, MayWrite}
+use Rattle.basin_cli.specs.Reading.{AreAccepted, BehindBasin, BehindBoth, BehindSeries, CompletesBehind, IsDone, IsJudged, OfBoth, StopsReading}
+use Rattle.basin_cli.specs.Edited.{HasEditingCause, EditsBehind, EditWrites, EditPushes}
 use Rattle.basin_cli.specs.Comparison.{HasComparingCause, ComparesBehind, ComparisonWrites, ComparisonPushes}
 use Rattle.month_fold.specs.Runs.{run_pushes}
 
@@ -104,33 +106,6 @@ pub record IsPartYear (bytes : List ℕ) : Type 0 where
   pub spelled : Spells bytes basin
   pub part : HasWholeYears basin → ⊥
 
--- the basin file is good, and this holds of its bytes and those of the series, as far as they are told
-abbrev pub BehindBasin : Told → Files → (List ℕ → List ℕ → Type 0) → Type 0
-BehindBasin told files P = IfSome (told files.basin) (λ bytes. IsGoodBasin bytes × IfSome (series_told told files.series) (P bytes))
-
-abbrev pub AreAccepted : Told → Files → Type 0
-AreAccepted told files = BehindBasin told files IsGoodSeries
-
--- both files are good, and this holds of their bytes
-abbrev pub BehindBoth : Told → Files → (List ℕ → List ℕ → Type 0) → Type 0
-BehindBoth told files P = BehindBasin told files (λ bytes series. IsGoodSeries bytes series × P bytes series)
-
--- both files are good, and this holds of their bytes and those of the result
-abbrev pub BehindSeries : Told → Files → List ℕ → (List ℕ → List ℕ → List ℕ → Type 0) → Type 0
-BehindSeries told files result P = BehindBasin told files (λ bytes series. IsGoodSeries bytes series × IfSome (told result) (P bytes series))
-
--- The cause of an ending at which the basin or its series is not read or refused. `told` gives the bytes under a name, where
--- the shelf tells them; `read` and `write` say that the shelf's and out's count of faults rose.
-abbrev pub StopsReading : Files → Ending → Told → Type 0 → Type 0
-StopsReading files (ending.BasinRefused finding) told read = IfSome (told files.basin) (IsRefusedFor finding)
-StopsReading files (ending.SeriesRefused finding) told read = BehindBasin told files (IsSeriesRefusedFor finding)
-StopsReading files (ending.ReadFault file.Basin) told read = read
-StopsReading files (ending.ReadFault file.Series) told read = read × IfSome (told files.basin) IsGoodBasin
-StopsReading files (ending.InputTooLong file.Basin) told read = IfSome (told files.basin) IsTooLong
-StopsReading files (ending.InputTooLong file.Series) told read = BehindBasin told files (λ _ bytes. IsTooLong bytes)
-StopsReading files ending.OutOfMemory told read = ⊤
-StopsReading files other told read = ⊥
-
 -- the cause of an ending of a command that solves the months of a basin and writes what it found
 abbrev pub HasSolvingCause : Files → Ending → Told → Type 0 → Type 0 → Type 0
 HasSolvingCause files ending.Done told read write = AreAccepted told files
@@ -189,6 +164,7 @@ HasCauseFor (trial number size) e told read write = HasTrialCause e write
 HasCauseFor (compare files second) e told read write = HasComparingCause files second e told read write
 HasCauseFor (why files month name) e told read write = HasExplainingCause files month name e told read write
 HasCauseFor (ensemble files) e told read write = HasEnsembleCause files e told read write
+HasCauseFor (edit files script) e told read write = HasEditingCause files script e told read write
 
 abbrev pub EndingHasCause : Option Command → Ending → Told → Type 0 → Type 0 → Type 0
 EndingHasCause None e told read write = e ≡ ending.Usage
@@ -209,19 +185,6 @@ pub record Ends (command : Option Command) (status : Status) (told : Told) (read
   pub cause : EndingHasCause command how told read write
   pub tells : Tells err_old err_new err_before err_now (line_of how)
 
-abbrev pub IsDone : Status → Type 0
-IsDone status = (status ≡ Done) ⊎ (status ≡ OutOfMemory)
-
--- what is asked is answered as it is: done where this holds, else no
-abbrev pub IsJudged : Status → Type 0 → Type 0
-IsJudged status asked = (status ≡ OutOfMemory) ⊎ (((status ≡ Done) × asked) ⊎ ((status ≡ No) × (asked → ⊥)))
-
--- right words, told bytes that are accepted, and no fault of the shelf or of out: the call is done, unless memory ran out
-abbrev pub CompletesBehind : Told → Files → (List ℕ → List ℕ → Type 0) → Type 0
-CompletesBehind told files P =
-    IfSome (told files.basin) (λ bytes. IsGoodBasin bytes →
-    IfSome (series_told told files.series) (λ series. IsGoodSeries bytes series → P bytes series))
-
 abbrev pub Completes : Option Command → Status → Told → Type 0 → Type 0 → Type 0
 Completes None status told read write = ⊤
 Completes (Some (run files)) status told read write = CompletesBehind told files (λ _ _. (read → ⊥) → (write → ⊥) → IsDone status)
@@ -236,6 +199,7 @@ Completes (Some (why files month name)) status told read write =
     (read → ⊥) → (write → ⊥) → IsJudged status (IsShortIn month name bytes series))
 Completes (Some (ensemble files)) status told read write =
     CompletesBehind told files (λ bytes _. IsOfYears bytes → (read → ⊥) → (write → ⊥) → IsDone status)
+Completes (Some (edit files script)) status told read write = EditsBehind told files script status read write
 
 -- what `run` leaves on out: the text of a run of what the bytes spell
 pub record WritesRun (status : Status) (bytes series_bytes : List ℕ) (old new : Option (List ℕ)) : Type 0 where
@@ -296,10 +260,6 @@ pub record WritesEnsemble (status : Status) (bytes series_bytes : List ℕ) (old
   pub are_traces : AreTraces basin series traces
   pub written : Leaves status (ensemble_text basin traces) old new
 
--- this holds of what is told of both files
-abbrev pub OfBoth : Told → Files → (List ℕ → List ℕ → Type 0) → Type 0
-OfBoth told files P = IfSome (told files.basin) (λ bytes. IfSome (series_told told files.series) (λ series. P bytes series))
-
 abbrev pub WritesFor : Option Command → Status → Told → Option (List ℕ) → Option (List ℕ) → Type 0
 WritesFor None status told old new = ⊤
 WritesFor (Some (run files)) status told old new = OfBoth told files (λ bytes series. MayWrite status → WritesRun status bytes series old new)
@@ -310,6 +270,7 @@ WritesFor (Some (trial number size)) status told old new = MayWrite status → W
 WritesFor (Some (compare files second)) status told old new = ComparisonWrites told files second status old new
 WritesFor (Some (why files month name)) status told old new =
     OfBoth told files (λ bytes series. MayWrite status → WritesAccount status month name bytes series old new)
+WritesFor (Some (edit files script)) status told old new = EditWrites told files script status old new
 WritesFor (Some (ensemble files)) status told old new = OfBoth told files (λ bytes series. MayWrite status → WritesEnsemble status bytes series old new)
 
 -- searches push at most so often as the bound of a month allows, for each month of the basin that the bytes spell
@@ -328,6 +289,7 @@ PushesFor (Some (why files month name)) told before now =
     IfSome (told files.basin) (λ bytes. (basin : Basin) → Spells bytes basin → PushesUpTo basin month before now)
 PushesFor (Some (ensemble files)) told before now =
     IfSome (told files.basin) (λ bytes. (basin : Basin) → Spells bytes basin → now ≤ before + years_of basin * run_pushes basin)
+PushesFor (Some (edit files script)) told before now = EditPushes told files script before now
 
 -- the statuses that leave err alone
 abbrev pub IsQuiet : Status → Type 0

@@ -11,7 +11,8 @@ use Rattle.basin_cli.specs.declared.ending.File.{File}
 use Rattle.basin_cli.specs.declared.ending.File.TheVariants as file
 use Rattle.basin_cli.specs.Command.{Files}
 use Rattle.basin_cli.specs.Ending.{finding_of}
-use Rattle.basin_cli.specs.Outcome.{IsTooLong, IsGoodBasin, IsPartYear, IsRefusedFor, Told, file_limit, series_told}
+use Rattle.basin_cli.specs.Bytes.{IsTooLong, IsGoodBasin, IsRefusedFor, Told, file_limit, series_told}
+use Rattle.basin_cli.specs.Outcome.{IsPartYear}
 
 -- how the reading of a file may end without its bytes
 abbrev pub FileEnds : File → Option (List ℕ) → Type 0 → Ending → Type 0

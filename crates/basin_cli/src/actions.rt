@@ -15,7 +15,8 @@ ghost use Rattle.basin_cli.specs.Actions.{EndsChecking, LeavesRecords, LeavesTra
 ghost use Rattle.basin_cli.specs.Answer.{answered, ending_of, EndsAnswer};
 ghost use Rattle.basin_cli.specs.Ending.{status_of};
 ghost use Rattle.basin_cli.specs.Headline.{KeepsPriority};
-ghost use Rattle.basin_cli.specs.Outcome.{HasTrialCause, Leaves, MayWrite, WritesTrial, answer_line};
+ghost use Rattle.basin_cli.specs.Out.{IsRefusal, Leaves, MayWrite};
+ghost use Rattle.basin_cli.specs.Outcome.{HasTrialCause, WritesTrial, answer_line};
 ghost use Rattle.month_fold.specs.Runs.{run_pushes};
 
 use crate::ending::Ending;
@@ -44,6 +45,7 @@ pub fn run_basin<K: Sink, L: Ledger>(
     ensures ends { HasTrialCause result (Rose (K.faults out.old) (K.faults out.new)) }
     ensures leaves { LeavesRecords (KeepsPriority basin.now series.now) (text_bytes basin.now) result (K.taken out.old) (K.taken out.new) }
     ensures out_stays { (MayWrite (status_of result) → ⊥) → out.new ≡ out.old }
+    ensures idle { IsRefusal (status_of result) → ⊥ }
     ensures pushes { searches.new ≤ searches.old + run_pushes basin.now }
 {
     let text = match text_of_run(alloc, basin, series, searches) {
@@ -69,6 +71,7 @@ pub fn report_basin<K: Sink, L: Ledger>(
     ensures ends { HasTrialCause result (Rose (K.faults out.old) (K.faults out.new)) }
     ensures leaves { LeavesRecords (IsRun basin.now series.now) (report_text basin.now series.now) result (K.taken out.old) (K.taken out.new) }
     ensures out_stays { (MayWrite (status_of result) → ⊥) → out.new ≡ out.old }
+    ensures idle { IsRefusal (status_of result) → ⊥ }
     ensures pushes { searches.new ≤ searches.old + run_pushes basin.now }
 {
     match period_report(alloc, basin, series, out, searches) {
@@ -92,6 +95,7 @@ pub fn gather_basin<K: Sink, L: Ledger>(
     ensures ends { HasTrialCause result (Rose (K.faults out.old) (K.faults out.new)) }
     ensures leaves { LeavesTraces basin.now series.now result (K.taken out.old) (K.taken out.new) }
     ensures out_stays { (MayWrite (status_of result) → ⊥) → out.new ≡ out.old }
+    ensures idle { IsRefusal (status_of result) → ⊥ }
     ensures pushes { searches.new ≤ searches.old + years_of basin.now * run_pushes basin.now }
 {
     match ensemble_report(alloc, basin, series, out, searches) {
@@ -114,6 +118,7 @@ pub fn try_basin<K: Sink, L: Ledger>(
     ensures ends { HasTrialCause result (Rose (K.faults out.old) (K.faults out.new)) }
     ensures writes { MayWrite (status_of result) → WritesTrial (status_of result) number size (K.taken out.old) (K.taken out.new) }
     ensures out_stays { (MayWrite (status_of result) → ⊥) → out.new ≡ out.old }
+    ensures idle { IsRefusal (status_of result) → ⊥ }
     ensures pushes { searches.new ≤ searches.old + run_pushes (generated number size) }
 {
     let (basin, series) = match make(alloc, number, size) {
@@ -186,7 +191,7 @@ fn tell_answer<K: Sink>(answer: &Result<u32, Refuted>, out: &mut K) -> Ending
 }
 
 /// The answer to the bytes of a result.
-fn answer_of(
+pub fn answer_of(
     alloc: Global,
     basin: &Basin,
     series: &Inflows,

@@ -39,6 +39,11 @@ pub enum Words<'a> {
         inputs: Inputs<'a>,
         second: &'a str,
     },
+    /// Change numbers of the series, and show months as they are then.
+    Edit {
+        inputs: Inputs<'a>,
+        script: &'a str,
+    },
     /// Tell why the right of this name got no more in a month.
     Why {
         inputs: Inputs<'a>,
@@ -133,6 +138,11 @@ pub fn command(words: &[String]) -> Option<Words<'_>>
                 Some(Words::Check {
                     inputs: files_named(basin.as_str(), one.as_str()),
                     result: other.as_str(),
+                })
+            } else if word.as_str() == "edit" {
+                Some(Words::Edit {
+                    inputs: files_named(basin.as_str(), one.as_str()),
+                    script: other.as_str(),
                 })
             } else if word.as_str() == "compare" {
                 Some(Words::Compare {

@@ -3,7 +3,7 @@ ghost use Rattle.std.specs.Prelude.{◌≡◌, Some};
 ghost use Rattle.water_edge.specs.Edge.{Rose};
 ghost use Rattle.basin_cli.specs.Command.{ServesFiles, compare, named};
 ghost use Rattle.basin_cli.specs.Ending.{status_of, CanBeTold};
-ghost use Rattle.basin_cli.specs.Out.{MayWrite};
+ghost use Rattle.basin_cli.specs.Out.{IsRefusal, MayLeave};
 ghost use Rattle.basin_cli.specs.Outcome.{EndingHasCause, PushesFor, WritesFor};
 
 use crate::command::Inputs;
@@ -28,7 +28,8 @@ pub fn do_compare<S: Shelf, K: Sink, L: Ledger>(
     ensures cause { EndingHasCause (Some (compare (named inputs.entry) second.now)) result (S.told shelf.old)
         (Rose (S.faults shelf.old) (S.faults shelf.new)) (Rose (K.faults out.old) (K.faults out.new)) }
     ensures writes { WritesFor (Some (compare (named inputs.entry) second.now)) (status_of result) (S.told shelf.old) (K.taken out.old) (K.taken out.new) }
-    ensures out_stays { (MayWrite (status_of result) → ⊥) → out.new ≡ out.old }
+    ensures out_stays { (MayLeave (Some (compare (named inputs.entry) second.now)) (status_of result) → ⊥) → out.new ≡ out.old }
+    ensures idle { IsRefusal (status_of result) → searches.new ≡ searches.old }
     ensures pushes { PushesFor (Some (compare (named inputs.entry) second.now)) (S.told shelf.old) searches.old searches.new }
     ensures told { CanBeTold result }
 {

@@ -8,7 +8,7 @@ ghost use Rattle.injury.specs.Injuries.{injuries_of, injured_row, compared_row};
 ghost use Rattle.water_edge.specs.Edge.{Rose};
 ghost use Rattle.basin_cli.specs.Compared.{AreCompared, IsTextOfComparison, Compares, ending_with};
 ghost use Rattle.basin_cli.specs.Ending.{status_of};
-ghost use Rattle.basin_cli.specs.Outcome.{MayWrite};
+ghost use Rattle.basin_cli.specs.Out.{IsRefusal, MayWrite};
 ghost use Rattle.basin_cli.specs.declared.ending.Ending.TheVariants.{OutOfMemory};
 ghost use Rattle.senior_hold.specs.MonthNetwork.{month_pushes};
 
@@ -178,7 +178,8 @@ pub fn text_of_comparison<L: Ledger>(
 
 /// How a comparison with so many injuries ends.
 fn ending_with(injured: u32) -> Ending
-    ensures { result ≡ ending_with injured }
+    ensures is { result ≡ ending_with injured }
+    ensures idle { IsRefusal (status_of result) → ⊥ }
 {
     if injured == 0 {
         Ending::Done
@@ -206,6 +207,7 @@ pub fn compare_basins<K: Sink, L: Ledger>(
         Compares basin.now other.now series.now other_series.now result (Rose (K.faults out.old) (K.faults out.new)) (K.taken out.old) (K.taken out.new) }
     ensures out_stays { (MayWrite (status_of result) → ⊥) → out.new ≡ out.old }
     ensures memory { (MayWrite (status_of result) → ⊥) → result ≡ OutOfMemory }
+    ensures idle { IsRefusal (status_of result) → ⊥ }
     ensures pushes { searches.new ≤ searches.old + (run_pushes basin.now + run_pushes other.now) }
 {
     let (text, injured) = match text_of_comparison(

@@ -23,6 +23,7 @@ pub enum File {
     Series,
     Result,
     SecondBasin,
+    Script,
 }
 
 impl File {
@@ -36,6 +37,7 @@ impl File {
             File::Series => "SERIES",
             File::Result => "RESULT",
             File::SecondBasin => "BASIN2",
+            File::Script => "SCRIPT",
         }
     }
 }

@@ -13,7 +13,7 @@ ghost use Rattle.water_edge.specs.Edge.{HasCause, Puts, Rose};
 ghost use Rattle.basin_cli.specs.Actions.{AnswersAt, EndsAsking, IsAnswered};
 ghost use Rattle.basin_cli.specs.Ending.{status_of};
 ghost use Rattle.basin_cli.specs.Explained.{EndsExplaining, Explains, HasLast, HasMonth, HasRight, IsMonthAt, IsRightNamed, PushesUpTo, met_line};
-ghost use Rattle.basin_cli.specs.Outcome.{Leaves, MayWrite};
+ghost use Rattle.basin_cli.specs.Out.{IsRefusal, Leaves, MayWrite};
 ghost use Rattle.basin_cli.specs.declared.ending.Ending.TheVariants.{OutOfMemory};
 
 use crate::ending::Ending;
@@ -165,7 +165,8 @@ fn put_answer<K: Sink>(
 fn ending_for(month: &MonthRecord, right: u32) -> Ending
     requires delivered { right < length month.now.delivered }
     requires want { right < length month.now.want }
-    ensures { EndsExplaining month.now right result ⊥ }
+    ensures ends { EndsExplaining month.now right result ⊥ }
+    ensures idle { IsRefusal (status_of result) → ⊥ }
 {
     if is_short(month, right) {
         Ending::Done
@@ -189,6 +190,7 @@ fn answer<K: Sink>(
     requires right { right < length basin.now.rights }
     ensures ends { EndsExplaining month.now right result (Rose (K.faults out.old) (K.faults out.new)) }
     ensures leaves { (text : List ℕ) × Explains basin.now month.now right text × Leaves (status_of result) text (K.taken out.old) (K.taken out.new) }
+    ensures idle { IsRefusal (status_of result) → ⊥ }
 {
     match put_answer(out, basin, roll, month, right) {
         Ok(()) => ending_for(month, right),
@@ -216,6 +218,7 @@ fn explain_in<K: Sink, L: Ledger>(
         AnswersAt basin.now run.old.series index right result (Rose (K.faults out.old) (K.faults out.new)) (K.taken out.old) (K.taken out.new) }
     ensures memory { (MayWrite (status_of result) → ⊥) → result ≡ OutOfMemory }
     ensures out_stays { (MayWrite (status_of result) → ⊥) → out.new ≡ out.old }
+    ensures idle { IsRefusal (status_of result) → ⊥ }
     ensures pushes { searches.new ≤ searches.old + (index + 1) * month_pushes basin.now }
 {
     match solve_up_to(run, index, searches) {
@@ -242,6 +245,7 @@ fn explain_at<K: Sink, L: Ledger>(
         AnswersAt basin.now series.now index right result (Rose (K.faults out.old) (K.faults out.new)) (K.taken out.old) (K.taken out.new) }
     ensures memory { (MayWrite (status_of result) → ⊥) → result ≡ OutOfMemory }
     ensures out_stays { (MayWrite (status_of result) → ⊥) → out.new ≡ out.old }
+    ensures idle { IsRefusal (status_of result) → ⊥ }
     ensures pushes { searches.new ≤ searches.old + (index + 1) * month_pushes basin.now }
 {
     let roll = match Roll::of_basin(alloc, basin) {
@@ -273,6 +277,7 @@ pub fn explain_right<K: Sink, L: Ledger>(
     ensures answers { MayWrite (status_of result) →
         IsAnswered basin.now series.now month name.now result (K.taken out.old) (K.taken out.new) }
     ensures out_stays { (MayWrite (status_of result) → ⊥) → out.new ≡ out.old }
+    ensures idle { IsRefusal (status_of result) → searches.new ≡ searches.old }
     ensures pushes { PushesUpTo basin.now month searches.old searches.new }
 {
     let Some(index) = index_of(basin, month) else {

@@ -8,7 +8,9 @@ ghost use Rattle.water_model.specs.Valid.{IsValidBasin, IsSeriesOf};
 ghost use Rattle.basin_cli.specs.Command.{ServesSeries, named};
 ghost use Rattle.basin_cli.specs.Ending.{CanBeTold};
 ghost use Rattle.basin_cli.specs.Header.{header};
-ghost use Rattle.basin_cli.specs.Outcome.{StopsReading, StopsReadingYears, file_limit, series_told};
+ghost use Rattle.basin_cli.specs.Bytes.{file_limit, series_told};
+ghost use Rattle.basin_cli.specs.Outcome.{StopsReadingYears};
+ghost use Rattle.basin_cli.specs.Reading.{StopsReading};
 ghost use Rattle.basin_cli.specs.Series.{AreLoaded, FileEnds, BasinEnds, BasinReadEnds, SeriesEnds, SeriesReadEnds, YearsReadEnds, IsBasinText, IsSeriesText};
 
 use crate::command::Inputs;

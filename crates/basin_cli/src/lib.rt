@@ -7,13 +7,16 @@ mod command;
 mod compare;
 mod comparing;
 mod draft;
+mod editing;
 mod ending;
 mod explaining;
 mod files;
+mod found;
 mod pairs;
 mod status;
 mod top;
 mod writing;
 
+pub use found::{Found, check_result, runs_are_accepted};
 pub use status::Status;
 pub use top::basin_main;

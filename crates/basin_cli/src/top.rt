@@ -2,13 +2,15 @@
 ghost use Rattle.std.specs.Prelude.{◌≡◌, ◌+◌, ◌*◌, ◌≤◌, Some, map, option_map, string_bytes};
 ghost use Rattle.water_edge.specs.Edge.{Rose};
 ghost use Rattle.water_text.specs.Months.{IsMonth};
-ghost use Rattle.basin_cli.specs.Command.{IsInForm, ServesFiles, ServesSeries, check, command_named, command_of, named, ensemble, report, run, why};
+ghost use Rattle.basin_cli.specs.Command.{IsInForm, ServesFiles, ServesSeries, check, command_named, command_of, edit, named, ensemble, report, run, why};
 ghost use Rattle.basin_cli.specs.Ending.{status_of, CanBeTold};
-ghost use Rattle.basin_cli.specs.Outcome.{EndingHasCause, Ends, Completes, WritesFor, PushesFor, MayWrite, IsQuiet};
+ghost use Rattle.basin_cli.specs.Out.{IsRefusal, MayLeave};
+ghost use Rattle.basin_cli.specs.Outcome.{EndingHasCause, Ends, Completes, WritesFor, PushesFor, IsQuiet};
 
 use crate::actions::{check_bytes, gather_basin, report_basin, run_basin, try_basin};
 use crate::command::{Inputs, Words, command};
 use crate::compare::do_compare;
+use crate::editing::edit_basin;
 use crate::ending::{Ending, File, tell};
 use crate::explaining::explain_right;
 use crate::files::{read_file, read_inputs, read_record};
@@ -31,7 +33,8 @@ fn do_run<S: Shelf, K: Sink, L: Ledger>(
     ensures cause { EndingHasCause (Some (run (named inputs.entry))) result (S.told shelf.old)
         (Rose (S.faults shelf.old) (S.faults shelf.new)) (Rose (K.faults out.old) (K.faults out.new)) }
     ensures writes { WritesFor (Some (run (named inputs.entry))) (status_of result) (S.told shelf.old) (K.taken out.old) (K.taken out.new) }
-    ensures out_stays { (MayWrite (status_of result) → ⊥) → out.new ≡ out.old }
+    ensures out_stays { (MayLeave (Some (run (named inputs.entry))) (status_of result) → ⊥) → out.new ≡ out.old }
+    ensures idle { IsRefusal (status_of result) → searches.new ≡ searches.old }
     ensures pushes { PushesFor (Some (run (named inputs.entry))) (S.told shelf.old) searches.old searches.new }
     ensures told { CanBeTold result }
 {
@@ -54,7 +57,8 @@ fn do_report<S: Shelf, K: Sink, L: Ledger>(
     ensures cause { EndingHasCause (Some (report (named inputs.entry))) result (S.told shelf.old)
         (Rose (S.faults shelf.old) (S.faults shelf.new)) (Rose (K.faults out.old) (K.faults out.new)) }
     ensures writes { WritesFor (Some (report (named inputs.entry))) (status_of result) (S.told shelf.old) (K.taken out.old) (K.taken out.new) }
-    ensures out_stays { (MayWrite (status_of result) → ⊥) → out.new ≡ out.old }
+    ensures out_stays { (MayLeave (Some (report (named inputs.entry))) (status_of result) → ⊥) → out.new ≡ out.old }
+    ensures idle { IsRefusal (status_of result) → searches.new ≡ searches.old }
     ensures pushes { PushesFor (Some (report (named inputs.entry))) (S.told shelf.old) searches.old searches.new }
     ensures told { CanBeTold result }
 {
@@ -77,7 +81,7 @@ fn do_check<S: Shelf, K: Sink>(
     ensures cause { EndingHasCause (Some (check (named inputs.entry) result_name.now)) result (S.told shelf.old)
         (Rose (S.faults shelf.old) (S.faults shelf.new)) (Rose (K.faults out.old) (K.faults out.new)) }
     ensures writes { WritesFor (Some (check (named inputs.entry) result_name.now)) (status_of result) (S.told shelf.old) (K.taken out.old) (K.taken out.new) }
-    ensures out_stays { (MayWrite (status_of result) → ⊥) → out.new ≡ out.old }
+    ensures out_stays { (MayLeave (Some (check (named inputs.entry) result_name.now)) (status_of result) → ⊥) → out.new ≡ out.old }
     ensures told { CanBeTold result }
 {
     let files = match read_inputs(alloc, shelf, inputs) {
@@ -106,7 +110,8 @@ fn do_why<S: Shelf, K: Sink, L: Ledger>(
     ensures cause { EndingHasCause (Some (why (named inputs.entry) month right.now)) result (S.told shelf.old)
         (Rose (S.faults shelf.old) (S.faults shelf.new)) (Rose (K.faults out.old) (K.faults out.new)) }
     ensures writes { WritesFor (Some (why (named inputs.entry) month right.now)) (status_of result) (S.told shelf.old) (K.taken out.old) (K.taken out.new) }
-    ensures out_stays { (MayWrite (status_of result) → ⊥) → out.new ≡ out.old }
+    ensures out_stays { (MayLeave (Some (why (named inputs.entry) month right.now)) (status_of result) → ⊥) → out.new ≡ out.old }
+    ensures idle { IsRefusal (status_of result) → searches.new ≡ searches.old }
     ensures pushes { PushesFor (Some (why (named inputs.entry) month right.now)) (S.told shelf.old) searches.old searches.new }
     ensures told { CanBeTold result }
 {
@@ -137,7 +142,8 @@ fn do_ensemble<S: Shelf, K: Sink, L: Ledger>(
     ensures cause { EndingHasCause (Some (ensemble (named inputs.entry))) result (S.told shelf.old)
         (Rose (S.faults shelf.old) (S.faults shelf.new)) (Rose (K.faults out.old) (K.faults out.new)) }
     ensures writes { WritesFor (Some (ensemble (named inputs.entry))) (status_of result) (S.told shelf.old) (K.taken out.old) (K.taken out.new) }
-    ensures out_stays { (MayWrite (status_of result) → ⊥) → out.new ≡ out.old }
+    ensures out_stays { (MayLeave (Some (ensemble (named inputs.entry))) (status_of result) → ⊥) → out.new ≡ out.old }
+    ensures idle { IsRefusal (status_of result) → searches.new ≡ searches.old }
     ensures pushes { PushesFor (Some (ensemble (named inputs.entry))) (S.told shelf.old) searches.old searches.new }
     ensures told { CanBeTold result }
 {
@@ -146,6 +152,35 @@ fn do_ensemble<S: Shelf, K: Sink, L: Ledger>(
         Err(ending) => return ending,
     };
     gather_basin(alloc, &files.basin, &files.series, out, searches)
+}
+
+/// `edit`: changes numbers of a basin's series as a script says, and puts the months that it shows.
+fn do_edit<S: Shelf, K: Sink, L: Ledger>(
+    alloc: Global,
+    inputs: Inputs,
+    script: &str,
+    shelf: &mut S,
+    out: &mut K,
+    searches: &mut Steps<L>,
+) -> Ending
+    requires { ServesFiles (S.serves shelf.old) (Some (edit (named inputs) script.now)) }
+    ensures cause { EndingHasCause (Some (edit (named inputs.entry) script.now)) result (S.told shelf.old)
+        (Rose (S.faults shelf.old) (S.faults shelf.new)) (Rose (K.faults out.old) (K.faults out.new)) }
+    ensures writes { WritesFor (Some (edit (named inputs.entry) script.now)) (status_of result) (S.told shelf.old) (K.taken out.old) (K.taken out.new) }
+    ensures out_stays { (MayLeave (Some (edit (named inputs.entry) script.now)) (status_of result) → ⊥) → out.new ≡ out.old }
+    ensures idle { IsRefusal (status_of result) → searches.new ≡ searches.old }
+    ensures pushes { PushesFor (Some (edit (named inputs.entry) script.now)) (S.told shelf.old) searches.old searches.new }
+    ensures told { CanBeTold result }
+{
+    let files = match read_inputs(alloc, shelf, inputs) {
+        Ok(files) => files,
+        Err(ending) => return ending,
+    };
+    let text = match read_file(alloc, shelf, script, File::Script) {
+        Ok(text) => text,
+        Err(ending) => return ending,
+    };
+    edit_basin(alloc, &files.basin, &files.series, &text, out, searches)
 }
 
 /// Does what the words say, and leaves err alone.
@@ -160,7 +195,8 @@ fn decide<S: Shelf, K: Sink, L: Ledger>(
     ensures cause { EndingHasCause (command_of (map string_bytes words.now)) result (S.told shelf.old)
         (Rose (S.faults shelf.old) (S.faults shelf.new)) (Rose (K.faults out.old) (K.faults out.new)) }
     ensures writes { WritesFor (command_of (map string_bytes words.now)) (status_of result) (S.told shelf.old) (K.taken out.old) (K.taken out.new) }
-    ensures out_stays { (MayWrite (status_of result) → ⊥) → out.new ≡ out.old }
+    ensures out_stays { (MayLeave (command_of (map string_bytes words.now)) (status_of result) → ⊥) → out.new ≡ out.old }
+    ensures idle { IsRefusal (status_of result) → searches.new ≡ searches.old }
     ensures pushes { PushesFor (command_of (map string_bytes words.now)) (S.told shelf.old) searches.old searches.new }
     ensures told { CanBeTold result }
 {
@@ -170,6 +206,9 @@ fn decide<S: Shelf, K: Sink, L: Ledger>(
         Some(Words::Report(inputs)) => do_report(alloc, inputs, shelf, out, searches),
         Some(Words::Ensemble(inputs)) => do_ensemble(alloc, inputs, shelf, out, searches),
         Some(Words::Check { inputs, result }) => do_check(alloc, inputs, result, shelf, out),
+        Some(Words::Edit { inputs, script }) => do_edit(
+            alloc, inputs, script, shelf, out, searches,
+        ),
         Some(Words::Trial { number, size }) => try_basin(alloc, number, size, out, searches),
         Some(Words::Compare { inputs, second }) => {
             do_compare(alloc, inputs, second, shelf, out, searches)
@@ -205,13 +244,15 @@ pub fn basin_main<S: Shelf, K: Sink, E: Sink, L: Ledger>(
     ensures complete { Completes (command_of (map string_bytes words.now)) result (S.told shelf.old)
         (Rose (S.faults shelf.old) (S.faults shelf.new)) (Rose (K.faults out.old) (K.faults out.new)) }
 
-    // The text of records that keep the priority of rights, a report on them, the answer to a result, or the comparison of two
-    // such lists of records; or after a fault of out a front of it.
+    // The text of records that keep the priority of rights, a report on them, the answer to a result, the comparison of two
+    // such lists of records, or the months that a script shows; or after a fault of out a front of it.
     ensures writes { WritesFor (command_of (map string_bytes words.now)) result (S.told shelf.old) (K.taken out.old) (K.taken out.new) }
-    ensures out_stays { (MayWrite result → ⊥) → out.new ≡ out.old }
+    ensures out_stays { (MayLeave (command_of (map string_bytes words.now)) result → ⊥) → out.new ≡ out.old }
     ensures err_stays { IsQuiet result → err.new ≡ err.old }
 
-    // Each month that is solved has at most so many pushes as its bound allows, and a check has none.
+    // Where words, a file or a script are refused or not read, nothing is solved. Each month that is solved has at most so many
+    // pushes as its bound allows, and a check has none.
+    ensures idle { IsRefusal result → searches.new ≡ searches.old }
     ensures pushes { PushesFor (command_of (map string_bytes words.now)) (S.told shelf.old) searches.old searches.new }
 {
     let ending = decide(alloc, words, shelf, out, searches);

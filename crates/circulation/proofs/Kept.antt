@@ -21,6 +21,7 @@ flow-kept c flow k same f = record {
   };
   ends = k.ends;
   flow = f;
+  rows = k.rows;
 }
 
 -- a month starts with the flow that was given
@@ -40,6 +41,7 @@ month-kept c supply upper start k s = record {
   };
   ends = record { from_in = k.ends.from_in; to_in = k.ends.to_in; apart = k.ends.apart };
   flow = s.flow;
+  rows = k.rows;
 }
 
 -- the lists as they were written one by one

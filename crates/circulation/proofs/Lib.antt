@@ -1,5 +1,5 @@
 pub mod Opened
 pub mod Pushing
 pub mod Kept
-pub mod RowPlaces
+pub mod RowLists
 pub mod RowSums

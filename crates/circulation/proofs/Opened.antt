@@ -6,6 +6,7 @@ use Rattle.std.proofs.lemmas.List.{get_or-map, length-map, get_or-replicate}
 use Rattle.circulation.specs.declared.Ends.{Ends}
 use Rattle.place_sums.specs.Sums.{when}
 use Rattle.circulation.specs.Network.{HasEnds, inflow, outflow}
+use Rattle.circulation.specs.Rows.{Rows, AreRows}
 use Rattle.circulation.specs.Contents.{network, flow_of, IsCirculation, empty_contents}
 use Rattle.place_sums.proofs.Totals.{total_zero}
 
@@ -54,10 +55,10 @@ when-zero true x h = h
 when-zero false x h = refl
 
 -- all amounts 0 are a flow
-pub empty-circulation : (nodes : ℕ) (from to : List ℕ) → nodes < 2 ^ 32 → length from < 2 ^ 32 →
-    length to ≡ length from → HasEnds (network (empty_contents nodes from to)) →
-    IsCirculation (empty_contents nodes from to)
-empty-circulation nodes from to few_nodes few_arcs same ends = record {
+pub empty-circulation : (nodes : ℕ) (from to : List ℕ) (rows : Rows) → nodes < 2 ^ 32 → length from < 2 ^ 32 →
+    length to ≡ length from → HasEnds (network (empty_contents nodes from to rows)) →
+    AreRows nodes from to rows → IsCirculation (empty_contents nodes from to rows)
+empty-circulation nodes from to rows few_nodes few_arcs same ends are_rows = record {
   shape = record {
     few_nodes = few_nodes;
     few_arcs = few_arcs;
@@ -75,34 +76,23 @@ empty-circulation nodes from to few_nodes few_arcs same ends = record {
     high = λ a b. grind (arith, common_steps);
     balanced = λ v b.
         let none = get_or-replicate {A = ℕ} nodes v 0 0 b in
-        let into : inflow (network (empty_contents nodes from to))
-        (flow_of (empty_contents nodes from to)) v ≡ 0 = total_zero (length from) _
+        let into : inflow (network (empty_contents nodes from to rows))
+        (flow_of (empty_contents nodes from to rows)) v ≡ 0 = total_zero (length from) _
         (λ a c. when-zero (get_or to a 0 == v) _ (get_or-replicate {A = ℕ} (length from) a 0 0 c)) in
-        let out : outflow (network (empty_contents nodes from to))
-        (flow_of (empty_contents nodes from to)) v ≡ 0 = total_zero (length from) _
+        let out : outflow (network (empty_contents nodes from to rows))
+        (flow_of (empty_contents nodes from to rows)) v ≡ 0 = total_zero (length from) _
         (λ a c. when-zero (get_or from a 0 == v) _ (get_or-replicate {A = ℕ} (length from) a 0 0 c)) in
         omega (arith, none, into, out);
   };
+  rows = are_rows;
 }
 
 -- the lists as they were made one by one
-pub circulation_when_empty : (nodes : ℕ) (from to supply lower upper flow scratch : List ℕ) →
+pub circulation_when_empty : (nodes : ℕ) (from to supply lower upper flow scratch : List ℕ) (rows : Rows) →
     supply ≡ replicate nodes 0 → lower ≡ replicate (length from) 0 → upper ≡ replicate (length from) 0 →
     flow ≡ replicate (length from) 0 → scratch ≡ replicate (4 * nodes + 8) 0 → nodes < 2 ^ 32 → length from < 2 ^ 32 →
-    length to ≡ length from → HasEnds (network (empty_contents nodes from to)) →
-    IsCirculation record {
-      nodes = nodes;
-      from = from;
-      to = to;
-      supply = supply;
-      lower = lower;
-      upper = upper;
-      flow =
-          flow;
-      scratch = scratch;
-    }
-circulation_when_empty nodes from to supply lower upper flow scratch s l u f w few_nodes few_arcs same ends =
-    let is : empty_contents nodes from to ≡ record {
+    length to ≡ length from → HasEnds (network (empty_contents nodes from to rows)) →
+    AreRows nodes from to rows → IsCirculation record {
       nodes = nodes;
       from = from;
       to = to;
@@ -110,7 +100,19 @@ circulation_when_empty nodes from to supply lower upper flow scratch s l u f w f
       lower = lower;
       upper = upper;
       flow = flow;
-      scratch =
-          scratch;
+      scratch = scratch;
+      rows = rows;
+    }
+circulation_when_empty nodes from to supply lower upper flow scratch rows s l u f w few few_arcs same ends are_rows =
+    let is : empty_contents nodes from to rows ≡ record {
+      nodes = nodes;
+      from = from;
+      to = to;
+      supply = supply;
+      lower = lower;
+      upper = upper;
+      flow = flow;
+      scratch = scratch;
+      rows = rows;
     } = cc in
-    subst IsCirculation is (empty-circulation nodes from to few_nodes few_arcs same ends)
+    subst IsCirculation is (empty-circulation nodes from to rows few few_arcs same ends are_rows)

@@ -1,68 +1,182 @@
--- A sum over the arcs of a row.
-use Rattle.std.proofs.Common.{ℕ, zero, suc, ◌==◌, ◌≡◌, ◌≢◌, ◌+◌, ◌-◌, ◌*◌, ◌^◌, ◌<◌, ◌≤◌, Fits, w64, Bool, true, false, Option, Some, MatchOption, List, length, slice_index, arith, ap, sym, subst, ◌∙◌}
-use Rattle.std.proofs.lemmas.Bool.{eq-eqb, ne_eqb}
+-- A sum over the steps of a row is one over arcs.
+use Rattle.std.proofs.Common.{ℕ, zero, suc, Fits, w64, Bool, true, false, not, ◌==◌, ◌≡◌, ◌+◌, ◌-◌, ◌*◌, ◌%◌, ◌^◌, ◌<◌, ◌≤◌, List, length, slice_index, refl, arith, ap, sym, inl, inr, ◌∙◌}
+use Rattle.std.proofs.lemmas.Bool.{cases_eq, cases_Bool, eq-eqb, ne_eqb, eqb-true, eqb-false}
 use Rattle.place_sums.specs.Sums.{total, when}
-use Rattle.place_sums.proofs.Totals.{total_zero, total_append, total_more}
-use Rattle.circulation.specs.ArcRows.{AnswersNext}
-use Rattle.circulation.proofs.RowPlaces.{place, place_of}
+use Rattle.place_sums.proofs.Totals.{total_more, total_same, total_zero, total_exchange, total_pick}
+use Rattle.circulation.specs.Residual.{arc_of, is_back, by_way}
+use Rattle.circulation.specs.Rows.{Rows, IsInRow, IsRow}
 
--- the sum of the amounts of the arcs with the key v before the next one
-pub record IsSummed (keys amounts : List ℕ) (v : ℕ) (next : Option ℕ) (sum : ℕ) : Type 0 where
-  pub within : place next (length keys) ≤ length keys
-  pub some : MatchOption next (Unit {0}) (λ a. (a < length keys) × (slice_index keys a ≡ v))
-  pub is : sum ≡ total (place next (length keys)) (λ a. when (slice_index keys a == v) (slice_index amounts a))
+-- no test is true and false
+clash : (t : Bool) → t ≡ true → t ≡ false → ⊥
+clash t is fails = let e : true ≡ false = sym is ∙ fails in cc
 
--- arcs with other keys add nothing
-skipped_sum : (keys amounts : List ℕ) (v from more : ℕ) →
-    ((b : ℕ) → from ≤ b → b < from + more → slice_index keys b ≢ v) →
-    total (from + more) (λ a. when (slice_index keys a == v) (slice_index amounts a)) ≡ total from
-    (λ a. when (slice_index keys a == v) (slice_index amounts a))
-skipped_sum keys amounts v from more h =
-    let f : ℕ → ℕ = λ a. when (slice_index keys a == v) (slice_index amounts a) in
-    let none = total_zero more (λ k. f (from + k))
-    (λ k b. ap (λ (t : Bool). when t (slice_index amounts (from + k)))
-    (ne_eqb (slice_index keys (from + k)) v (h (from + k) (omega arith) (omega arith)))) in
-    omega (arith, total_append from more f, none)
+-- what is not true is false
+not_true : (t : Bool) → not t ≡ true → t ≡ false
+not_true true h = cc
+not_true false h = refl
 
--- arcs with other keys up to a place add nothing
-sum_upto : (keys amounts : List ℕ) (v from upto : ℕ) → from ≤ upto →
-    ((b : ℕ) → from ≤ b → b < upto → slice_index keys b ≢ v) →
-    total upto (λ a. when (slice_index keys a == v) (slice_index amounts a)) ≡ total from
-    (λ a. when (slice_index keys a == v) (slice_index amounts a))
-sum_upto keys amounts v from upto b h =
-    let split : from + (upto - from) ≡ upto = omega arith in
-    let same = ap (λ (n : ℕ). total n (λ a. when (slice_index keys a == v) (slice_index amounts a))) split in
-    sym same ∙ skipped_sum keys amounts v from (upto - from) (λ b' c d. h b' c (omega arith))
+-- what is known of numbered places: those that pass a test have numbers of arcs, and each arc with the key v has one
+-- place
+record AreNumbered (n arcs v : ℕ) (at number key : ℕ → ℕ) (test : ℕ → Bool) : Type 0 where
+  passes : (k : ℕ) → k < n → test (at k) ≡ true → (arc_of (at k) < arcs) × (at k ≡ number (arc_of (at k)))
+  numbers : (k a : ℕ) → k < n → a < arcs → at k ≡ number a → (test (at k) ≡ true) × ((key a ≡ v) × (arc_of (at k) ≡ a))
+  place : (a : ℕ) → a < arcs → key a ≡ v → (k : ℕ) × ((k < n) × (at k ≡ number a))
+  once : (j k : ℕ) → j < n → k < n → at j ≡ at k → j ≡ k
 
--- before the first arc of the row
-pub summed_start : (keys amounts : List ℕ) (v : ℕ) (next : Option ℕ) → AnswersNext next keys v 0 →
-    IsSummed keys amounts v next 0
-summed_start keys amounts v next h =
-    let p = place_of keys v 0 next h in
-    record {
-      within = p.within;
-      some = p.some;
-      is = sym (sum_upto keys amounts v 0 (place next (length keys)) (omega arith) p.skipped ∙ total_zero 0 _
-          (λ k b. absurd (omega arith)));
+-- the sum over the places that pass is that over the arcs with the key
+sum_over : (n arcs v : ℕ) (at number key g : ℕ → ℕ) (test : ℕ → Bool) → AreNumbered n arcs v at number key test →
+    total n (λ k. when (test (at k)) (g (arc_of (at k)))) ≡ total arcs (λ a. when (key a == v) (g a))
+sum_over n arcs v at number key g test h =
+    let f : ℕ → ℕ → ℕ = λ k a. when (at k == number a) (g a) in
+    let by_place : (k : ℕ) → k < n → when (test (at k)) (g (arc_of (at k))) ≡ total arcs (λ a. f k a) =
+    λ k b. elim (cases_Bool (test (at k))) [
+      | inl passes ↦
+          let p = h.passes k b passes in
+          ap (λ (t : Bool). when t (g (arc_of (at k)))) passes
+          ∙ sym (total_pick arcs (arc_of (at k)) (λ a. f k a) p.0
+          (λ a c ne. ap (λ (t : Bool). when t (g a)) (ne_eqb (at k) (number a)
+          (λ e. ne (sym (h.numbers k a b c e).1.1)))) ∙ ap
+          (λ (t : Bool). when t (g (arc_of (at k)))) (eq-eqb (at k) (number (arc_of (at k))) p.1))
+      | inr fails ↦
+          ap (λ (t : Bool). when t (g (arc_of (at k)))) fails
+          ∙ sym (total_zero arcs (λ a. f k a) (λ a c. ap (λ (t : Bool). when t (g a))
+          (ne_eqb (at k) (number a) (λ e. absurd (clash (test (at k)) (h.numbers k a b c e).0 fails)))))
+    ] in
+    let by_arc : (a : ℕ) → a < arcs → when (key a == v) (g a) ≡ total n (λ k. f k a) =
+    λ a c. elim (cases_eq (key a) v) [
+      | inl is ↦
+          let p = h.place a c is in
+          ap (λ (t : Bool). when t (g a)) (eq-eqb (key a) v is)
+          ∙ sym (total_pick n p.0 (λ k. f k a) p.1.0
+          (λ k b ne. ap (λ (t : Bool). when t (g a)) (ne_eqb (at k) (number a)
+          (λ e. ne (h.once k p.0 b p.1.0 (e ∙ sym p.1.1)))))
+          ∙ ap (λ (t : Bool). when t (g a)) (eq-eqb (at p.0) (number a) p.1.1))
+      | inr ne ↦
+          ap (λ (t : Bool). when t (g a)) (ne_eqb (key a) v ne)
+          ∙ sym (total_zero n (λ k. f k a) (λ k b. ap (λ (t : Bool). when t (g a))
+          (ne_eqb (at k) (number a) (λ e. ne (h.numbers k a b c e).1.0))))
+    ] in
+    total_same n _ _ by_place ∙ total_exchange n arcs f ∙ sym (total_same arcs _ _ by_arc)
+
+-- the steps backward of a row go over the arcs that enter its node
+pub row_inflow : (from to : List ℕ) (r : Rows) (v : ℕ) (g : ℕ → ℕ) → IsRow from to r v →
+    total (slice_index r.first (v + 1) - slice_index r.first v)
+    (λ k. when (is_back (slice_index r.step (slice_index r.first v + k)))
+    (g (arc_of (slice_index r.step (slice_index r.first v + k)))))
+    ≡ total (length from) (λ a. when (slice_index to a == v) (g a))
+row_inflow from to r v g row =
+    let first = slice_index r.first v in
+    let last = slice_index r.first (v + 1) in
+    let n = last - first in
+    let at : ℕ → ℕ = λ k. slice_index r.step (first + k) in
+    let order = row.order in
+    let inside : (k : ℕ) → k < n → IsInRow r v (first + k) = λ k b. record
+    { from = omega arith; below = omega arith } in
+    sum_over n (length from) v at (λ a. 2 * a + 1) (slice_index to) g is_back record {
+      passes = λ k b back.
+          let odd = eqb-true (at k % 2) 1 back in
+          ((row.leads (first + k) (inside k b)).arc, omega (arith, odd));
+      numbers = λ k a b c is.
+          let back : is_back (at k) ≡ true = eq-eqb (at k % 2) 1 (omega (arith, is)) in
+          let arc : arc_of (at k) ≡ a = omega (arith, is) in (
+            back,
+            (
+              ap (slice_index to) (sym arc)
+                  ∙ sym (ap (λ (t : Bool). by_way t (slice_index from (arc_of (at k))) (slice_index to (arc_of (at k))))
+                  back)
+                  ∙ (row.leads (first + k) (inside k b)).start,
+              arc,
+            ),
+          );
+      place = λ a b is.
+          let arc : arc_of (2 * a + 1) ≡ a = omega arith in
+          let back : is_back (2 * a + 1) ≡ true = eq-eqb ((2 * a + 1) % 2) 1 (omega arith) in
+          let p = row.all (2 * a + 1) (omega (arith, arc))
+          (ap (λ (t : Bool). by_way t (slice_index from (arc_of (2 * a + 1))) (slice_index to (arc_of (2 * a + 1))))
+          back
+          ∙ ap (slice_index to) arc ∙ is) in
+          let from = p.1.0.from in
+          let below = p.1.0.below in
+          let there : first + (p.0 - first) ≡ p.0 = omega arith in
+          (p.0 - first, (omega arith, ap (slice_index r.step) there ∙ p.1.1));
+      once = λ j k b c e. let same = row.once (first + j) (first + k) (inside j b) (inside k c) e in omega arith;
     }
 
--- one more arc of the row
-pub summed_next : (keys amounts : List ℕ) (v arc : ℕ) (answer next : Option ℕ) (sum : ℕ) →
-    IsSummed keys amounts v answer sum → answer ≡ Some arc → AnswersNext next keys (slice_index keys arc) (arc + 1) →
-    IsSummed keys amounts v next (sum + slice_index amounts arc)
-summed_next keys amounts v arc answer next sum s is h =
-    let own = subst (λ (o : Option ℕ). IsSummed keys amounts v o sum) is s in
-    let key = own.some.1 in
-    let p = place_of keys v (arc + 1) next (subst (λ (u : ℕ). AnswersNext next keys u (arc + 1)) key h) in
-    let f : ℕ → ℕ = λ a. when (slice_index keys a == v) (slice_index amounts a) in
-    let here : f arc ≡ slice_index amounts arc = ap (λ (t : Bool). when t (slice_index amounts arc))
-    (eq-eqb (slice_index keys arc) v key) in
-    let more = sum_upto keys amounts v (arc + 1) (place next (length keys)) p.after p.skipped in
-    record {
-      within = p.within;
-      some = p.some;
-      is = omega (arith, own.is, here, total_more arc f, more);
+-- and those forward over the arcs that leave it
+pub row_outflow : (from to : List ℕ) (r : Rows) (v : ℕ) (g : ℕ → ℕ) → IsRow from to r v →
+    total (slice_index r.first (v + 1) - slice_index r.first v)
+    (λ k. when (not (is_back (slice_index r.step (slice_index r.first v + k))))
+    (g (arc_of (slice_index r.step (slice_index r.first v + k)))))
+    ≡ total (length from) (λ a. when (slice_index from a == v) (g a))
+row_outflow from to r v g row =
+    let first = slice_index r.first v in
+    let last = slice_index r.first (v + 1) in
+    let n = last - first in
+    let at : ℕ → ℕ = λ k. slice_index r.step (first + k) in
+    let order = row.order in
+    let inside : (k : ℕ) → k < n → IsInRow r v (first + k) = λ k b. record
+    { from = omega arith; below = omega arith } in
+    sum_over n (length from) v at (λ a. 2 * a) (slice_index from) g (λ s. not (is_back s)) record {
+      passes = λ k b forth.
+          let even = eqb-false (at k % 2) 1 (not_true (is_back (at k)) forth) in
+          ((row.leads (first + k) (inside k b)).arc, omega (arith, even));
+      numbers = λ k a b c is.
+          let forth : is_back (at k) ≡ false = ne_eqb (at k % 2) 1 (λ e. absurd (omega (arith, is, e))) in
+          let arc : arc_of (at k) ≡ a = omega (arith, is) in (
+            ap not forth,
+            (
+              ap (slice_index from) (sym arc)
+                  ∙ sym (ap (λ (t : Bool). by_way t (slice_index from (arc_of (at k))) (slice_index to (arc_of (at k))))
+                  forth)
+                  ∙ (row.leads (first + k) (inside k b)).start,
+              arc,
+            ),
+          );
+      place = λ a b is.
+          let arc : arc_of (2 * a) ≡ a = omega arith in
+          let forth : is_back (2 * a) ≡ false = ne_eqb (2 * a % 2) 1 (λ e. absurd (omega (arith, e))) in
+          let p = row.all (2 * a) (omega (arith, arc))
+          (ap (λ (t : Bool). by_way t (slice_index from (arc_of (2 * a))) (slice_index to (arc_of (2 * a)))) forth
+          ∙ ap (slice_index from) arc ∙ is) in
+          let from = p.1.0.from in
+          let below = p.1.0.below in
+          let there : first + (p.0 - first) ≡ p.0 = omega arith in
+          (p.0 - first, (omega arith, ap (slice_index r.step) there ∙ p.1.1));
+      once = λ j k b c e. let same = row.once (first + j) (first + k) (inside j b) (inside k c) e in omega arith;
     }
+
+-- the sum of the amounts of the arcs over which the steps before a place of a row go, as far as the steps pass a test
+pub record IsRowSum (r : Rows) (amounts : List ℕ) (v : ℕ) (test : ℕ → Bool) (place sum : ℕ) : Type 0 where
+  pub from : slice_index r.first v ≤ place
+  pub is : sum ≡ total (place - slice_index r.first v) (λ k. when
+      (test (slice_index r.step (slice_index r.first v + k)))
+      (slice_index amounts (arc_of (slice_index r.step (slice_index r.first v + k)))))
+
+-- before the first step
+pub row_sum_start : (r : Rows) (amounts : List ℕ) (v : ℕ) (test : ℕ → Bool) (place : ℕ) → place ≡ slice_index r.first v
+    →
+    IsRowSum r amounts v test place 0
+row_sum_start r amounts v test place is =
+    let none : place - slice_index r.first v ≡ 0 = omega arith in
+    record { from = omega arith; is = sym (total_zero (place - slice_index r.first v) _ (λ k b. absurd (omega arith))) }
+
+-- one more step was tried
+pub row_sum_next : (r : Rows) (amounts : List ℕ) (v : ℕ) (test : ℕ → Bool) (place sum : ℕ) →
+    IsRowSum r amounts v test place sum →
+    IsRowSum r amounts v test (place + 1) (sum + when (test (slice_index r.step place))
+    (slice_index amounts (arc_of (slice_index r.step place))))
+row_sum_next r amounts v test place sum s =
+    let first = slice_index r.first v in
+    let f : ℕ → ℕ = λ k. when (test (slice_index r.step (first + k)))
+    (slice_index amounts (arc_of (slice_index r.step (first + k)))) in
+    let from = s.from in
+    let more : place + 1 - first ≡ place - first + 1 = omega arith in
+    let here : first + (place - first) ≡ place = omega arith in
+    let last : f (place - first) ≡ when (test (slice_index r.step place))
+    (slice_index amounts (arc_of (slice_index r.step place))) =
+    ap (λ (p : ℕ). when (test (slice_index r.step p)) (slice_index amounts (arc_of (slice_index r.step p)))) here in
+    record { from = omega arith; is = omega (arith, s.is, ap (λ (n : ℕ). total n f) more, total_more (place - first) f,
+    last) }
 
 -- a sum of terms of at most m each
 pub total_at_most : (n m : ℕ) (f : ℕ → ℕ) → ((k : ℕ) → f k ≤ m) → total n f ≤ n * m
@@ -75,11 +189,25 @@ when_le : (t : Bool) (x m : ℕ) → x ≤ m → when t x ≤ m
 when_le true x m h = h
 when_le false x m h = omega arith
 
--- a sum of words over fewer than 2^32 arcs
-pub summed_small : (keys amounts : List ℕ) (v : ℕ) (answer : Option ℕ) (sum : ℕ) → length keys < 2 ^ 32 →
-    ((a : ℕ) → Fits w64 (slice_index amounts a)) → IsSummed keys amounts v answer sum → sum + 2 ^ 64 ≤ 2 ^ 96
-summed_small keys amounts v answer sum few fits s =
-    let each = total_at_most (place answer (length keys)) (2 ^ 64)
-    (λ a. when (slice_index keys a == v) (slice_index amounts a))
-    (λ k. when_le (slice_index keys k == v) (slice_index amounts k) (2 ^ 64) (omega (arith, fits k))) in
-    omega (arith, each, s.is, s.within)
+-- a sum of words over places that are words
+pub row_sum_small : (r : Rows) (amounts : List ℕ) (v : ℕ) (test : ℕ → Bool) (place sum : ℕ) →
+    ((a : ℕ) → Fits w64 (slice_index amounts a)) → IsRowSum r amounts v test place sum → sum ≤ place * 2 ^ 64
+row_sum_small r amounts v test place sum fits s =
+    let first = slice_index r.first v in
+    let each = total_at_most (place - first) (2 ^ 64)
+    (λ k. when (test (slice_index r.step (first + k))) (slice_index amounts (arc_of (slice_index r.step (first + k)))))
+    (λ k. when_le (test (slice_index r.step (first + k))) (slice_index amounts
+    (arc_of (slice_index r.step (first + k)))) (2 ^ 64)
+    (omega (arith, fits (arc_of (slice_index r.step (first + k)))))) in
+    omega (arith, each, s.is)
+
+-- at the end of the row
+pub row_sum_all : (r : Rows) (amounts : List ℕ) (v : ℕ) (test : ℕ → Bool) (place sum : ℕ) →
+    place ≡ slice_index r.first (v + 1) → IsRowSum r amounts v test place sum →
+    sum ≡ total (slice_index r.first (v + 1) - slice_index r.first v)
+    (λ k. when (test (slice_index r.step (slice_index r.first v + k)))
+    (slice_index amounts (arc_of (slice_index r.step (slice_index r.first v + k)))))
+row_sum_all r amounts v test place sum end s =
+    let first = slice_index r.first v in
+    s.is ∙ ap (λ (p : ℕ). total (p - first) (λ k. when (test (slice_index r.step (first + k)))
+    (slice_index amounts (arc_of (slice_index r.step (first + k)))))) end

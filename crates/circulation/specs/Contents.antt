@@ -1,8 +1,9 @@
 -- What a circulation holds, as contracts see it.
 use Rattle.std.specs.Prelude.{ℕ, ◌≡◌, ◌+◌, ◌*◌, ◌^◌, ◌<◌, ◌≤◌, List, length, slice_index, slice_set, max, replicate}
 use Rattle.circulation.specs.Network.{Network, IsFlow, HasEnds}
+use Rattle.circulation.specs.Rows.{Rows, AreRows}
 
--- ends, bounds and flow by arc, supplies by node, and words that a search may use
+-- ends, bounds and flow by arc, supplies by node, words that a search may use, and the steps that leave each node
 pub record Contents : Type 0 where
   pub nodes : ℕ
   pub from : List ℕ
@@ -12,6 +13,7 @@ pub record Contents : Type 0 where
   pub upper : List ℕ
   pub flow : List ℕ
   pub scratch : List ℕ
+  pub rows : Rows
 
 -- how many arcs there are
 abbrev pub arcs : Contents → ℕ
@@ -50,14 +52,15 @@ pub record IsCirculation (c : Contents) : Type 0 where
   pub shape : HasShape c
   pub ends : HasEnds (network c)
   pub flow : IsFlow (network c) (flow_of c)
+  pub rows : AreRows c.nodes c.from c.to c.rows
 
 -- the scratch word at a place, which may be a step of a walk
 abbrev pub step_of : Contents → ℕ → ℕ
 step_of c i = slice_index c.scratch i
 
 -- no supply, no room and no flow
-abbrev pub empty_contents : ℕ → List ℕ → List ℕ → Contents
-empty_contents nodes from to = record {
+abbrev pub empty_contents : ℕ → List ℕ → List ℕ → Rows → Contents
+empty_contents nodes from to rows = record {
   nodes = nodes;
   from = from;
   to = to;
@@ -66,6 +69,7 @@ empty_contents nodes from to = record {
   upper = replicate (length from) 0;
   flow = replicate (length from) 0;
   scratch = replicate (4 * nodes + 8) 0;
+  rows = rows;
 }
 
 -- the contents with an amount held on an arc, which raises its lower bound if it is greater

@@ -1,5 +1,6 @@
 pub mod Network
 pub mod Residual
+pub mod Rows
+pub mod Chains
 pub mod Contents
-pub mod ArcRows
 pub mod Circulation

@@ -7,12 +7,14 @@
 #![tactic(auto)]
 
 ghost use Rattle.std.specs.Prelude.{IsTrue, ◌↔◌, ◌≡◌, true, false, not, ℕ, ◌+◌, ◌-◌, ◌*◌, ◌^◌, ◌<◌, ◌≤◌, ◌≢◌, length, slice_index, slice_set, map, IfOk, IfSome, IfNone, All};
-ghost use Rattle.circulation.specs.ArcRows.{IsNext, AnswersNext, AreArcRows};
 ghost use Rattle.circulation.specs.Contents.{arcs, flow_of, step_of, empty_contents, held_contents, month_contents, network, IsCirculation, IsStart};
 ghost use Rattle.circulation.specs.Network.{inflow, outflow};
 ghost use Rattle.circulation.specs.Residual.{arc_of, is_back, IsClosedWalk, IsPushed};
 ghost use Rattle.place_sums.specs.Sums.{when};
 
+mod rows;
+
+use crate::rows::{StepRows, make_rows};
 use std::alloc::{AllocError, Global};
 use std::marker::Model;
 use std::sync::ledger::Ledger;
@@ -28,44 +30,6 @@ pub struct Ends {
     pub from: u32,
     /// The head.
     pub to: u32,
-}
-
-/// The arcs at each node as linked lists, least first: the first arc of each node, and after each arc
-/// the next one at the same node. The number of arcs stands for none.
-#[derive(Drop)]
-struct ArcRows {
-    first: Vec<u32>,
-    next: Vec<u32>,
-}
-
-/// Links each arc to the next one with its key, from the last arc to the first.
-fn link(first: &mut [u32], next: &mut [u32], keys: &[u32])
-    requires few { length keys.now < 2 ^ 32 }
-    requires nexts { length next.old ≡ length keys.now }
-    requires within { (a : ℕ) → a < length keys.now → slice_index keys.now a < length first.old }
-    requires none { (v : ℕ) → v < length first.old → slice_index first.old v ≡ length keys.now }
-    ensures starts { (v : ℕ) → v < length first.new → IsNext keys.now v 0 (slice_index first.new v) }
-    ensures follows { (a : ℕ) → a < length keys.now →
-        IsNext keys.now (slice_index keys.now a) (a + 1) (slice_index next.new a) }
-{
-    for a in (0..keys.len()).rev() {
-        let key = keys[a] as usize;
-        next[a] = first[key];
-        first[key] = a as u32;
-    }
-}
-
-/// The rows of arcs by a key of each, which is the node at one of its ends.
-fn make_rows(alloc: Global, keys: &[u32], nodes: u32) -> Result<ArcRows, AllocError>
-    requires few { length keys.now < 2 ^ 32 }
-    requires within { (a : ℕ) → a < length keys.now → slice_index keys.now a ≤ nodes }
-    ensures { IfOk result (λ r. AreArcRows keys.now nodes r.first.items r.next.items) }
-{
-    let none = keys.len() as u32;
-    let mut first = vec![in alloc; none; nodes as usize + 1]?;
-    let mut next = vec![in alloc; none; keys.len()]?;
-    link(&mut first, &mut next, keys);
-    Ok(ArcRows { first, next })
 }
 
 /// The tails of arcs.
@@ -94,8 +58,7 @@ pub struct Circulation {
     upper: Vec<u64>,
     flow: Vec<u64>,
     scratch: Vec<u64>,
-    leaving: ArcRows,
-    entering: ArcRows,
+    rows: StepRows,
 }
 
 impl Model for Circulation {
@@ -116,12 +79,12 @@ impl Circulation {
     pub fn open(alloc: Global, nodes: u32, ends: &[Ends]) -> Result<Circulation, AllocError>
         requires few { length ends.now < 2 ^ 32 }
         requires ends { All (λ e. (e.from ≤ nodes) × (e.to ≤ nodes) × (e.from ≢ e.to)) ends.now }
-        ensures { IfOk result (λ c. c ≡ empty_contents nodes (map (λ e. e.from) ends.now) (map (λ e. e.to) ends.now)) }
+        ensures { IfOk result (λ c.
+            c ≡ empty_contents nodes (map (λ e. e.from) ends.now) (map (λ e. e.to) ends.now) c.rows) }
     {
         let from = from_ends(alloc, ends)?;
         let to = to_ends(alloc, ends)?;
-        let leaving = make_rows(alloc, &from, nodes)?;
-        let entering = make_rows(alloc, &to, nodes)?;
+        let rows = make_rows(alloc, nodes, &from, &to)?;
         let basin = nodes as usize;
         Ok(Circulation {
             nodes,
@@ -132,8 +95,7 @@ impl Circulation {
             scratch: vec![in alloc; 0; 4 * basin + 8]?,
             from,
             to,
-            leaving,
-            entering,
+            rows,
         })
     }
 
@@ -258,13 +220,14 @@ impl Circulation {
         requires node { node ≤ self.now.nodes }
         requires amounts { length amounts.now ≡ arcs self.now }
         ensures sum { result ≡ inflow (network self.now) (slice_index amounts.now) node }
-        ensures small { result < 2 ^ 96 }
+        ensures small { result + 2 ^ 64 ≤ 2 ^ 128 }
     {
         let mut sum = 0u128;
-        let mut next = self.first_in(node);
-        while let Some(arc) = next {
-            sum += u128::from(amounts[arc as usize]);
-            next = self.next_in(arc);
+        for place in self.row_first(node)..self.row_last(node) {
+            let step = self.step_at(place);
+            if step % 2 == 1 {
+                sum += u128::from(amounts[(step / 2) as usize]);
+            }
         }
         sum
     }
@@ -276,10 +239,11 @@ impl Circulation {
         ensures { result ≡ outflow (network self.now) (slice_index amounts.now) node }
     {
         let mut sum = 0u128;
-        let mut next = self.first_out(node);
-        while let Some(arc) = next {
-            sum += u128::from(amounts[arc as usize]);
-            next = self.next_out(arc);
+        for place in self.row_first(node)..self.row_last(node) {
+            let step = self.step_at(place);
+            if step % 2 == 0 {
+                sum += u128::from(amounts[(step / 2) as usize]);
+            }
         }
         sum
     }
@@ -308,38 +272,39 @@ impl Circulation {
         searches.tick();
     }
 
-    /// The least arc that leaves a node, or None exactly where there is none.
-    pub fn first_out(&self, node: u32) -> Option<u32>
+    /// The place at which the row of a node begins: the steps that leave the node, forward over the arcs that leave it,
+    /// by arc, and then backward over those that enter it.
+    pub fn row_first(&self, node: u32) -> usize
         requires { node ≤ self.now.nodes }
-        ensures arc { AnswersNext result self.now.from node 0 }
+        ensures place { result ≡ slice_index self.now.rows.first node }
         ensures kept { IsCirculation self.now }
     {
-        arc_or_none(self.leaving.first[node as usize], self.from.len())
+        self.rows.first[node as usize]
     }
 
-    /// The next greater arc that leaves the same node, or None exactly where there is none.
-    pub fn next_out(&self, arc: u32) -> Option<u32>
-        requires { arc < arcs self.now }
-        ensures { AnswersNext result self.now.from (slice_index self.now.from arc) (arc + 1) }
-    {
-        arc_or_none(self.leaving.next[arc as usize], self.from.len())
-    }
-
-    /// The least arc that enters a node, or None exactly where there is none.
-    pub fn first_in(&self, node: u32) -> Option<u32>
+    /// The place before which the row of a node ends.
+    pub fn row_last(&self, node: u32) -> usize
         requires { node ≤ self.now.nodes }
-        ensures arc { AnswersNext result self.now.to node 0 }
+        ensures place { result ≡ slice_index self.now.rows.first (node + 1) }
         ensures kept { IsCirculation self.now }
     {
-        arc_or_none(self.entering.first[node as usize], self.to.len())
+        self.rows.first[node as usize + 1]
     }
 
-    /// The next greater arc that enters the same node, or None exactly where there is none.
-    pub fn next_in(&self, arc: u32) -> Option<u32>
-        requires { arc < arcs self.now }
-        ensures { AnswersNext result self.now.to (slice_index self.now.to arc) (arc + 1) }
+    /// The step at a place of a row: 2 * a goes over the arc a forward, and 2 * a + 1 backward.
+    pub fn step_at(&self, place: usize) -> u64
+        requires { place < length self.now.rows.step }
+        ensures { result ≡ slice_index self.now.rows.step place }
     {
-        arc_or_none(self.entering.next[arc as usize], self.to.len())
+        self.rows.step[place]
+    }
+
+    /// The node that the step at a place of a row enters.
+    pub fn end_at(&self, place: usize) -> u32
+        requires { place < length self.now.rows.step }
+        ensures { result ≡ slice_index self.now.rows.end place }
+    {
+        self.rows.end[place]
     }
 
     /// A scratch word.
@@ -357,19 +322,6 @@ impl Circulation {
         ensures written { self.new ≡ record self.old { scratch = slice_set self.old.scratch at value } }
     {
         self.scratch[at] = value;
-    }
-}
-
-/// An arc of a row, or None where its place is past the arcs.
-fn arc_or_none(place: u32, count: usize) -> Option<u32>
-    requires { place ≤ count }
-    ensures some { IfSome result (λ a. (a ≡ place) × (place < count)) }
-    ensures none { IfNone result (place ≡ count) }
-{
-    if (place as usize) < count {
-        Some(place)
-    } else {
-        None
     }
 }
 

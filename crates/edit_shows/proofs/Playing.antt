@@ -19,6 +19,7 @@ use Rattle.edit_script.specs.Edits.{IsPlaced, cost_from, edited, edited_by, kept
 use Rattle.edit_script.specs.declared.edit.Edit.{Edit}
 use Rattle.edit_script.specs.declared.edit.Edit.TheVariants.{Inflow, Want, Show}
 use Rattle.edit_session.specs.Sessions.{IsKept, SessionSeen}
+use Rattle.edit_shows.proofs.Agreeing.{runs_agree}
 use Rattle.edit_shows.specs.Shown.{Answers, AnswersWhole, AreShown, HaveShown, IsMonthOf, PutsFront, done_bytes, months_bytes, shows_in}
 use Rattle.edit_shows.specs.declared.stop.EditStop.{EditStop}
 use Rattle.edit_shows.specs.declared.stop.EditStop.TheVariants as stop
@@ -150,13 +151,12 @@ costs_stop edits i e kept p start before after whole l is so_far pushed =
     let most = costs_more edits i e kept (kept_by kept e + solved_by kept e) p start before after whole l is so_far pushed refl in omega arith
 
 -- a month that a session keeps
-pub month_kept : (b : Basin) (s : SessionSeen) (series : Inflows) (index : ℕ) (m : MonthRecord) → s.basin ≡ b → s.series ≡ series → IsKept s →
+pub month_kept : (b : Basin) (s : SessionSeen) (series : Inflows) (index : ℕ) (m : MonthRecord) → IsValidBasin b → s.basin ≡ b → s.series ≡ series → IsKept s →
     slice_get s.kept index ≡ Some m → IsMonthOf b series index m
-month_kept b s series index m e f kept at = record {
-  months = s.kept;
-  kept = record { partial = rw (← e, ← f) kept.partial; reaches = rw (← e) kept.reaches };
-  here = at;
-}
+month_kept b s series index m valid e f kept at =
+    let here : IsKept (record { basin = b; series = series; kept = s.kept }) =
+    record { partial = rw (← e, ← f) kept.partial; reaches = rw (← e) kept.reaches } in
+    record { months = s.kept; kept = here; here = at; agrees = runs_agree b series index s.kept m valid here at }
 
 pub month_fits : (b : Basin) (series : Inflows) (index : ℕ) (m : MonthRecord) → IsValidBasin b → index < b.months → IsMonthOf b series index m → FitsText b m
 month_fits b series index m valid l is =

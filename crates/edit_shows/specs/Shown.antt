@@ -4,6 +4,7 @@ use Rattle.std.specs.Fmt.{decimal}
 use Rattle.std.specs.Io.KnownBytes.{Appends}
 use Rattle.std.specs.List.{flat_map}
 use Rattle.std.specs.Prelude.{count_by}
+use Rattle.water_model.specs.Laws.{HaveSameOutcome}
 use Rattle.water_model.specs.Spelling.{whole_line}
 use Rattle.water_model.specs.Text.{items_of_month}
 use Rattle.water_model.specs.declared.types.Basin.{Basin}
@@ -16,12 +17,20 @@ use Rattle.edit_session.specs.Sessions.{IsKept}
 use Rattle.edit_shows.specs.declared.stop.EditStop.{EditStop}
 use Rattle.edit_shows.specs.declared.stop.EditStop.TheVariants as stop
 
+-- in each run of the basin and the series whose sets are the reaches, the month of this index agrees with this one in all but
+-- flows and single outflows, and has the same sets
+abbrev pub AgreesWithRuns : Basin → Inflows → ℕ → MonthRecord → Type 0
+AgreesWithRuns b series index m =
+    (records : List MonthRecord) (n : MonthRecord) → IsKept (record { basin = b; series = series; kept = records }) →
+    slice_get records index ≡ Some n → HaveSameOutcome m n × (m.cuts.sets ≡ n.cuts.sets)
+
 -- the record is that of a month in some partial history of the basin and the series, with the reaches as the sets of
--- short rights
+-- short rights, and agrees with that of a fresh run
 pub record IsMonthOf (b : Basin) (series : Inflows) (index : ℕ) (m : MonthRecord) : Type 0 where
   pub months : List MonthRecord
   pub kept : IsKept (record { basin = b; series = series; kept = months })
   pub here : slice_get months index ≡ Some m
+  pub agrees : AgreesWithRuns b series index m
 
 -- The months that a script shows, in order: each is one of the basin and of the series as it is by then.
 abbrev pub AreShown : Basin → Inflows → List Edit → List MonthRecord → Type 0

@@ -1,23 +1,16 @@
 -- Nodes are freed, one after another.
-use Rattle.std.proofs.Common.{ℕ, Bool, nat_lt, ◌≡◌, ◌≢◌, ◌+◌, ◌-◌, ◌<◌, ◌≤◌, true, false, List, length, slice_index, slice_set, refl, arith, ap, sym, subst, inl, inr, ◌∙◌}
+use Rattle.std.proofs.Common.{ℕ, nat_lt, ◌≡◌, ◌≢◌, ◌+◌, ◌-◌, ◌<◌, ◌≤◌, List, length, slice_index, slice_set, refl, arith, ap, sym, subst, inl, inr, ◌∙◌}
 use Rattle.std.proofs.lemmas.Bool.{cases_eq, cases_lt}
 use Rattle.std.proofs.lemmas.List.{get_or-set_other, get_or-set_same, length-set}
 use Rattle.place_sums.specs.Sums.{when}
 use Rattle.place_sums.proofs.Totals.{total_zero}
 use Rattle.circulation.specs.Contents.{Contents, network, flow_of, arcs, step_of, IsCirculation}
-use Rattle.circulation.specs.Residual.{arc_of, is_back, by_way, start_of, end_of, room_of}
+use Rattle.circulation.specs.Residual.{arc_of, start_of, end_of, room_of}
 use Rattle.residual_tree.specs.declared.TheConstants.{ROOT}
 use Rattle.residual_tree.specs.Tree.{word_of, IsReached}
 use Rattle.residual_tree.specs.Growth.{Stands, none, IsFreeing, IsWornTree}
+use Rattle.residual_tree.proofs.Scans.{end_within}
 use Rattle.residual_tree.proofs.Changes.{count_most, count_freed, stands_more, stands_here, stands_or, freed_word, tree_free, tree_map}
-
--- what bounds both bounds either
-by_way_both : (back : Bool) (x y n : ℕ) → x ≤ n → y ≤ n → by_way back x y ≤ n
-by_way_both back x y n a b = elim back as (λ t. by_way t x y ≤ n) [ true ↦ b | false ↦ a ]
-
--- a step enters a node
-pub end_within : (c : Contents) (s : ℕ) → IsCirculation c → arc_of s < arcs c → end_of (network c) s ≤ c.nodes
-end_within c s k b = by_way_both (is_back s) _ _ c.nodes (k.ends.to_in (arc_of s) b) (k.ends.from_in (arc_of s) b)
 
 -- a node with a step is a basin node
 pub basin_end : (c : Contents) (way : List ℕ) (s v : ℕ) → IsCirculation c → arc_of s < arcs c → v ≤ c.nodes →
@@ -45,6 +38,20 @@ pub record IsFreedEnd (c : Contents) (way freed way' freed' : List ℕ) (at last
   pub next : IsFreeing c way' freed' at last done size'
   pub gone : word_of way' (end_of (network c) s) ≢ s + 1
 
+-- what was said of one node is said of the same node
+pub freed_at : (way freed way' freed' : List ℕ) (size size' s u v : ℕ) → u ≡ v →
+    (word_of way u ≡ s + 1 → (size' ≡ size + 1) × (way' ≡ slice_set way u 0) × (freed' ≡ slice_set freed size u)) →
+    word_of way v ≡ s + 1 → (size' ≡ size + 1) × (way' ≡ slice_set way v 0) × (freed' ≡ slice_set freed size v)
+freed_at way freed way' freed' size size' s u v same h =
+    subst (λ (x : ℕ). word_of way x ≡ s + 1 →
+    (size' ≡ size + 1) × (way' ≡ slice_set way x 0) × (freed' ≡ slice_set freed size x)) same h
+
+pub kept_at : (way freed way' freed' : List ℕ) (size size' s u v : ℕ) → u ≡ v →
+    (word_of way u ≢ s + 1 → (size' ≡ size) × (way' ≡ way) × (freed' ≡ freed)) →
+    word_of way v ≢ s + 1 → (size' ≡ size) × (way' ≡ way) × (freed' ≡ freed)
+kept_at way freed way' freed' size size' s u v same h =
+    subst (λ (x : ℕ). word_of way x ≢ s + 1 → (size' ≡ size) × (way' ≡ way) × (freed' ≡ freed)) same h
+
 -- there is room for a node that is reached among those freed
 pub freeing_room : (c : Contents) (way freed : List ℕ) (at last done size s : ℕ) → IsCirculation c → arc_of s < arcs c →
     IsFreeing c way freed at last done size → word_of way (end_of (network c) s) ≡ s + 1 → size < length freed
@@ -57,7 +64,8 @@ freeing_room c way freed at last done size s k b f is =
 -- the child is freed
 freed_child : (c : Contents) (way freed : List ℕ) (at last done size s : ℕ) → IsCirculation c → arc_of s < arcs c →
     IsFreeing c way freed at last done size → word_of way (end_of (network c) s) ≡ s + 1 →
-    IsFreedEnd c way freed (slice_set way (end_of (network c) s) 0) (slice_set freed size (end_of (network c) s)) at last done size (size + 1) s
+    IsFreedEnd c way freed (slice_set way (end_of (network c) s) 0) (slice_set freed size (end_of (network c) s)) at
+    last done size (size + 1) s
 freed_child c way freed at last done size s k b f is =
     let v = end_of (network c) s in
     let inner : v < c.nodes = basin_end c way s v k b (end_within c s k b) f.tree.root is in
@@ -76,13 +84,19 @@ freed_child c way freed at last done size s k b f is =
       };
       next = record {
         tree = tree_free c way (Stands c.scratch at last) (Stands freed done size) (Stands freed 0 size) none
-            (Stands (slice_set freed size v) done (size + 1)) (Stands (slice_set freed size v) 0 (size + 1)) v f.tree inner
+            (Stands (slice_set freed size v) done (size + 1)) (Stands (slice_set freed size v) 0 (size + 1)) v f.tree
+            inner
             (λ u o. stands_more freed done size v u o) (stands_here freed done size v order room)
             (λ u o. stands_more freed 0 size v u o) (stands_here freed 0 size v (omega arith) room);
         order = omega (arith, order);
         places = length-set freed size v ∙ f.places;
         within = λ j d. elim (cases_eq j size) [
-          | inl e ↦ omega (arith, ap (slice_index (slice_set freed size v)) e, get_or-set_same freed size v 0 room, inner)
+          | inl e ↦ omega (
+            arith,
+            ap (slice_index (slice_set freed size v)) e,
+            get_or-set_same freed size v 0 room,
+            inner,
+          )
           | inr ne ↦ omega (arith, get_or-set_other freed size j v 0 ne, f.within j (omega arith))
         ];
         few = omega (arith, count, f.few);
@@ -102,7 +116,8 @@ freeing_end c way freed way' freed' at last done size size' s k b f child other 
       | inl is ↦
           let e = child is in
           subst (λ (x : List ℕ). IsFreedEnd c way freed x freed' at last done size size' s) (sym e.1)
-          (subst (λ (x : List ℕ). IsFreedEnd c way freed (slice_set way (end_of (network c) s) 0) x at last done size size' s) (sym e.2)
+          (subst (λ (x : List ℕ). IsFreedEnd c way freed (slice_set way (end_of (network c) s) 0) x at last done size
+          size' s) (sym e.2)
           (subst (λ (n : ℕ). IsFreedEnd c way freed (slice_set way (end_of (network c) s) 0)
           (slice_set freed size (end_of (network c) s)) at last done size n s) (sym e.0)
           (freed_child c way freed at last done size s k b f is)))
@@ -117,7 +132,8 @@ freeing_end c way freed way' freed' at last done size size' s k b f child other 
 -- a scratch word that names no step without room is left behind
 past_firm : (c : Contents) (way freed : List ℕ) (at last done size s : ℕ) → s ≡ step_of c at →
     IsFreeing c way freed at last done size → ((u : ℕ) → u < c.nodes → IsReached way u →
-    end_of (network c) (word_of way u - 1) ≡ u → word_of way u - 1 ≡ s → 0 < room_of (network c) (flow_of c) (word_of way u - 1)) →
+    end_of (network c) (word_of way u - 1) ≡ u → word_of way u - 1 ≡ s → 0 < room_of (network c) (flow_of c)
+    (word_of way u - 1)) →
     IsFreeing c way freed (at + 1) last done size
 past_firm c way freed at last done size s is f firm = record {
   tree = tree_map c way (Stands c.scratch at last) (Stands freed done size) (Stands freed 0 size) none
@@ -183,7 +199,8 @@ orphaning_next c way freed way' freed' at done size size' node s k b o child oth
     )
 
 -- all steps were tried: no child of the node is reached
-pub orphaning_end : (c : Contents) (way freed : List ℕ) (at done size node : ℕ) → IsOrphaning c way freed at done size node →
+pub orphaning_end : (c : Contents) (way freed : List ℕ) (at done size node : ℕ) → IsOrphaning c way freed at done size
+    node →
     ((s : ℕ) → arc_of s < arcs c → start_of (network c) s ≡ node → word_of way (end_of (network c) s) ≢ s + 1) →
     IsFreeing c way freed at at (done + 1) size
 orphaning_end c way freed at done size node o gone = record {
@@ -213,7 +230,13 @@ felled c way freed k words places root none_reached listed = record {
     branch = λ v b m. absurd (omega (arith, none_reached v b, m));
     room = λ v b m. absurd (omega (arith, none_reached v b, m));
     closed = λ s b r m. elim (cases_lt (end_of (network c) s) c.nodes) [
-      | inl inner ↦ inr (inl record { place = end_of (network c) s; from = omega arith; below = inner; is = listed (end_of (network c) s) inner })
+      | inl inner ↦ inr (inl record {
+        place = end_of (network c) s;
+        from = omega arith;
+        below = inner;
+        is = listed
+            (end_of (network c) s) inner;
+      })
       | inr outer ↦
           let within = end_within c s k b in
           let e : end_of (network c) s ≡ c.nodes = omega arith in

@@ -9,9 +9,8 @@ use Rattle.residual_tree.specs.Steps.{opposite}
 use Rattle.residual_tree.specs.Tree.{word_of, IsReached, IsResidualTree}
 use Rattle.residual_tree.specs.Growth.{Stands, none, only, no_step, IsFound, IsShut, IsFreeing, IsGrowing, IsWayIn, IsLentTree}
 use Rattle.residual_tree.proofs.Changes.{count_most, count_attached, stands_more, stands_here, stands_or, stands_nowhere, IsLooseWay, tree_attach, tree_map}
-use Rattle.residual_tree.proofs.Turns.{opposite_is}
+use Rattle.residual_tree.proofs.Scans.{opposite_is, end_within}
 use Rattle.residual_tree.proofs.Overs.{over_backward}
-use Rattle.residual_tree.proofs.Frees.{end_within}
 
 -- nothing is in none
 pub no_none : (u : ℕ) → none u → ⊥

@@ -1,4 +1,4 @@
-pub mod Turns
+pub mod Scans
 pub mod Changes
 pub mod Frees
 pub mod Grows

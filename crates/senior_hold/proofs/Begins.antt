@@ -1,6 +1,6 @@
 -- A month that starts from the run of the river.
 use Rattle.std.proofs.Common.{◌≡◌, ℕ, ◌*◌, ◌<◌, ◌≤◌, Bool, true, false, refl, sym, ◌∙◌, ap, ap₂, subst, arith, List, length}
-use Rattle.std.proofs.lemmas.List.{get_or-replicate, length-replicate}
+use Rattle.std.proofs.lemmas.List.{get_or-replicate}
 use Rattle.std.proofs.lemmas.Grind.{same_number_lists}
 use Rattle.std.specs.Prelude.{◌^◌, ◌-◌, slice_index, slice_get, unwrap_or, option_map, pos, if◌then◌else◌, Option, Some, None, is_some}
 use Rattle.place_sums.specs.Sums.{when}
@@ -17,7 +17,6 @@ use Rattle.water_model.proofs.Balance.{entry_holds}
 use Rattle.circulation.specs.Contents.{Contents, network, month_contents, IsStart}
 use Rattle.circulation.specs.Network.{IsFlow}
 use Rattle.senior_hold.specs.MonthNetwork.{takes, take_arc, out_arc, arc_count, HasBasinEnds, IsMonthNetwork, plan_of}
-use Rattle.senior_hold.specs.Layouts.{IsBegun}
 use Rattle.senior_hold.proofs.MonthArcs.{IsArc, is_link, is_take, is_out, arc_is}
 use Rattle.water_text.proofs.DayNumbers.{days_in-days_in_month, days_in_month-le}
 use Rattle.river_net.proofs.RiverPlan.{river_is_plan}
@@ -50,17 +49,17 @@ carry_most b month e is_month valid l =
     of_kind River h = omega arith
     of_kind (Canal per_day shut) h = open_or_shut (unwrap_or (slice_get shut (month.month - 1)) false) (per_day * days_of month) (product per_day (days_of month) h.0 (days_most month is_month))
 
-pub begun_small : (b : Basin) (month : Month) (want upper : List ℕ) → ((e : ℕ) → e < length b.links → carry_of b month e ≤ 10 ^ 15) → AreBounds b month want (λ a. slice_index upper a) →
-    ((r : ℕ) → r < length b.rights → slice_index want r ≤ 10 ^ 9) → length upper ≡ arc_count b →
-    (a : ℕ) → a < length upper → slice_index upper a ≤ 10 ^ 15
-begun_small b month want upper carries are limits len a l = of_arc a (arc_is b a (omega arith))
+pub begun_small : {most : ℕ → ℕ} (b : Basin) (month : Month) (want upper : List ℕ) → ((e : ℕ) → e < length b.links → carry_of b month e ≤ 10 ^ 15) → AreBounds b month want most (λ a. slice_index upper a) →
+    ((n : ℕ) → n < length b.nodes → most n ≤ 10 ^ 15) → ((r : ℕ) → r < length b.rights → slice_index want r ≤ 10 ^ 9) →
+    length upper ≡ arc_count b → (a : ℕ) → a < length upper → slice_index upper a ≤ 10 ^ 15
+begun_small b month want upper carries are mosts limits len a l = of_arc a (arc_is b a (omega arith))
   where
     of_arc : (a : ℕ) → IsArc b a → slice_index upper a ≤ 10 ^ 15
     of_arc a (is_link k) = omega (arith, are.on_links a k, carries a k)
     of_arc a (is_take r k h e) = subst (λ a. slice_index upper a ≤ 10 ^ 15) e (omega (arith, are.on_takes r k h, limits r k))
-    of_arc a (is_out n k h e) = subst (λ a. slice_index upper a ≤ 10 ^ 15) e (omega (arith, are.on_outs n k h))
+    of_arc a (is_out n k h e) = subst (λ a. slice_index upper a ≤ 10 ^ 15) e (omega (arith, are.on_outs n k h, mosts n k))
 
-pub begun_net : (b : Basin) (month : Month) (supply want upper start : List ℕ) (c : Contents) → HasBasinEnds b (network c) → AreBounds b month want (λ a. slice_index upper a) →
+pub begun_net : {most : ℕ → ℕ} (b : Basin) (month : Month) (supply want upper start : List ℕ) (c : Contents) → HasBasinEnds b (network c) → AreBounds b month want most (λ a. slice_index upper a) →
     IsMonthNetwork b month supply want (network (month_contents c supply upper start))
 begun_net b month supply want upper start c ends are = record {
   ends = record {
@@ -75,28 +74,29 @@ begun_net b month supply want upper start c ends are = record {
   };
   link_upper = are.on_links;
   take_upper = are.on_takes;
-  out_upper = are.on_outs;
   supplies = λ n l. refl;
 }
 
-pub begun_flow : (b : Basin) (month : Month) (supply want upper start : List ℕ) (c : Contents) (p : Plan) → HasBasinEnds b (network c) → AreBounds b month want (λ a. slice_index upper a) →
+pub begun_flow : {most : ℕ → ℕ} (b : Basin) (month : Month) (supply want upper start : List ℕ) (c : Contents) (p : Plan) → HasBasinEnds b (network c) → AreBounds b month want most (λ a. slice_index upper a) →
     IsPlan b month supply want p → AreAmounts b p (λ a. slice_index start a) →
-    ((n : ℕ) → n < length b.nodes → slice_index p.out n ≤ 10 ^ 15) →
+    ((n : ℕ) → n < length b.nodes → slice_index p.out n ≤ most n) →
     IsFlow (network (month_contents c supply upper start)) (λ a. slice_index start a)
 begun_flow b month supply want upper start c p ends are plan laid small =
     flow_is b month supply want (network (month_contents c supply upper start)) p (λ a. slice_index start a) (begun_net b month supply want upper start c ends are) plan
-    (λ a l. get_or-replicate {A = ℕ} (length c.from) a 0 0 l) laid.on_links laid.on_takes laid.on_outs small
+    (λ a l. get_or-replicate {A = ℕ} (length c.from) a 0 0 l) laid.on_links laid.on_takes laid.on_outs
+    (λ n l h. omega (arith, small n l, are.on_outs n l h))
 
 -- a month may start with these bounds and amounts
-pub start_is : (b : Basin) (month : Month) (supply want upper start : List ℕ) (c : Contents) (p : Plan) → ((e : ℕ) → e < length b.links → carry_of b month e ≤ 10 ^ 15) →
+pub start_is : {most : ℕ → ℕ} (b : Basin) (month : Month) (supply want upper start : List ℕ) (c : Contents) (p : Plan) → ((e : ℕ) → e < length b.links → carry_of b month e ≤ 10 ^ 15) →
     HasBasinEnds b (network c) → length supply ≡ length b.nodes → AreWants b month want → length upper ≡ arc_count b → length start ≡ arc_count b →
-    AreBounds b month want (λ a. slice_index upper a) → AreAmounts b p (λ a. slice_index start a) → IsPlan b month supply want p →
-    ((n : ℕ) → n < length b.nodes → slice_index p.out n ≤ 10 ^ 15) → IsStart c supply upper start
-start_is b month supply want upper start c p carries ends supplies wants uppers starts are laid plan small = record {
+    AreBounds b month want most (λ a. slice_index upper a) → AreAmounts b p (λ a. slice_index start a) → IsPlan b month supply want p →
+    ((n : ℕ) → n < length b.nodes → most n ≤ 10 ^ 15) →
+    ((n : ℕ) → n < length b.nodes → slice_index p.out n ≤ most n) → IsStart c supply upper start
+start_is b month supply want upper start c p carries ends supplies wants uppers starts are laid plan mosts small = record {
   supplies = supplies ∙ sym ends.nodes;
   uppers = uppers ∙ sym ends.arcs;
   amounts = starts ∙ sym ends.arcs;
-  small = λ a l. begun_small b month want upper carries are wants.small uppers a (let n = ends.arcs in omega arith);
+  small = λ a l. begun_small b month want upper carries are mosts wants.small uppers a (let n = ends.arcs in omega arith);
   flow = begun_flow b month supply want upper start c p ends are plan laid small;
 }
 
@@ -135,19 +135,15 @@ plan_same b month supply want p g fits plan laid =
     goings : (n : ℕ) → n < length b.nodes → slice_index (plan_of b g).out n ≡ slice_index p.out n
     goings n l = list_get (length b.nodes) gone n l ∙ by_outlet n l (is_outlet b n) refl
 
-pub begun : (b : Basin) (month : Month) (supply want upper start : List ℕ) (c new : Contents) (p : Plan) → HasBasinEnds b (network c) → AreBounds b month want (λ a. slice_index upper a) →
-    FitsPlan b p → IsPlan b month supply want p → IsRunOfRiver b supply p → AreAmounts b p (λ a. slice_index start a) →
-    ((n : ℕ) → n < length b.nodes → slice_index p.out n ≤ 10 ^ 15) → new ≡ month_contents c supply upper start → IsBegun b month supply want new p
-begun b month supply want upper start c new p ends are fits plan run laid small is =
-    subst (λ (x : Contents). IsBegun b month supply want x p) (sym is) record {
-      net = begun_net b month supply want upper start c ends are;
-      is_flow = begun_flow b month supply want upper start c p ends are plan laid small;
-      size = length-replicate {A = ℕ} (length c.from) 0 ∙ ends.arcs;
-      free = λ a l. get_or-replicate {A = ℕ} (length c.from) a 0 0 (let n = ends.arcs in omega arith);
-      run = run;
-      same = plan_same b month supply want p (λ a. slice_index start a) fits plan laid;
-    }
-
 -- the run of the river is a plan for any wants
 pub river_plan : (b : Basin) (month : Month) (supply want : List ℕ) (p : Plan) → IsValidBasin b → AreSupplies b supply → IsRunOfRiver b supply p → IsPlan b month supply want p
 river_plan b month supply want p valid given run = river_is_plan b month supply want p valid (let few = given.small in omega arith) run
+
+-- the same bounds and amounts in another list
+pub bounds_over : (b : Basin) (month : Month) (want xs ys : List ℕ) (most : ℕ → ℕ) → xs ≡ ys →
+    AreBounds b month want most (λ a. slice_index ys a) → AreBounds b month want most (λ a. slice_index xs a)
+bounds_over b month want xs ys most same are = subst (λ (zs : List ℕ). AreBounds b month want most (λ a. slice_index zs a)) (sym same) are
+
+pub amounts_over : (b : Basin) (p : Plan) (xs ys : List ℕ) → xs ≡ ys → AreAmounts b p (λ a. slice_index ys a) →
+    AreAmounts b p (λ a. slice_index xs a)
+amounts_over b p xs ys same are = subst (λ (zs : List ℕ). AreAmounts b p (λ a. slice_index zs a)) (sym same) are

@@ -1,6 +1,7 @@
 pub mod MonthArcs
 pub mod Bridge
 pub mod Plans
+pub mod SpilledArcs
 pub mod WayOut
 pub mod Swept
 pub mod Sweeps
@@ -17,3 +18,4 @@ pub mod Rivers
 pub mod Spilled
 pub mod TreeServes
 pub mod SettledPlans
+pub mod SearchedPlans

@@ -27,9 +27,6 @@ takes_arc b r valid l h = of_kind (right_kind b valid r l)
 pub right_arc_read : (b : Basin) (arcs : Arcs) (r got : ℕ) → AreArcs b arcs → r < length b.rights → got ≡ get_or arcs.rights.items r got → got ≡ right_arc b r
 right_arc_read b arcs r got are l at = at ∙ get_or_default_zero arcs.rights.items r got (let n = are.right_count in omega arith) ∙ are.right r l
 
-pub out_arc_read : (b : Basin) (arcs : Arcs) (n got : ℕ) → AreArcs b arcs → n < length b.nodes → got ≡ get_or arcs.outs.items n got → got ≡ out_arc b n
-out_arc_read b arcs n got are l at = at ∙ get_or_default_zero arcs.outs.items n got (let c = are.out_count in omega arith) ∙ are.out n l
-
 -- it is among the arcs
 pub takes_arc_in : (b : Basin) (r arc : ℕ) → IsValidBasin b → r < length b.rights → takes b r ≡ true → arc ≡ right_arc b r → arc < length b.links + taker_count b
 takes_arc_in b r arc valid l h is = omega (arith, is, takes_arc b r valid l h, take_arc_below b r l h)

@@ -1,7 +1,7 @@
 -- The plan of a flow, and the flow of a plan.
 use Rattle.std.proofs.Common.{◌≡◌, ℕ, ◌+◌, ◌<◌, ◌≤◌, Bool, true, false, refl, sym, ◌∙◌, ap, subst, arith, List, length}
 use Rattle.std.proofs.lemmas.List.FromFn.{get_or-map-range_with_len, length-map-range_with_len}
-use Rattle.std.specs.Prelude.{◌^◌, ◌==◌, slice_index, Option, Some, None, is_some, min}
+use Rattle.std.specs.Prelude.{◌==◌, slice_index, Option, Some, None, is_some, min}
 use Rattle.place_sums.specs.Sums.{when}
 use Rattle.water_model.specs.Basin.{tail_of, head_of, is_outlet, taking_node, takes_at}
 use Rattle.water_text.specs.declared.month.Month.{Month}
@@ -106,7 +106,7 @@ pub flow_is : (b : Basin) (month : Month) (supply want : List ℕ) (w : Network)
     ((e : ℕ) → e < length b.links → g e ≡ slice_index p.flow e) →
     ((r : ℕ) → r < length b.rights → takes b r ≡ true → g (take_arc b r) ≡ slice_index p.take r) →
     ((n : ℕ) → n < length b.nodes → is_outlet b n ≡ true → g (out_arc b n) ≡ slice_index p.out n) →
-    ((n : ℕ) → n < length b.nodes → slice_index p.out n ≤ 10 ^ 15) → IsFlow w g
+    ((n : ℕ) → n < length b.nodes → is_outlet b n ≡ true → slice_index p.out n ≤ w.upper (out_arc b n)) → IsFlow w g
 flow_is b month supply want w p g net plan lowers links rights outs small = record {
   low = λ a l. (let e = lowers a l in omega arith);
   high = λ a l. high a (arc_is b a (let n = net.ends.arcs in omega arith));
@@ -116,7 +116,7 @@ flow_is b month supply want w p g net plan lowers links rights outs small = reco
     high : (a : ℕ) → IsArc b a → g a ≤ w.upper a
     high a (is_link l) = omega (arith, links a l, net.link_upper a l, plan.carries a l)
     high a (is_take r l h e) = subst (λ a. g a ≤ w.upper a) e (omega (arith, rights r l h, net.take_upper r l h, plan.wants r l))
-    high a (is_out n l h e) = subst (λ a. g a ≤ w.upper a) e (omega (arith, outs n l h, net.out_upper n l h, small n l))
+    high a (is_out n l h e) = subst (λ a. g a ≤ w.upper a) e (omega (arith, outs n l h, small n l h))
 
     took : (r : ℕ) (o : Option ℕ) → ((is_some o ≡ true) → g (take_arc b r) ≡ slice_index p.take r) → (o ≡ None → slice_index p.take r ≡ 0) →
         when (is_some o) (g (take_arc b r)) ≡ slice_index p.take r

@@ -39,7 +39,7 @@ use Rattle.senior_hold.proofs.Plans.{list_get, list_len, plan_is}
 use Rattle.senior_hold.proofs.Rivers.{made, river_is}
 use Rattle.senior_hold.proofs.Sweeps.{got, settled_stays}
 use Rattle.senior_hold.proofs.Solves.{IsStanding}
-use Rattle.senior_hold.proofs.Spilled.{spilled_count}
+use Rattle.senior_hold.proofs.SpilledArcs.{spilled_count}
 use Rattle.senior_hold.proofs.WayOut.{ranks, river_carry}
 
 has_all : (n k : ℕ) → k < n → has (replicate n true) k ≡ true

@@ -1,5 +1,5 @@
 -- Serving one right after another.
-use Rattle.std.proofs.Common.{◌≡◌, ◌≢◌, ℕ, ◌+◌, ◌<◌, ◌≤◌, Bool, true, false, refl, sym, ◌∙◌, ap, subst, arith, List, length, inl, inr, get_or-set_same, get_or-set_other}
+use Rattle.std.proofs.Common.{◌≡◌, ◌≢◌, ℕ, ◌+◌, ◌<◌, ◌≤◌, Bool, true, false, sym, ◌∙◌, ap, subst, arith, List, length, inl, inr, get_or-set_same, get_or-set_other}
 use Rattle.std.proofs.lemmas.Bool.{cases_eq}
 use Rattle.std.proofs.lemmas.Bool.Decides.{nat_tests}
 use Rattle.std.proofs.lemmas.List.{length-set}
@@ -8,26 +8,21 @@ use Rattle.place_sums.specs.Sums.{when, greatest_where}
 use Rattle.place_sums.proofs.Totals.{greatest_where_le, greatest_same_tests}
 use Rattle.water_model.specs.Basin.{is_senior, is_on_link}
 use Rattle.water_model.specs.CutSets.{CutSets, set_of, with_set, with_room}
-use Rattle.water_model.specs.Laws.{AreDeliveries}
-use Rattle.water_model.specs.RunOfRiver.{IsRunOfRiver}
 use Rattle.water_text.specs.declared.month.Month.{Month}
 use Rattle.water_model.specs.declared.types.Basin.{Basin}
-use Rattle.water_model.specs.declared.types.Plan.{Plan}
 use Rattle.circulation.specs.Contents.{Contents, network, flow_of, IsCirculation}
 use Rattle.circulation.specs.Network.{Network, IsFlow}
 use Rattle.augment.specs.Raised.{IsGreatestCut}
-use Rattle.senior_hold.specs.MonthNetwork.{take_arc, out_arc, right_arc, arc_count, HasBasinEnds, IsMonthNetwork, Holds, plan_of}
-use Rattle.senior_hold.specs.Layouts.{IsBegun}
+use Rattle.senior_hold.specs.MonthNetwork.{take_arc, out_arc, right_arc, arc_count, HasBasinEnds, IsMonthNetwork, Holds}
 use Rattle.senior_hold.proofs.MonthArcs.{AreKinds, take_arc_below, out_arc_below}
 use Rattle.senior_hold.proofs.Bridge.{greatest_reach}
-use Rattle.senior_hold.proofs.Plans.{delivery_is, right_arc_in}
-use Rattle.senior_hold.proofs.Sweeps.{got, swept_same, swept_next, swept_greatest, settled_stays}
+use Rattle.senior_hold.proofs.Plans.{right_arc_in}
+use Rattle.senior_hold.proofs.Sweeps.{got, swept_same, swept_next}
 use Rattle.senior_hold.proofs.Marks.{set_of_with, set_of_other}
 use Rattle.water_model.specs.Lookups.{has}
-use Rattle.water_model.specs.Plans.{IsGreatest, delivery}
 use Rattle.rights_roll.specs.SeniorityOrder.{IsSeniorityOrder}
 use Rattle.senior_hold.specs.Serving.{IsServed, SameEnds}
-use Rattle.senior_hold.specs.Solved.{IsSolved, IsGiven, IsSettled, FitsCuts}
+use Rattle.senior_hold.specs.Solved.{IsSettled, FitsCuts}
 use Rattle.senior_hold.proofs.Swept.{delivered_by, deliveries_by, IsSwept}
 
 -- how a month stands after the first k rights
@@ -70,11 +65,6 @@ standing_first b month supply want order c cuts net is_flow size free fits_cuts 
     zero : (x : ℕ) → x ≤ 0 → 0 ≡ x
     zero x h = omega arith
 
-pub standing_start : (b : Basin) (month : Month) (supply want order : List ℕ) (c : Contents) (cuts : CutSets) (p q : Plan) →
-    IsBegun b month supply want c p → IsGiven b month supply want q cuts → IsStanding b month supply want order 0 c cuts
-standing_start b month supply want order c cuts p q begun given =
-    standing_first b month supply want order c cuts begun.net begun.is_flow begun.size begun.free given.fits_cuts given.no_sets
-
 abbrev pub changed : Contents → List ℕ → List ℕ → List ℕ → Contents
 changed old f s lower = record old { flow = f; scratch = s; lower = lower }
 
@@ -93,7 +83,6 @@ net_kept b month supply want c f s lower net = record {
   };
   link_upper = net.link_upper;
   take_upper = net.take_upper;
-  out_upper = net.out_upper;
   supplies = net.supplies;
 }
 
@@ -212,21 +201,6 @@ standing_next b month supply want order k r arc amount c new cuts after kinds l 
     subst (λ (x : Contents). IsStanding b month supply want order (k + 1) x after) (sym served.held)
     (served_next b month supply want order k r arc amount c new.flow new.scratch cuts after kinds l at order_is now arc_is amount_is
     (subst (λ (x : Contents). IsFlow (network x) (flow_of new)) served.held kept.flow) served.outcome)
-
--- when all are served the month is solved
-pub standing_end : (b : Basin) (month : Month) (supply want order : List ℕ) (c first : Contents) (cuts : CutSets) (p q : Plan) → AreKinds b → IsSeniorityOrder b.rights order →
-    IsStanding b month supply want order (length b.rights) c cuts → p ≡ plan_of b (flow_of c) → IsBegun b month supply want first q → (length b.rights ≡ 0 → c ≡ first) →
-    IsSolved b month supply want p cuts
-standing_end b month supply want order c first cuts p q kinds o now is begun none = record {
-  greatest = subst (IsGreatest b month supply want) (sym is) (swept_greatest b month supply want order o (network c) (flow_of c) cuts kinds now.net (now.swept o));
-  settled = λ delivered are r l. settled_stays b month supply want (deliveries_by b want (flow_of c)) delivered cuts cuts r l (same delivered are r l) (λ s m senior. same delivered are s m) refl
-      ((now.swept o).settled r l (o.in_range r l));
-  river = λ h. subst (IsRunOfRiver b supply) (sym (is ∙ (ap (λ (x : Contents). plan_of b (flow_of x)) (none h) ∙ begun.same))) begun.run;
-}
-  where
-    same : (delivered : List ℕ) → AreDeliveries b want p delivered → (r : ℕ) → r < length b.rights → slice_index (deliveries_by b want (flow_of c)) r ≡ slice_index delivered r
-    same delivered are r l = got b want (flow_of c) r l ∙ (sym (delivery_is b month supply want (network c) (flow_of c) r now.net (now.swept o).flow l (kinds r l))
-        ∙ (ap (λ (x : Plan). delivery b want x r) (sym is) ∙ sym (are.each r l)))
 
 -- the ends are as before
 pub ends_kept : (b : Basin) (c d : Contents) → SameEnds c d → HasBasinEnds b (network c) → HasBasinEnds b (network d)

@@ -3,18 +3,15 @@ use Rattle.std.proofs.Common.{◌≡◌, ℕ, zero, suc, ◌+◌, ◌<◌, ◌�
 use Rattle.std.proofs.lemmas.List.{length-map, length-replicate, get_or-replicate}
 use Rattle.std.proofs.lemmas.Bool.{false≢true}
 use Rattle.std.specs.Prelude.{◌==◌, slice_index, Option, Some, None, if◌then◌else◌}
-use Rattle.place_sums.specs.Sums.{count_where, when}
-use Rattle.place_sums.proofs.Totals.{count_more, total_where_start, total_zero}
+use Rattle.place_sums.specs.Sums.{when}
+use Rattle.place_sums.proofs.Totals.{total_where_start, total_zero}
 use Rattle.water_model.specs.Basin.{is_outlet, tail_of, head_of, takes_at}
-use Rattle.water_model.specs.Network.{is_outlet_in}
 use Rattle.water_model.specs.declared.types.Basin.{Basin}
-use Rattle.water_model.specs.declared.types.Node.{Node}
 use Rattle.circulation.specs.Contents.{Contents, network, month_contents}
-use Rattle.senior_hold.specs.MonthNetwork.{taker_count, arc_count, out_arc, HasBasinEnds}
+use Rattle.senior_hold.specs.MonthNetwork.{out_arc, spill_arc, HasBasinEnds}
 use Rattle.senior_hold.specs.Arcs.{AreEndsOf, AreAmountsOf}
-use Rattle.senior_hold.specs.Spilled.{let_out, spilled, spill_arc, HasSpills}
+use Rattle.senior_hold.specs.Spilled.{spilled, HasSpills}
 use Rattle.senior_hold.proofs.Laid.{end_at}
-use Rattle.senior_hold.proofs.MonthArcs.{IsKind, on_link, at_node, AreKinds}
 use Rattle.water_model.specs.declared.types.Plan.{Plan}
 use Rattle.water_model.specs.Plans.{IsPlan}
 use Rattle.water_text.specs.declared.month.Month.{Month}
@@ -29,38 +26,7 @@ use Rattle.senior_hold.specs.Solved.{IsGiven, FitsCuts}
 use Rattle.senior_hold.proofs.Solves.{IsStanding, standing_first}
 use Rattle.senior_hold.proofs.Turns.{IsTurn}
 use Rattle.circulation.specs.declared.Ends.{Ends}
-
-pub spilled_count : (b : Basin) → length (spilled b).nodes ≡ length b.nodes
-spilled_count b = length-map b.nodes let_out
-
-pub spilled_outlet : (b : Basin) (n : ℕ) → n < length b.nodes → is_outlet (spilled b) n ≡ true
-spilled_outlet b n l = each b.nodes n l
-  where
-    each : (xs : List Node) (n : ℕ) → n < length xs → is_outlet_in (map let_out xs) n ≡ true
-    each [] n l = absurd (omega arith)
-    each (x ∷ xs) zero l = refl
-    each (x ∷ xs) (suc n) l = each xs n (omega arith)
-
--- all nodes before one are outlets
-pub spilled_before : (b : Basin) (n : ℕ) → n ≤ length b.nodes → count_where n (λ v. is_outlet (spilled b) v) ≡ n
-spilled_before b zero l = total_where_start (λ v. is_outlet (spilled b) v) (λ k. 1)
-spilled_before b (suc n) l =
-    let one : (if is_outlet (spilled b) n then 1 else 0) ≡ 0 + 1 = ap (λ t. if t then 1 else 0) (spilled_outlet b n (omega arith)) in
-    omega (arith, count_more n (λ v. is_outlet (spilled b) v), spilled_before b n (omega arith), one)
-
--- the arc of a node's spill
-pub spill_is : (b : Basin) (n : ℕ) → n ≤ length b.nodes → out_arc (spilled b) n ≡ spill_arc b n
-spill_is b n l = ap (λ k. length b.links + (taker_count b + k)) (spilled_before b n l)
-
-pub spilled_arcs : (b : Basin) → arc_count (spilled b) ≡ spill_arc b (length b.nodes)
-spilled_arcs b = ap (λ k. length b.links + (taker_count b + count_where k (λ v. is_outlet (spilled b) v))) (spilled_count b) ∙ spill_is b (length b.nodes) (omega arith)
-
-pub spilled_kinds : (b : Basin) → AreKinds b → AreKinds (spilled b)
-spilled_kinds b kinds r l = of_kind (kinds r l)
-  where
-    of_kind : IsKind b r → IsKind (spilled b) r
-    of_kind (on_link e k i t) = on_link e k i t
-    of_kind (at_node v k i t) = at_node v (omega (arith, spilled_count b)) i t
+use Rattle.senior_hold.proofs.SpilledArcs.{spilled_count, spilled_outlet, spill_is, spilled_arcs}
 
 -- the spills of a circulation
 pub has_spills : (b : Basin) (c : Contents) (first : ℕ) → first ≡ spill_arc b 0 → HasBasinEnds (spilled b) (network c) → HasSpills c first
@@ -133,15 +99,16 @@ pub spilled_wants : (b : Basin) (month : Month) (want : List ℕ) → AreWants b
 spilled_wants b month want w = record { count = w.count; small = w.small; instream = w.instream }
 
 -- a month that begins with all supply spilled
-pub spilled_start : (b : Basin) (month : Month) (supply want upper start : List ℕ) (c new : Contents) (p : Plan) → HasBasinEnds (spilled b) (network c) →
-    AreBounds (spilled b) month want (λ a. slice_index upper a) → FitsPlan b p → IsPlan (spilled b) month supply want p →
+pub spilled_start : (b : Basin) (month : Month) (supply want upper start : List ℕ) (c new : Contents) (p : Plan) (most : ℕ → ℕ) → HasBasinEnds (spilled b) (network c) →
+    AreBounds (spilled b) month want most (λ a. slice_index upper a) →
+    ((n : ℕ) → n < length b.nodes → most n ≡ 10 ^ 15) → FitsPlan b p → IsPlan (spilled b) month supply want p →
     AreAmounts (spilled b) p (λ a. slice_index start a) → ((n : ℕ) → n < length b.nodes → slice_index p.out n ≤ 10 ^ 15) →
     ((e : ℕ) → e < length b.links → slice_index p.flow e ≡ 0) → p.out ≡ supply → new ≡ month_contents c supply upper start →
     IsSpilledStart b month supply want new
-spilled_start b month supply want upper start c new p ends are fits plan laid small still all is =
+spilled_start b month supply want upper start c new p most ends are mosts fits plan laid small still all is =
     subst (λ (x : Contents). IsSpilledStart b month supply want x) (sym is) record {
       net = begun_net (spilled b) month supply want upper start c ends are;
-      is_flow = begun_flow (spilled b) month supply want upper start c p ends are plan laid (λ n l. small n (omega (arith, spilled_count b)));
+      is_flow = begun_flow (spilled b) month supply want upper start c p ends are plan laid (λ n l. omega (arith, small n (omega (arith, l, spilled_count b)), mosts n (omega (arith, l, spilled_count b))));
       size = length-replicate {A = ℕ} (length c.from) 0 ∙ ends.arcs;
       free = λ a l. get_or-replicate {A = ℕ} (length c.from) a 0 0 (let n = ends.arcs in omega arith);
       still = λ e l. laid.on_links e l ∙ still e l;

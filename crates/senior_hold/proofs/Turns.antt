@@ -15,7 +15,10 @@ use Rattle.senior_hold.proofs.Plans.{right_arc_in, want_fits}
 use Rattle.senior_hold.proofs.WayOut.{way_out}
 use Rattle.senior_hold.proofs.Solves.{IsStanding}
 use Rattle.rights_roll.specs.SeniorityOrder.{IsSeniorityOrder}
+use Rattle.place_sums.specs.Sums.{when}
 use Rattle.senior_hold.specs.Arcs.{AreArcs}
+use Rattle.senior_hold.specs.Spilled.{spilled}
+use Rattle.senior_hold.specs.Layouts.{OutletsAlone}
 use Rattle.senior_hold.specs.declared.arcs.Arcs.{Arcs}
 use Rattle.rights_roll.specs.RollSeen.{RollSeen}
 use Rattle.rights_roll.specs.Rolls.{IsRollOf}
@@ -61,20 +64,20 @@ turn_want b month supply want order k r arc c cuts kinds t fit now =
     subst (λ a. slice_index want r ≤ slice_index c.upper a) (sym t.arc_is) (want_fits b month supply want (network c) r now.net fit t.in_range (kinds r t.in_range))
 
 pub turn_way_out : (b : Basin) (month : Month) (supply want order : List ℕ) (k r arc : ℕ) (c : Contents) (cuts : CutSets) → IsValidBasin b → IsTurn b order k r arc →
-    total (length b.nodes) (λ v. slice_index supply v) < 4 * 10 ^ 13 → IsStanding b month supply want order k c cuts → HasWayOut (network c) arc
-turn_way_out b month supply want order k r arc c cuts valid t few now =
-    subst (λ a. HasWayOut (network c) a) (sym t.arc_is) (way_out b month supply want (network c) r valid now.net (omega arith) t.in_range (right_kind b valid r t.in_range))
+    total (length b.nodes) (λ v. slice_index supply v) < 4 * 10 ^ 13 → OutletsAlone b c → IsStanding (spilled b) month supply want order k c cuts → HasWayOut (network c) arc
+turn_way_out b month supply want order k r arc c cuts valid t few outlets now =
+    subst (λ a. HasWayOut (network c) a) (sym t.arc_is)
+    (way_out b month supply want (network c) r valid now.net (λ n l h. outlets n l ∙ ap (λ o. when o (10 ^ 15)) h)
+    (omega arith) t.in_range (right_kind b valid r t.in_range))
 
 pub turn_free : (b : Basin) (month : Month) (supply want order : List ℕ) (o : IsSeniorityOrder b.rights order) (k r arc : ℕ) (c : Contents) (cuts : CutSets) → IsTurn b order k r arc →
     IsStanding b month supply want order k c cuts → set_of cuts r ≡ None
 turn_free b month supply want order o k r arc c cuts t now = (now.swept o).others r t.in_range (let p = ap o.place t.is ∙ o.placed k t.below in omega arith)
 
 -- the cost of one turn more
-pub one_more : (a arcs k before now after : ℕ) → arcs ≡ a → now ≤ before + k * (30 * (2 * a + 1)) → after ≤ now + 30 * (2 * arcs + 1) →
+pub one_more : (a arcs k before now after : ℕ) → arcs ≤ a → now ≤ before + k * (30 * (2 * a + 1)) → after ≤ now + 30 * (2 * arcs + 1) →
     after ≤ before + (k + 1) * (30 * (2 * a + 1))
-one_more a arcs k before now after same so_far turn =
-    let t : after ≤ now + 30 * (2 * a + 1) = subst (λ n. after ≤ now + 30 * (2 * n + 1)) same turn in
-    sum before k (30 * (2 * a + 1)) now after so_far t
+one_more a arcs k before now after few so_far turn = sum before k (30 * (2 * a + 1)) now after so_far (omega (arith, few, turn))
   where
     sum : (before k c now after : ℕ) → now ≤ before + k * c → after ≤ now + c → after ≤ before + (k + 1) * c
     sum before k c now after h i = grind arith

@@ -1,5 +1,5 @@
 -- What lists have for the arcs of a month.
-use Rattle.std.specs.Prelude.{◌≡◌, ℕ, ◌+◌, ◌<◌, ◌^◌, true, List, length, slice_index, slice_get, Some}
+use Rattle.std.specs.Prelude.{◌≡◌, ℕ, ◌+◌, ◌<◌, true, List, length, slice_index, slice_get, Some}
 use Rattle.place_sums.specs.Sums.{count_where}
 use Rattle.water_model.specs.Basin.{tail_of, head_of, is_outlet, taking_node}
 use Rattle.water_model.specs.Plans.{carry_of}
@@ -7,15 +7,14 @@ use Rattle.water_text.specs.declared.month.Month.{Month}
 use Rattle.water_model.specs.declared.types.Basin.{Basin}
 use Rattle.water_model.specs.declared.types.Plan.{Plan}
 use Rattle.circulation.specs.declared.Ends.{Ends}
-use Rattle.senior_hold.specs.MonthNetwork.{takes, take_arc, out_arc, right_arc}
+use Rattle.senior_hold.specs.MonthNetwork.{takes, take_arc, out_arc, right_arc, spill_arc}
 use Rattle.senior_hold.specs.declared.arcs.Arcs.{Arcs}
 
--- the arcs of rights and of outlets
+-- the arcs of rights, and that of the first node's spill
 pub record AreArcs (b : Basin) (arcs : Arcs) : Type 0 where
   pub right_count : length arcs.rights.items ≡ length b.rights
   pub right : (r : ℕ) → r < length b.rights → slice_index arcs.rights.items r ≡ right_arc b r
-  pub out_count : length arcs.outs.items ≡ length b.nodes
-  pub out : (n : ℕ) → n < length b.nodes → slice_index arcs.outs.items n ≡ out_arc b n
+  pub spill : arcs.spill ≡ spill_arc b 0
 
 -- the ends of the arcs of so many links, rights and nodes, from the first on
 pub record AreEndsOf (b : Basin) (ends : List Ends) (links rights nodes : ℕ) : Type 0 where
@@ -40,8 +39,8 @@ pub record AreAmountsOf (b : Basin) (p : Plan) (g : ℕ → ℕ) (links rights n
 abbrev pub AreAmounts : Basin → Plan → (ℕ → ℕ) → Type 0
 AreAmounts b p g = AreAmountsOf b p g (length b.links) (length b.rights) (length b.nodes)
 
--- the carries of links, the wants of rights, and at outlets as much as a river carries
-pub record AreBounds (b : Basin) (month : Month) (want : List ℕ) (upper : ℕ → ℕ) : Type 0 where
+-- the carries of links, the wants of rights, and so much at each outlet
+pub record AreBounds (b : Basin) (month : Month) (want : List ℕ) (most upper : ℕ → ℕ) : Type 0 where
   pub on_links : (e : ℕ) → e < length b.links → upper e ≡ carry_of b month e
   pub on_takes : (r : ℕ) → r < length b.rights → takes b r ≡ true → upper (take_arc b r) ≡ slice_index want r
-  pub on_outs : (n : ℕ) → n < length b.nodes → is_outlet b n ≡ true → upper (out_arc b n) ≡ 10 ^ 15
+  pub on_outs : (n : ℕ) → n < length b.nodes → is_outlet b n ≡ true → upper (out_arc b n) ≡ most n

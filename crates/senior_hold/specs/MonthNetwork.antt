@@ -1,5 +1,5 @@
 -- A month's network: the links, then the takes, then the outflows, both to the outside node.
-use Rattle.std.specs.Prelude.{◌≡◌, ℕ, ◌+◌, ◌*◌, ◌<◌, ◌^◌, ◌&&◌, Bool, true, List, map, length, slice_index, Option, Some, None, is_some}
+use Rattle.std.specs.Prelude.{◌≡◌, ℕ, ◌+◌, ◌*◌, ◌<◌, ◌&&◌, Bool, true, List, map, length, slice_index, Option, Some, None, is_some}
 use Rattle.std.specs.List.{range_with_len}
 use Rattle.place_sums.specs.Sums.{when, count_where, greatest_where}
 use Rattle.water_model.specs.Basin.{tail_of, head_of, is_outlet, taking_node, instream_link, is_on_link}
@@ -34,6 +34,10 @@ take_arc b right = length b.links + count_where right (λ r. takes b r)
 abbrev pub out_arc : Basin → ℕ → ℕ
 out_arc b node = length b.links + (taker_count b + count_where node (λ n. is_outlet b n))
 
+-- the arc of a node's spill, where each node has one: after the links and the takes
+abbrev pub spill_arc : Basin → ℕ → ℕ
+spill_arc b node = length b.links + (taker_count b + node)
+
 -- the arc of a right: its link, or its take
 abbrev pub arc_by_link : Basin → ℕ → Option ℕ → ℕ
 arc_by_link b right None = take_arc b right
@@ -53,12 +57,11 @@ pub record HasBasinEnds (b : Basin) (w : Network) : Type 0 where
   pub out_from : (n : ℕ) → n < length b.nodes → is_outlet b n ≡ true → w.from (out_arc b n) ≡ n
   pub out_to : (n : ℕ) → n < length b.nodes → is_outlet b n ≡ true → w.to (out_arc b n) ≡ length b.nodes
 
--- the arcs carry at most what links carry, what is wanted, and at an outlet as much as a river
+-- the arcs carry at most what links carry and what is wanted
 pub record IsMonthNetwork (b : Basin) (month : Month) (supply want : List ℕ) (w : Network) : Type 0 where
   pub ends : HasBasinEnds b w
   pub link_upper : (e : ℕ) → e < length b.links → w.upper e ≡ carry_of b month e
   pub take_upper : (r : ℕ) → r < length b.rights → takes b r ≡ true → w.upper (take_arc b r) ≡ slice_index want r
-  pub out_upper : (n : ℕ) → n < length b.nodes → is_outlet b n ≡ true → w.upper (out_arc b n) ≡ 10 ^ 15
   pub supplies : (n : ℕ) → n < length b.nodes → w.supply n ≡ slice_index supply n
 
 -- the lowers hold what the rights that pass the test were delivered

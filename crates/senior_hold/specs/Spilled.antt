@@ -7,9 +7,7 @@ use Rattle.water_model.specs.declared.types.Plan.{Plan}
 use Rattle.water_text.specs.declared.month.Month.{Month}
 use Rattle.circulation.specs.Contents.{Contents, arcs, network, flow_of}
 use Rattle.circulation.specs.Network.{IsFlow}
-use Rattle.senior_hold.specs.MonthNetwork.{taker_count, plan_of, arc_count, IsMonthNetwork}
-use Rattle.senior_hold.specs.Solved.{FitsPlan}
-use Rattle.senior_hold.specs.declared.solver.Room.{Room}
+use Rattle.senior_hold.specs.MonthNetwork.{plan_of, arc_count, IsMonthNetwork}
 
 -- the node lets water out
 abbrev pub let_out : Node → Node
@@ -18,10 +16,6 @@ let_out n = record n { outlet = true }
 -- the basin with an outlet at each node
 abbrev pub spilled : Basin → Basin
 spilled b = record b { nodes = map let_out b.nodes }
-
--- the arc of a node's spill: after the links and the takes
-abbrev pub spill_arc : Basin → ℕ → ℕ
-spill_arc b node = length b.links + (taker_count b + node)
 
 -- what a flow spills at each node
 abbrev pub spills_of : Basin → (ℕ → ℕ) → List ℕ
@@ -40,12 +34,6 @@ pub record HasSpills (c : Contents) (first : ℕ) : Type 0 where
   pub arc : (n : ℕ) → n < c.nodes → first + n < arcs c
   pub from : (n : ℕ) → n < c.nodes → slice_index c.from (first + n) ≡ n
   pub to : (n : ℕ) → n < c.nodes → slice_index c.to (first + n) ≡ c.nodes
-
--- room for a month's bounds, and for the flow that it starts from
-pub record FitsSpilledRoom (b : Basin) (r : Room) : Type 0 where
-  pub fits_most : FitsPlan b r.most
-  pub uppers : length r.upper.items ≡ arc_count (spilled b)
-  pub starts : length r.start.items ≡ arc_count (spilled b)
 
 -- a month that starts with all supply spilled where it comes in, with no arc held
 pub record IsSpilledStart (b : Basin) (month : Month) (supply want : List ℕ) (c : Contents) : Type 0 where

@@ -1,14 +1,15 @@
 //! Amounts by arc: the bounds of a month, and plans as flows and back.
-ghost use Rattle.std.specs.Prelude.{◌≡◌, ℕ, ◌+◌, ◌<◌, ◌≤◌, length, slice_index};
+ghost use Rattle.std.specs.Prelude.{◌≡◌, ℕ, ◌+◌, ◌^◌, ◌<◌, ◌≤◌, length, slice_index};
 ghost use Rattle.place_sums.specs.Sums.{when};
 ghost use Rattle.water_text.specs.Months.{IsMonth};
 ghost use Rattle.water_model.specs.Basin.{is_outlet};
 ghost use Rattle.water_model.specs.Plans.{carry_of};
 ghost use Rattle.water_model.specs.Valid.{IsValidBasin};
 ghost use Rattle.circulation.specs.Contents.{network, flow_of, arcs};
-ghost use Rattle.senior_hold.specs.MonthNetwork.{arc_count, taker_count, take_arc, out_arc, takes, list_of, plan_of, HasBasinEnds};
+ghost use Rattle.senior_hold.specs.MonthNetwork.{arc_count, taker_count, take_arc, spill_arc, takes, list_of, plan_of, HasBasinEnds};
 ghost use Rattle.senior_hold.specs.Arcs.{AreArcs, AreAmounts, AreAmountsOf, AreBounds};
 ghost use Rattle.senior_hold.specs.Solved.{FitsPlan};
+ghost use Rattle.senior_hold.specs.Spilled.{spilled, spills_of};
 
 use crate::arcs::Arcs;
 use circulation::Circulation;
@@ -16,8 +17,11 @@ use water_model::calls::{carry_of, taking_node};
 use water_model::types::{Basin, Plan};
 use water_text::month::Month;
 
+/// As much as a river carries in a month, in units of 1,000 cubic metres.
+pub const RIVER_CARRY: u64 = 1_000_000_000_000_000;
+
 /// Writes the flows of a plan to the places of links.
-pub fn lay_flows(basin: &Basin, plan: &Plan, into: &mut [u64])
+fn lay_flows(basin: &Basin, plan: &Plan, into: &mut [u64])
     requires plan { FitsPlan basin.now plan.now }
     requires into { length basin.now.links ≤ length into.old }
     ensures { AreAmountsOf basin.now plan.now (slice_index into.new) (length basin.now.links) 0 0 }
@@ -28,7 +32,7 @@ pub fn lay_flows(basin: &Basin, plan: &Plan, into: &mut [u64])
 }
 
 /// Writes the takes of a plan to the places of their arcs.
-pub fn lay_takes(basin: &Basin, arcs: &Arcs, plan: &Plan, into: &mut [u64])
+fn lay_takes(basin: &Basin, arcs: &Arcs, plan: &Plan, into: &mut [u64])
     requires valid { IsValidBasin basin.now }
     requires arcs { AreArcs basin.now arcs.now }
     requires plan { FitsPlan basin.now plan.now }
@@ -43,36 +47,35 @@ pub fn lay_takes(basin: &Basin, arcs: &Arcs, plan: &Plan, into: &mut [u64])
     }
 }
 
-/// Writes the outflows of a plan to the places of their arcs.
-fn lay_outs(basin: &Basin, arcs: &Arcs, plan: &Plan, into: &mut [u64])
+/// Writes the outflows of a plan to the places of the spills.
+fn lay_spills(basin: &Basin, arcs: &Arcs, plan: &Plan, into: &mut [u64])
+    requires valid { IsValidBasin basin.now }
     requires arcs { AreArcs basin.now arcs.now }
     requires plan { FitsPlan basin.now plan.now }
-    requires into { length into.old ≡ arc_count basin.now }
+    requires into { length into.old ≡ arc_count (spilled basin.now) }
     requires takes { AreAmountsOf basin.now plan.now (slice_index into.old) (length basin.now.links) (length basin.now.rights) 0 }
-    ensures { AreAmounts basin.now plan.now (slice_index into.new) }
+    ensures { AreAmounts (spilled basin.now) plan.now (slice_index into.new) }
 {
     for node in 0..basin.nodes.len() {
-        if basin.nodes[node].outlet {
-            into[arcs.outs[node] as usize] = plan.out[node];
-        }
+        into[arcs.spill as usize + node] = plan.out[node];
     }
 }
 
-/// Writes the amounts of a plan to the places of their arcs.
+/// Writes the amounts of a plan, which may let water out at each node, to the places of their arcs.
 pub fn lay(basin: &Basin, arcs: &Arcs, plan: &Plan, into: &mut [u64])
     requires valid { IsValidBasin basin.now }
     requires arcs { AreArcs basin.now arcs.now }
     requires plan { FitsPlan basin.now plan.now }
-    requires into { length into.old ≡ arc_count basin.now }
-    ensures { AreAmounts basin.now plan.now (slice_index into.new) }
+    requires into { length into.old ≡ arc_count (spilled basin.now) }
+    ensures { AreAmounts (spilled basin.now) plan.now (slice_index into.new) }
 {
     lay_flows(basin, plan, into);
     lay_takes(basin, arcs, plan, into);
-    lay_outs(basin, arcs, plan, into);
+    lay_spills(basin, arcs, plan, into);
 }
 
 /// The most that each link carries in a month.
-pub fn write_carries(basin: &Basin, month: Month, into: &mut [u64])
+fn write_carries(basin: &Basin, month: Month, into: &mut [u64])
     requires valid { IsValidBasin basin.now }
     requires month { IsMonth month }
     requires into { length into.old ≡ length basin.now.links }
@@ -83,8 +86,22 @@ pub fn write_carries(basin: &Basin, month: Month, into: &mut [u64])
     }
 }
 
-/// The most that each arc may have in a month: the carry of a link, the want of a right that takes, and at an outlet as
-/// much as a river carries. `most` is room for the same by link, right and node.
+/// As much as a river carries where a node is an outlet, and else nothing.
+pub fn write_outlets(basin: &Basin, into: &mut [u64])
+    requires { length into.old ≡ length basin.now.nodes }
+    ensures { (n : ℕ) → n < length basin.now.nodes → slice_index into.new n ≡ when (is_outlet basin.now n) (10 ^ 15) }
+{
+    for node in 0..basin.nodes.len() {
+        into[node] = if basin.nodes[node].outlet {
+            RIVER_CARRY
+        } else {
+            0
+        };
+    }
+}
+
+/// The most that each arc may have in a month: the carry of a link, the want of a right that takes, and of a spill what
+/// stands among the outflows of `most`, which is room for the same by link and right.
 pub fn write_bounds(
     basin: &Basin,
     arcs: &Arcs,
@@ -98,13 +115,12 @@ pub fn write_bounds(
     requires arcs { AreArcs basin.now arcs.now }
     requires want { length want.now ≡ length basin.now.rights }
     requires most { FitsPlan basin.now most.old }
-    requires upper { length upper.old ≡ arc_count basin.now }
+    requires upper { length upper.old ≡ arc_count (spilled basin.now) }
     ensures most { FitsPlan basin.now most.new }
-    ensures upper { AreBounds basin.now month want.now (slice_index upper.new) }
+    ensures upper { AreBounds (spilled basin.now) month want.now (slice_index most.old.out) (slice_index upper.new) }
 {
     write_carries(basin, month, most.flow.as_mut_slice());
     most.take.as_mut_slice().copy_from_slice(want);
-    most.out.as_mut_slice().fill(1_000_000_000_000_000);
     lay(basin, arcs, most, upper);
 }
 
@@ -136,33 +152,28 @@ pub fn read_takes(basin: &Basin, circ: &Circulation, arcs: &Arcs, into: &mut [u6
     }
 }
 
-/// Reads what leaves the basin at each node.
-fn read_outs(basin: &Basin, circ: &Circulation, arcs: &Arcs, into: &mut [u64])
-    requires valid { IsValidBasin basin.now }
-    requires ends { HasBasinEnds basin.now (network circ.now) }
-    requires into { length into.old ≡ length basin.now.nodes }
+/// Reads what each node spills.
+pub fn read_spills(basin: &Basin, circ: &Circulation, arcs: &Arcs, into: &mut [u64])
+    requires spills { spill_arc basin.now (length basin.now.nodes) ≤ length circ.now.from }
     requires arcs { AreArcs basin.now arcs.now }
-    ensures { into.new ≡ list_of (length basin.now.nodes) (λ n.
-        when (is_outlet basin.now n) (flow_of circ.now (out_arc basin.now n))) }
+    requires into { length into.old ≡ length basin.now.nodes }
+    ensures { into.new ≡ spills_of basin.now (flow_of circ.now) }
 {
+    let _arcs = circ.arcs();
     for node in 0..basin.nodes.len() {
-        into[node] = if basin.nodes[node].outlet {
-            circ.flow(arcs.outs[node])
-        } else {
-            0
-        };
+        into[node] = circ.flow(arcs.spill + node as u32);
     }
 }
 
-/// Reads the plan of a flow.
+/// Reads the plan of a flow, which may let water out at each node.
 pub fn read_plan(basin: &Basin, circ: &Circulation, arcs: &Arcs, plan: &mut Plan)
     requires valid { IsValidBasin basin.now }
-    requires ends { HasBasinEnds basin.now (network circ.now) }
+    requires ends { HasBasinEnds (spilled basin.now) (network circ.now) }
     requires arcs { AreArcs basin.now arcs.now }
     requires plan { FitsPlan basin.now plan.old }
-    ensures { plan.new ≡ plan_of basin.now (flow_of circ.now) }
+    ensures { plan.new ≡ plan_of (spilled basin.now) (flow_of circ.now) }
 {
     read_links(circ, plan.flow.as_mut_slice());
     read_takes(basin, circ, arcs, plan.take.as_mut_slice());
-    read_outs(basin, circ, arcs, plan.out.as_mut_slice());
+    read_spills(basin, circ, arcs, plan.out.as_mut_slice());
 }

@@ -1,22 +1,23 @@
-//! The arcs of a basin's month.
+//! The arcs of a basin's month: the links, the takes, and a spill at each node, from there to the outside.
 ghost use Rattle.std.specs.Prelude.{◌≡◌, ℕ, ◌+◌, ◌<◌, length, slice_index, IfOk, OnOk};
 ghost use Rattle.water_model.specs.Basin.{taking_node};
 ghost use Rattle.water_model.specs.Valid.{IsValidBasin};
-ghost use Rattle.senior_hold.specs.MonthNetwork.{taker_count, right_arc, out_arc};
+ghost use Rattle.senior_hold.specs.MonthNetwork.{taker_count, right_arc, spill_arc};
 ghost use Rattle.senior_hold.specs.Arcs.{AreArcs, AreEnds, AreEndsOf};
+ghost use Rattle.senior_hold.specs.Spilled.{spilled};
 
 use circulation::Ends;
 use std::alloc::{AllocError, Global};
 use water_model::calls::taking_node;
 use water_model::types::{Basin, RightKind};
 
-/// The arcs of rights and of outlets.
+/// The arcs of rights and of spills.
 #[derive(Drop)]
 pub struct Arcs {
     /// For each right its arc: an instream right's link, and else the arc of what it takes.
     pub rights: Vec<u32>,
-    /// For each node the arc that it has if it is an outlet, and else that of the next outlet, if there is one.
-    pub outs: Vec<u32>,
+    /// The arc of the first node's spill. Those of the other nodes follow, in the order of the nodes.
+    pub spill: u32,
 }
 
 /// The arc of each right.
@@ -40,7 +41,7 @@ fn right_arcs(alloc: Global, basin: &Basin) -> Result<Vec<u32>, AllocError>
 }
 
 /// How many rights take water.
-pub fn count_takers(basin: &Basin) -> u32
+fn count_takers(basin: &Basin) -> u32
     requires { IsValidBasin basin.now }
     ensures { result ≡ taker_count basin.now }
 {
@@ -53,36 +54,26 @@ pub fn count_takers(basin: &Basin) -> u32
     count
 }
 
-/// For each node the arc that it has if it is an outlet.
-fn outlet_arcs(alloc: Global, basin: &Basin) -> Result<Vec<u32>, AllocError>
+/// The arc of the first node's spill.
+fn first_spill(basin: &Basin) -> u32
     requires { IsValidBasin basin.now }
-    ensures count { IfOk result (λ arcs. length arcs.items ≡ length basin.now.nodes) }
-    ensures each { IfOk result (λ arcs. (n : ℕ) → n < length basin.now.nodes →
-        slice_index arcs.items n ≡ out_arc basin.now n) }
+    ensures { result ≡ spill_arc basin.now 0 }
 {
-    let mut arcs = Vec::new(alloc);
-    let mut next = basin.links.len() as u32 + count_takers(basin);
-    for node in 0..basin.nodes.len() {
-        arcs.push(next)?;
-        if basin.nodes[node].outlet {
-            next += 1;
-        }
-    }
-    Ok(arcs)
+    basin.links.len() as u32 + count_takers(basin)
 }
 
-/// The arcs of a basin's rights and outlets.
+/// The arcs of a basin's rights and spills.
 pub fn arcs_of(alloc: Global, basin: &Basin) -> Result<Arcs, AllocError>
     requires { IsValidBasin basin.now }
     ensures { IfOk result (λ arcs. AreArcs basin.now arcs) }
 {
     let rights = right_arcs(alloc, basin)?;
-    let outs = outlet_arcs(alloc, basin)?;
-    Ok(Arcs { rights, outs })
+    let spill = first_spill(basin);
+    Ok(Arcs { rights, spill })
 }
 
 /// The ends of the links.
-pub fn link_ends(alloc: Global, basin: &Basin) -> Result<Vec<Ends>, AllocError>
+fn link_ends(alloc: Global, basin: &Basin) -> Result<Vec<Ends>, AllocError>
     requires { IsValidBasin basin.now }
     ensures { IfOk result (λ ends. AreEndsOf basin.now ends.items (length basin.now.links) 0 0) }
 {
@@ -96,7 +87,7 @@ pub fn link_ends(alloc: Global, basin: &Basin) -> Result<Vec<Ends>, AllocError>
 }
 
 /// Adds the ends of what rights take.
-pub fn add_takes(basin: &Basin, ends: &mut Vec<Ends>) -> Result<(), AllocError>
+fn add_takes(basin: &Basin, ends: &mut Vec<Ends>) -> Result<(), AllocError>
     requires valid { IsValidBasin basin.now }
     requires links { AreEndsOf basin.now ends.old.items (length basin.now.links) 0 0 }
     ensures { OnOk result (AreEndsOf basin.now ends.new.items (length basin.now.links) (length basin.now.rights) 0) }
@@ -110,18 +101,15 @@ pub fn add_takes(basin: &Basin, ends: &mut Vec<Ends>) -> Result<(), AllocError>
     Ok(())
 }
 
-/// Adds the ends of what leaves the basin at outlets.
-fn add_outs(basin: &Basin, ends: &mut Vec<Ends>) -> Result<(), AllocError>
+/// Adds the ends of the spills.
+fn add_spills(basin: &Basin, ends: &mut Vec<Ends>) -> Result<(), AllocError>
     requires valid { IsValidBasin basin.now }
     requires takes { AreEndsOf basin.now ends.old.items (length basin.now.links) (length basin.now.rights) 0 }
-    ensures { OnOk result (AreEnds basin.now ends.new.items) }
+    ensures { OnOk result (AreEnds (spilled basin.now) ends.new.items) }
 {
     let outside = basin.nodes.len() as u32;
-    for node in 0..basin.nodes.len() {
-        if basin.nodes[node].outlet {
-            let from = node as u32;
-            ends.push(Ends { from, to: outside })?;
-        }
+    for from in 0..outside {
+        ends.push(Ends { from, to: outside })?;
     }
     Ok(())
 }
@@ -129,10 +117,10 @@ fn add_outs(basin: &Basin, ends: &mut Vec<Ends>) -> Result<(), AllocError>
 /// The ends of a month's arcs.
 pub fn ends_of_arcs(alloc: Global, basin: &Basin) -> Result<Vec<Ends>, AllocError>
     requires { IsValidBasin basin.now }
-    ensures { IfOk result (λ ends. AreEnds basin.now ends.items) }
+    ensures { IfOk result (λ ends. AreEnds (spilled basin.now) ends.items) }
 {
     let mut ends = link_ends(alloc, basin)?;
     add_takes(basin, &mut ends)?;
-    add_outs(basin, &mut ends)?;
+    add_spills(basin, &mut ends)?;
     Ok(ends)
 }

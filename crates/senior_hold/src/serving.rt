@@ -2,7 +2,7 @@
 ghost use Rattle.std.specs.Prelude.{◌≡◌, ◌+◌, ◌*◌, ◌^◌, ◌<◌, ◌≤◌, length, slice_index, replicate, false, Some, None, OnOk, OnErr};
 ghost use Rattle.water_model.specs.CutSets.{set_of, with_set, has_room};
 ghost use Rattle.circulation.specs.Contents.{network, arcs, IsCirculation};
-ghost use Rattle.augment.specs.Raised.{HasWayOut, not_reached};
+ghost use Rattle.augment.specs.Raised.{HasWayOut, open_arcs, not_reached};
 ghost use Rattle.senior_hold.specs.MonthNetwork.{list_of};
 ghost use Rattle.senior_hold.specs.Serving.{IsServed, SameEnds, KeepsShape};
 
@@ -49,7 +49,7 @@ pub fn serve<L: Ledger>(
     ensures ends { SameEnds circ.old circ.new }
     ensures shape { KeepsShape cuts.old cuts.new }
     ensures room { OnErr result (has_room cuts.old right ≡ false) }
-    ensures cost { searches.new ≤ searches.old + 30 * (2 * arcs circ.old + 1) }
+    ensures cost { searches.new ≤ searches.old + 30 * (2 * open_arcs (network circ.old) + 1) }
 {
     let raised = raise(circ, arc, want, searches);
     if raised == Raised::Stopped {

@@ -1,19 +1,23 @@
 //! The solver of a basin's months.
-ghost use Rattle.std.specs.Prelude.{◌≡◌, ℕ, ◌+◌, ◌*◌, ◌^◌, ◌<◌, ◌≤◌, length, slice_index, IfOk, OnOk, OnErr};
+//!
+//! There are two ways. By the residual tree a month costs what changes in it, but a push can be small, and there can be
+//! many. So that way has a budget of 30 pushes for each right, for the month as a whole. By searches a month has a bound
+//! on its pushes, whatever its amounts. Where the budget gives out, the month is solved from its beginning by searches.
+//! Both ways go over one network.
+ghost use Rattle.std.specs.Prelude.{◌≡◌, true, ℕ, ◌+◌, ◌*◌, ◌<◌, ◌≤◌, length, IfOk, OnOk, OnErr};
 ghost use Rattle.water_text.specs.Months.{IsMonth};
+ghost use Rattle.water_model.specs.CutSets.{has_room};
 ghost use Rattle.water_model.specs.Valid.{IsValidBasin};
-ghost use Rattle.water_model.specs.RunOfRiver.{IsRunOfRiver};
-ghost use Rattle.circulation.specs.Contents.{network};
-ghost use Rattle.river_net.specs.Net.{IsNet};
-ghost use Rattle.senior_hold.specs.MonthNetwork.{arc_count, HasBasinEnds, month_pushes};
-ghost use Rattle.senior_hold.specs.Solved.{FitsPlan, FitsCuts, AreSupplies, AreWants, IsGiven, IsSolved, LacksRoom};
-ghost use Rattle.senior_hold.specs.Layouts.{IsLayout, FitsRoom, IsBegun};
+ghost use Rattle.senior_hold.specs.MonthNetwork.{arc_count, month_pushes};
+ghost use Rattle.senior_hold.specs.Solved.{FitsPlan, FitsCuts, IsGiven, IsSolved, LacksRoom};
+ghost use Rattle.senior_hold.specs.Layouts.{IsLayout, FitsRoom};
+ghost use Rattle.senior_hold.specs.Spilled.{spilled};
 
-use crate::amounts::{lay, read_plan, write_bounds};
 use crate::arcs::{Arcs, arcs_of, ends_of_arcs};
-use crate::serving::serve;
-use crate::tree_solver::{Sweep, TreeSolver};
+use crate::search_sweep::solve_by_searches;
+use crate::tree_sweep::{Sweep, solve_by_tree};
 use circulation::Circulation;
+use residual_tree::ResidualTree;
 use rights_roll::roll::Roll;
 use river_net::Net;
 use std::alloc::{AllocError, Global};
@@ -41,101 +45,6 @@ pub struct Room {
     pub start: Vec<u64>,
 }
 
-/// Writes the run of the river, which is a plan for any wants.
-fn run_river(basin: &Basin, net: &Net, supply: &[u64], plan: &mut Plan)
-    requires valid { IsValidBasin basin.now }
-    requires net { IsNet basin.now.nodes basin.now.links net.now }
-    requires supply { AreSupplies basin.now supply.now }
-    requires plan { FitsPlan basin.now plan.old }
-    ensures fits { FitsPlan basin.now plan.new }
-    ensures run { IsRunOfRiver basin.now supply.now plan.new }
-    ensures small { (n : ℕ) → n < length basin.now.nodes → slice_index plan.new.out n ≤ 10 ^ 15 }
-{
-    plan.take.as_mut_slice().fill(0);
-    net.natural(supply, plan.flow.as_mut_slice(), plan.out.as_mut_slice());
-}
-
-/// Starts a month from the run of the river, with no arc held.
-fn begin(
-    basin: &Basin,
-    layout: &Layout,
-    room: &mut Room,
-    circ: &mut Circulation,
-    month: Month,
-    supply: &[u64],
-    want: &[u64],
-    plan: &mut Plan,
-)
-    requires valid { IsValidBasin basin.now }
-    requires layout { IsLayout basin.now layout.now }
-    requires room { FitsRoom basin.now room.old }
-    requires ends { HasBasinEnds basin.now (network circ.old) }
-    requires month { IsMonth month }
-    requires supply { AreSupplies basin.now supply.now }
-    requires want { AreWants basin.now month want.now }
-    requires plan { FitsPlan basin.now plan.old }
-    ensures room { FitsRoom basin.now room.new }
-    ensures fits { FitsPlan basin.now plan.new }
-    ensures begun { IsBegun basin.now month supply.now want.now circ.new plan.new }
-{
-    write_bounds(
-        basin,
-        &layout.arcs,
-        month,
-        want,
-        &mut room.most,
-        &mut room.upper,
-    );
-    run_river(basin, &layout.net, supply, plan);
-    lay(basin, &layout.arcs, plan, &mut room.start);
-    circ.begin_month(supply, &room.upper, &room.start);
-}
-
-/// Serves the rights, seniors first, and reads the plan.
-fn solve<L: Ledger>(
-    basin: &Basin,
-    layout: &Layout,
-    room: &mut Room,
-    circ: &mut Circulation,
-    month: Month,
-    supply: &[u64],
-    want: &[u64],
-    plan: &mut Plan,
-    cuts: &mut CutList,
-    searches: &mut Steps<L>,
-) -> Result<(), AllocError>
-    requires valid { IsValidBasin basin.now }
-    requires layout { IsLayout basin.now layout.now }
-    requires room { FitsRoom basin.now room.old }
-    requires ends { HasBasinEnds basin.now (network circ.old) }
-    requires month { IsMonth month }
-    requires given { IsGiven basin.now month supply.now want.now plan.old cuts.old }
-    ensures fits_room { FitsRoom basin.now room.new }
-    ensures ends { HasBasinEnds basin.now (network circ.new) }
-    ensures plan { FitsPlan basin.now plan.new }
-    ensures cuts { FitsCuts basin.now cuts.new }
-    ensures solved { OnOk result (IsSolved basin.now month supply.now want.now plan.new cuts.new) }
-    ensures room { OnErr result (LacksRoom basin.now cuts.old) }
-    ensures pushes { searches.new ≤ searches.old + length basin.now.rights * (30 * (2 * arc_count basin.now + 1)) }
-{
-    begin(basin, layout, room, circ, month, supply, want, plan);
-    let order = layout.roll.by_seniority();
-    for turn in 0..order.len() {
-        let right = order[turn];
-        let place = right as usize;
-        serve(
-            circ,
-            layout.arcs.rights[place],
-            want[place],
-            right,
-            cuts,
-            searches,
-        )?;
-    }
-    read_plan(basin, circ, &layout.arcs, plan);
-    Ok(())
-}
-
 /// Finds for each month of a basin the plan that serves seniors first. Contracts see a solver as its basin.
 #[derive(Drop)]
 pub struct Solver<'b> {
@@ -143,7 +52,7 @@ pub struct Solver<'b> {
     layout: Layout,
     room: Room,
     circ: Circulation,
-    tree: TreeSolver<'b>,
+    tree: ResidualTree,
 }
 
 impl<'b> Model for Solver<'b> {
@@ -159,7 +68,7 @@ impl<'b> Model for Solver<'b> {
 }
 
 /// What stays from month to month in a basin.
-pub fn layout_of(alloc: Global, basin: &Basin) -> Result<Layout, AllocError>
+fn layout_of(alloc: Global, basin: &Basin) -> Result<Layout, AllocError>
     requires { IsValidBasin basin.now }
     ensures { IfOk result (λ layout. IsLayout basin.now layout) }
 {
@@ -178,7 +87,7 @@ pub fn layout_of(alloc: Global, basin: &Basin) -> Result<Layout, AllocError>
 
 /// Room for so many links, rights, nodes and arcs.
 fn room_of(alloc: Global, basin: &Basin, arcs: usize) -> Result<Room, AllocError>
-    requires { arcs ≡ arc_count basin.now }
+    requires { arcs ≡ arc_count (spilled basin.now) }
     ensures { IfOk result (λ room. FitsRoom basin.now room) }
 {
     let most = Plan {
@@ -201,9 +110,10 @@ impl<'b> Solver<'b> {
     {
         let layout = layout_of(alloc, basin)?;
         let ends = ends_of_arcs(alloc, basin)?;
-        let circ = Circulation::open(alloc, basin.nodes.len() as u32, &ends)?;
+        let nodes = basin.nodes.len() as u32;
+        let circ = Circulation::open(alloc, nodes, &ends)?;
         let room = room_of(alloc, basin, ends.len())?;
-        let tree = TreeSolver::open(alloc, basin)?;
+        let tree = ResidualTree::open(alloc, nodes)?;
         Ok(Solver {
             basin,
             layout,
@@ -213,9 +123,78 @@ impl<'b> Solver<'b> {
         })
     }
 
+    /// Solves a month as `solve_month` does, by the residual tree, unless that needs more than 30 pushes for each right on
+    /// average: then the answer is GaveUp, and the plan and the sets say nothing of the month.
+    pub fn sweep_by_tree<L: Ledger>(
+        &mut self,
+        month: Month,
+        supply: &[u64],
+        want: &[u64],
+        plan: &mut Plan,
+        cuts: &mut CutList,
+        searches: &mut Steps<L>,
+    ) -> Result<Sweep, AllocError>
+        requires month { IsMonth month }
+        requires given { IsGiven self.old month supply.now want.now plan.old cuts.old }
+        ensures same { self.new ≡ self.old }
+        ensures plan { FitsPlan self.old plan.new }
+        ensures cuts { FitsCuts self.old cuts.new }
+        ensures solved { IfOk result (λ s. s ≡ Sweep.Solved → IsSolved self.old month supply.now want.now plan.new cuts.new) }
+        ensures stays { (r : ℕ) → has_room cuts.old r ≡ true → has_room cuts.new r ≡ true }
+        ensures room { OnErr result (LacksRoom self.old cuts.old) }
+        ensures pushes { searches.new ≤ searches.old + 30 * length self.old.rights }
+    {
+        solve_by_tree(
+            self.basin,
+            &self.layout,
+            &mut self.room,
+            &mut self.circ,
+            &mut self.tree,
+            month,
+            supply,
+            want,
+            plan,
+            cuts,
+            searches,
+        )
+    }
+
+    /// Solves a month as `solve_month` does, by searches alone.
+    pub fn sweep_by_searches<L: Ledger>(
+        &mut self,
+        month: Month,
+        supply: &[u64],
+        want: &[u64],
+        plan: &mut Plan,
+        cuts: &mut CutList,
+        searches: &mut Steps<L>,
+    ) -> Result<(), AllocError>
+        requires month { IsMonth month }
+        requires given { IsGiven self.old month supply.now want.now plan.old cuts.old }
+        ensures same { self.new ≡ self.old }
+        ensures plan { FitsPlan self.old plan.new }
+        ensures cuts { FitsCuts self.old cuts.new }
+        ensures solved { OnOk result (IsSolved self.old month supply.now want.now plan.new cuts.new) }
+        ensures room { OnErr result (LacksRoom self.old cuts.old) }
+        ensures pushes { searches.new ≤ searches.old + length self.old.rights * (30 * (2 * arc_count self.old + 1)) }
+    {
+        solve_by_searches(
+            self.basin,
+            &self.layout,
+            &mut self.room,
+            &mut self.circ,
+            month,
+            supply,
+            want,
+            plan,
+            cuts,
+            searches,
+        )
+    }
+
     /// Writes the plan of a month that serves seniors first, and gives each right that is short its reach as its set. The
     /// supply is indexed by node, the want by right, both in units of 1,000 cubic metres. Without rights the plan is the
-    /// run of the river. Each search that finds a walk ticks `searches` once.
+    /// run of the river. Each search that finds a walk, and each push along the tree, ticks `searches` once.
     ///
     /// AllocError comes only where memory for the set of a right is lacking that had no room for one yet. Then the lists
     /// keep their lengths and the solver can go on, but the plan and the sets say nothing of the month.
@@ -237,24 +216,11 @@ impl<'b> Solver<'b> {
         ensures room { OnErr result (LacksRoom self.old cuts.old) }
         ensures pushes { searches.new ≤ searches.old + month_pushes self.old }
     {
-        let sweep = self
-            .tree
-            .solve_month(month, supply, want, plan, cuts, searches)?;
+        let sweep = self.sweep_by_tree(month, supply, want, plan, cuts, searches)?;
         if sweep == Sweep::Solved {
             return Ok(());
         }
         cuts.clear();
-        solve(
-            self.basin,
-            &self.layout,
-            &mut self.room,
-            &mut self.circ,
-            month,
-            supply,
-            want,
-            plan,
-            cuts,
-            searches,
-        )
+        self.sweep_by_searches(month, supply, want, plan, cuts, searches)
     }
 }

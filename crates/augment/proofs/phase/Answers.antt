@@ -1,7 +1,7 @@
 use Rattle.std.proofs.Common.{◌-◌, ◌*◌, arith, subst, sym, ap, ◌∙◌}
 use Rattle.circulation.specs.Network.{IsFlow}
-use Rattle.circulation.specs.Contents.{Contents, network, flow_of, arcs}
-use Rattle.augment.specs.Raised.{HasWayOut, IsGreatestCut, not_reached}
+use Rattle.circulation.specs.Contents.{Contents, network, flow_of}
+use Rattle.augment.specs.Raised.{open_arcs, HasWayOut, IsGreatestCut, not_reached}
 use Rattle.augment.proofs.Raises.{flow_over}
 use Rattle.augment.proofs.Rises.{phase_next}
 use Rattle.augment.proofs.phase.Goals as goal
@@ -16,7 +16,7 @@ returns-then-not-round-clause-left g c = λ _ h flow.
     let own = subst (λ (x : Contents). IsFlow (network x) h) (sym c.loop-circ.invariant.rest) flow in
     let rise = c.round.ensures.rise c.if-not-round.true h own in
     let same = ap (λ (x : Contents). flow_of x c.args.arc) stopped.0 in
-    let count = ap (λ (x : Contents). arcs x * (c.args.least - 1)) c.loop-circ.invariant.rest in
+    let count = ap (λ (x : Contents). open_arcs (network x) * (c.args.least - 1)) c.loop-circ.invariant.rest in
     omega (arith, rise, same, count)
 
 pub returns-then-not-round-clause-cut : goal.returns-then-not-round-clause-cut
@@ -36,7 +36,7 @@ loop-circ-preserved g c =
     let reach = c.requires.rise (flow_of c.loop-circ.circ) flow inv.limit in
     let pushed = c.round.ensures.pushed c.if-not-round.false in
     let wide = c.round.ensures.wide c.if-not-round.false in
-    let next = phase_next c.args.least (arcs c.args.circ.now) c.args.searches.now c.loop-circ.searches
+    let next = phase_next c.args.least (open_arcs (network c.args.circ.now)) c.args.searches.now c.loop-circ.searches
     c.round.new.searches (flow_of c.args.circ.now c.args.arc) (flow_of c.loop-circ.circ c.args.arc)
     (flow_of c.round.new.circ c.args.arc) c.args.want c.requires.least inv.counted pushed.2
     (inv.each (omega (arith, less, seen))) reach (omega (arith, less, seen)) wide in

@@ -1,6 +1,6 @@
 use Rattle.std.proofs.Common.{◌+◌, ◌-◌, ◌*◌, ◌<◌, ◌≤◌}
-use Rattle.circulation.specs.Contents.{flow_of, arcs}
-use Rattle.augment.specs.Raised.{SameButFlow}
+use Rattle.circulation.specs.Contents.{flow_of, network}
+use Rattle.augment.specs.Raised.{open_arcs, SameButFlow}
 use Rattle.augment.proofs.phase.Given as goal
 
 abbrev pub invariant-loop-circ : goal.invariant-loop-circ
@@ -10,7 +10,7 @@ invariant-loop-circ g l = record {
   rises : flow_of l.fn.circ l.arc ≤ flow_of l.circ l.arc;
   counted : l.fn.searches ≤ l.searches;
   each : flow_of l.circ l.arc < l.want → (l.searches - l.fn.searches) * l.least + flow_of l.fn.circ l.arc ≤ flow_of l.circ l.arc;
-  cost : l.searches ≤ l.fn.searches + (2 * arcs l.fn.circ + 1);
+  cost : l.searches ≤ l.fn.searches + (2 * open_arcs (network l.fn.circ) + 1);
 }
 
 abbrev pub decreases-loop-circ : goal.decreases-loop-circ

@@ -1,9 +1,8 @@
 use Rattle.std.proofs.Common.{ℕ, ◌≡◌, ◌+◌, ◌-◌, ◌<◌, slice_index, arith, subst, ap, ◌∙◌}
-use Rattle.circulation.specs.Contents.{Contents, network, flow_of, arcs}
-use Rattle.augment.specs.Search.{IsDoneOut, IsDoneIn}
+use Rattle.circulation.specs.Contents.{Contents, network, flow_of}
+use Rattle.augment.specs.Search.{IsExpanded}
 use Rattle.augment.specs.Raised.{position_of}
 use Rattle.augment.proofs.Trees.{tree_size, unreached_before}
-use Rattle.augment.proofs.Scans.{visited_more}
 use Rattle.augment.proofs.Searches.{done_next}
 use Rattle.augment.proofs.search.Goals as goal
 
@@ -34,36 +33,27 @@ loop-done-preserved c =
     let inv = c.loop-done.invariant in
     let first = ap (λ (x : Contents). x.nodes) c.plant.ensures.rest in
     let rest = ap (λ (x : Contents). x.nodes) inv.rest in
-    let nodes : c.nodes-nodes.result ≡ c.loop-done.circ.nodes = omega (arith, first, rest, c.nodes-nodes.ensures.number) in
-    let node = c.word-node.ensures ∙ ap (λ (n : ℕ). slice_index c.loop-done.circ.scratch (n + 1 + c.loop-done.done)) nodes in
+    let nodes : c.nodes-nodes.result ≡ c.loop-done.circ.nodes = omega
+    (arith, first, rest, c.nodes-nodes.ensures.number) in
+    let node = c.word-node.ensures ∙ ap (λ (n : ℕ). slice_index c.loop-done.circ.scratch (n + 1 + c.loop-done.done))
+    nodes in
     let ends = c.requires.kept.ends in
     let tail = ends.from_in c.args.arc c.requires.arc in
     let same = ap (λ (x : Contents). slice_index x.from c.args.arc) inv.rest in
-    let same_out = ap (λ (x : Contents). slice_index x.from c.args.arc) c.scan_out-size.ensures.visited.rest in
-    let out_rest = ap (λ (x : Contents). x.nodes) c.scan_out-size.ensures.visited.rest in
-    let out = λ (none : position_of c.scan_out-size.new.circ (slice_index c.loop-done.circ.from c.args.arc) ≡ 0). subst
-    (λ (v : ℕ). IsDoneOut (network c.loop-done.circ) (flow_of c.loop-done.circ) c.args.arc c.args.least
-    (position_of c.scan_out-size.new.circ) v (arcs c.loop-done.circ)) node (c.scan_out-size.ensures.done none) in
-    let into = λ (none : position_of c.scan_in-size.new.circ
-    (slice_index c.scan_out-size.new.circ.from c.args.arc) ≡ 0). subst
-    (λ (v : ℕ). IsDoneIn (network c.scan_out-size.new.circ)
-    (flow_of c.scan_out-size.new.circ) c.args.arc c.args.least (position_of c.scan_in-size.new.circ) v
-    (arcs c.scan_out-size.new.circ)) node (c.scan_in-size.ensures.done none) in
-    let all = visited_more _ _ _ _ _ _ _ _ c.scan_out-size.ensures.visited c.scan_in-size.ensures.visited in
+    let all = c.scan-size.ensures.visited in
     let larger = all.grows.larger in
+    let scanned = λ (none : position_of c.scan-size.new.circ (slice_index c.loop-done.circ.from c.args.arc) ≡ 0). subst
+    (λ (v : ℕ). IsExpanded (network c.loop-done.circ) (flow_of c.loop-done.circ) c.args.arc c.args.least
+    (position_of c.scan-size.new.circ) v) node (c.scan-size.ensures.done none) in
     record {
-      rest = all.rest ∙ ap (λ (x : Contents). record x { scratch = c.scan_in-size.new.circ.scratch }) inv.rest;
+      rest = all.rest ∙ ap (λ (x : Contents). record x { scratch = c.scan-size.new.circ.scratch }) inv.rest;
       tree = all.tree;
-      kept = c.scan_in-size.ensures.kept;
+      kept = c.scan-size.ensures.kept;
       done = λ none.
-          let before_in = unreached_before _ _ _ _ _ _ c.scan_in-size.ensures.visited.grows
-          (omega (arith, tail, rest, out_rest)) none in
-          let before_out = unreached_before _ _ _ _ _ _ c.scan_out-size.ensures.visited.grows
-          (omega (arith, tail, rest)) before_in in
-          done_next c.args.circ.now c.loop-done.circ c.scan_out-size.new.circ c.scan_in-size.new.circ _ _ _ _ _ _ ends
-          inv.rest inv.tree c.loop-done-test.true (inv.done before_out) c.scan_out-size.ensures.visited
-          (out (ap (position_of c.scan_out-size.new.circ) same ∙ before_in)) c.scan_in-size.ensures.visited
-          (into (ap (position_of c.scan_in-size.new.circ) (same_out ∙ same) ∙ none));
+          let before = unreached_before _ _ _ _ _ _ all.grows (omega (arith, tail, rest)) none in
+          done_next c.args.circ.now c.loop-done.circ c.scan-size.new.circ _ _ _ _ _ ends
+          inv.rest inv.tree c.loop-done-test.true (inv.done before) all
+          (scanned (ap (position_of c.scan-size.new.circ) same ∙ none));
       within = omega (arith, larger, c.loop-done-test.true);
     }
 

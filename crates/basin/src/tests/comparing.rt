@@ -1,91 +1,20 @@
 //! Comparisons of two basins.
-ghost use Rattle.std.specs.Prelude.{◌≡◌, ◌<◌};
-
 use super::lakes::LAKE;
 use super::ordinary::{ORDINARY, ORDINARY_SERIES};
 use super::rivers::JUNIOR_SHORT;
-use super::{GAUGED, NEVER, RIVER, blanks, call_over, files};
-use basin_cli::{Status, basin_main};
+use super::{GAUGED, RIVER, Set, blanks, call_over, expect, files, with};
+use basin_cli::Status;
 use std::alloc::Global;
 use std::marker::Brand;
-use std::process::Abort;
-use std::sync::ledger::{Blank, Ledger};
+use std::sync::ledger::Blank;
 use std::test::Fail;
-use steps::Steps;
-use water_edge::{MemoryShelf, MemorySink};
+use water_edge::MemorySink;
 
-/// The bytes of the files BASIN, BASIN2 and SERIES, and the numbers of the calls of the shelf and of out that fail.
-#[derive(Drop)]
-struct Set {
-    first: Vec<u8>,
-    second: Vec<u8>,
-    series: Vec<u8>,
-    shelf_fails: u64,
-    out_fails: u64,
-}
-
-/// Files whose calls all succeed.
+/// Files of two basins and a series, whose calls all succeed.
 fn set_of(alloc: Global, first: &str, second: &str, series: &str) -> Result<Set, Fail> {
-    Ok(Set {
-        first: Vec::from_slice(alloc, first.as_bytes())?,
-        second: Vec::from_slice(alloc, second.as_bytes())?,
-        series: Vec::from_slice(alloc, series.as_bytes())?,
-        shelf_fails: NEVER,
-        out_fails: NEVER,
-    })
-}
-
-/// The words, and a shelf that holds the files.
-fn set_up(alloc: Global, words: &[&str], set: Set) -> Result<(Vec<String>, MemoryShelf), Fail> {
-    let mut list = Vec::new(alloc);
-    for word in words {
-        list.push(String::from_str(alloc, word)?)?;
-    }
-    let mut held = Vec::new(alloc);
-    held.push((String::from_str(alloc, "BASIN")?, set.first))?;
-    held.push((String::from_str(alloc, "BASIN2")?, set.second))?;
-    held.push((String::from_str(alloc, "SERIES")?, set.series))?;
-    let failing = vec![in alloc; set.shelf_fails; 1]?;
-    Ok((list, MemoryShelf::new(held, failing)))
-}
-
-/// Calls the program and gives its status, and what stands on out and err.
-fn compare_over<L: Ledger>(
-    alloc: Global,
-    blank: Blank,
-    words: &[&str],
-    set: Set,
-) -> Result<(Status, MemorySink, MemorySink), Fail>
-    requires name { blank.name ≡ L.name }
-    requires parts { blank.parts ≡ L.parts }
-    requires some { 0 < L.parts }
-{
-    let mut searches = Steps::<L>::new(blank);
-    let mut out = MemorySink::new(alloc, 8192, vec![in alloc; set.out_fails; 1]?)?;
-    let mut err = MemorySink::new(alloc, 4096, Vec::new(alloc))?;
-    let (words, mut shelf) = set_up(alloc, words, set)?;
-    let status = basin_main(alloc, &words, &mut shelf, &mut out, &mut err, &mut searches);
-    Ok((status, out, err))
-}
-
-/// Calls the program, and compares its status, and what stands on out and err.
-fn expect<R: Abort + AllocGlobal>(
-    rt: &R,
-    words: &[&str],
-    set: Set,
-    want: (Status, &str, &str),
-) -> Result<(), Fail> {
-    let (status, out, err) = compare_over::<Brand>(rt.alloc(), Blank::new(1), words, set)?;
-    assert_eq!(rt; status, want.0);
-    assert_eq!(rt; out.bytes(), want.1.as_bytes());
-    assert_eq!(rt; err.bytes(), want.2.as_bytes());
-    Ok(())
-}
-
-/// A text with other words in the place of some that stand in it.
-fn with(alloc: Global, text: &str, old: &str, new: &str) -> Result<String, Fail> {
-    let (before, after) = text.split_once(old).ok_or("nothing to change")?;
-    Ok(format!(in alloc; "{before}{new}{after}")?)
+    let mut set = files(alloc, first, series)?;
+    set.second = Vec::from_slice(alloc, second.as_bytes())?;
+    Ok(set)
 }
 
 const PLAIN: [&str; 4] = ["compare", "BASIN", "BASIN2", "-"];

@@ -16,3 +16,6 @@ returns-clause-ends g c = record {
 pub returns-clause-complete : goal.returns-clause-complete
 returns-clause-complete g c =
     rw c.status.ensures (completes _ c.decide-ending.result (g.S.Shelf.told c.args.shelf.now) _ _ c.decide-ending.ensures.cause)
+
+pub returns-clause-out_stays : goal.returns-clause-out_stays
+returns-clause-out_stays g c = rw c.status.ensures c.decide-ending.ensures.out_stays

@@ -1,17 +1,51 @@
-use Rattle.std.proofs.Common.{arith}
-use Rattle.circulation.proofs.RowSums.{summed_start, summed_next, summed_small}
+use Rattle.std.proofs.Common.{ℕ, Bool, true, false, not, ◌≡◌, ◌+◌, ◌%◌, slice_index, arith, ap, sym, subst, ◌∙◌}
+use Rattle.std.proofs.lemmas.Bool.{eq-eqb, ne_eqb}
+use Rattle.place_sums.specs.Sums.{when}
+use Rattle.circulation.specs.Residual.{arc_of, is_back}
+use Rattle.circulation.proofs.RowSums.{IsRowSum, row_sum_start, row_sum_next, row_sum_small, row_sum_all, row_outflow}
 use Rattle.circulation.proofs.Circulation.outflow.Goals as goal
+use Rattle.circulation.proofs.Circulation.outflow.Goals.{then-step-eq0, else-step-eq0}
 
-pub loop-next-init : goal.loop-next-init
-loop-next-init c = summed_start _ _ _ _ c.first_out-next.ensures.arc
+pub loop-place-init : goal.loop-place-init
+loop-place-init c = row_sum_start _ _ _ _ _ c.row_first-place.ensures.place
+
+pub step_at-step-requires : goal.step_at-step-requires
+step_at-step-requires c =
+    let row = c.row_last-place-end.ensures.kept.rows.rows c.args.node c.requires.node in
+    omega (arith, row.within, c.row_last-place-end.ensures.place)
 
 pub overflow_add-sum : goal.overflow_add-sum
 overflow_add-sum c =
-    let kept = c.first_out-next.ensures.kept in
-    let small = summed_small _ _ _ _ _ kept.shape.few_arcs c.type_inv.amounts c.loop-next.invariant in
-    omega (arith, small, c.from-sum.ensures, c.type_inv.amounts c.in-Some.arc)
+    let small = row_sum_small _ _ _ _ _ _ c.type_inv.amounts c.loop-place.invariant in
+    omega (arith, small, c.from-sum.ensures)
 
-pub loop-next-preserved : goal.loop-next-preserved
-loop-next-preserved c =
-    let more = summed_next _ _ _ c.in-Some.arc _ _ _ c.loop-next.invariant c.in-Some.is c.next_out-next.ensures in
-    rw c.from-sum.ensures more
+pub loop-place-preserved : goal.loop-place-preserved
+loop-place-preserved c =
+    let next = row_sum_next _ _ _ (λ s. not (is_back s)) _ _ c.loop-place.invariant in
+    let step = c.step_at-step.ensures in
+    let amount : ℕ → ℕ = λ s. slice_index c.args.amounts.now (arc_of s) in
+    elim c.if-step-eq0.branch [
+      | then-step-eq0 w ↦
+          let passes : not (is_back c.step_at-step.result) ≡ true = ap not
+          (ne_eqb (c.step_at-step.result % 2) 1 (λ e. absurd (omega (arith, e, w.if-step-eq0.true)))) in
+          subst (λ (n : ℕ). IsRowSum c.args.self.now.rows c.args.amounts.now c.args.node (λ s. not (is_back s))
+          (c.loop-place.place + 1) n)
+          (omega (arith, w.sum-is, w.from-sum.ensures, ap (λ (s : ℕ). when (not (is_back s)) (amount s)) (sym step), ap
+          (λ (t : Bool). when t (amount c.step_at-step.result)) passes)) next
+      | else-step-eq0 w ↦
+          let fails : not (is_back c.step_at-step.result) ≡ false = ap not
+          (eq-eqb (c.step_at-step.result % 2) 1 (omega (arith, w.if-step-eq0.false))) in
+          subst (λ (n : ℕ). IsRowSum c.args.self.now.rows c.args.amounts.now c.args.node (λ s. not (is_back s))
+          (c.loop-place.place + 1) n)
+          (omega (arith, w.sum-is, ap (λ (s : ℕ). when (not (is_back s)) (amount s)) (sym step), ap
+          (λ (t : Bool). when t (amount c.step_at-step.result)) fails)) next
+    ]
+
+pub returns : goal.returns
+returns c =
+    let row = c.row_last-place-end.ensures.kept.rows.rows c.args.node c.requires.node in
+    let end : c.loop-place.place ≡ slice_index c.args.self.now.rows.first (c.args.node + 1) = omega
+    (arith, c.loop-place-test.false, c.loop-place.auto.place-end, row.order, c.row_first-place.ensures.place,
+    c.row_last-place-end.ensures.place) in
+    row_sum_all _ _ _ (λ s. not (is_back s)) _ _ end c.loop-place.invariant
+    ∙ row_outflow _ _ _ c.args.node (slice_index c.args.amounts.now) row

@@ -3,7 +3,7 @@ use Rattle.std.specs.Prelude.{IsTrue, ◌↔◌}
 use Rattle.std.proofs.Common.{ℕ, Bool, ◌<◌, ◌≡◌, ◌≢◌, ◌*◌, ◌+◌, ◌∙◌, false, sym, subst, arith}
 use denote.Enum.Bare.{sameb}
 use Rattle.residual_tree.specs.Tree.{word_of, IsReached}
-use Rattle.residual_tree.specs.declared.Pulled.{Pulled}
+use Rattle.residual_tree.specs.declared.raising.Pulled.{Pulled}
 use Rattle.residual_tree.specs.contracts.Pulled.{the_type}
 use Rattle.residual_tree.proofs.Grows.{lent_some}
 use Rattle.senior_hold.proofs.pulls.pull_once.Goals as goal

@@ -1,5 +1,5 @@
 use Rattle.std.proofs.Common.{◌≡◌, ◌≢◌, ◌∙◌, sym}
-use Rattle.residual_tree.specs.declared.Pulled.{Pulled}
+use Rattle.residual_tree.specs.declared.raising.Pulled.{Pulled}
 use Rattle.senior_hold.proofs.TreeServes.{served_full, served_dry}
 use Rattle.senior_hold.proofs.pulls.serve_by_tree.Goals as goal
 

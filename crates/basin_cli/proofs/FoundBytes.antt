@@ -1,0 +1,58 @@
+-- What is found of the bytes of a basin file, a series and a result.
+use Rattle.std.proofs.Common.{◌≡◌, ℕ, List, Option, Some, None, refl}
+use Rattle.std.specs.Prelude.{Ok, Err}
+use Rattle.std.specs.Option.{option_and_then}
+use Rattle.basin_file.specs.BasinFaults.{Spells}
+use Rattle.cert_check.specs.Standing.{IsAnswer}
+use Rattle.cert_check.specs.Whole.{text_verdict}
+use Rattle.cert_check.specs.declared.refuted.Refuted.{Refuted}
+use Rattle.inflow_file.specs.SeriesFaults.{series_fault}
+use Rattle.inflow_file.specs.declared.refused.SeriesRefused.{SeriesRefused}
+use Rattle.water_model.specs.declared.types.Basin.{Basin}
+use Rattle.water_model.specs.declared.types.Inflows.{Inflows}
+use Rattle.basin_cli.specs.declared.ending.Ending.{Ending}
+use Rattle.basin_cli.specs.declared.ending.Ending.TheVariants as ending
+use Rattle.basin_cli.specs.declared.ending.SeriesFinding.{SeriesFinding}
+use Rattle.basin_cli.specs.declared.found.Found.TheVariants as found
+use Rattle.basin_cli.specs.Bytes.{AreSpelled}
+use Rattle.basin_cli.specs.Ending.{finding_of}
+use Rattle.basin_cli.specs.Found.{IsFound, RunsAreAccepted, refusal}
+use Rattle.basin_cli.specs.Series.{BasinEnds, SeriesEnds}
+use Rattle.basin_cli.proofs.Judged.{is_no_text, is_text}
+
+pub basin_found : (bytes s text : List ℕ) (how : Ending) → BasinEnds bytes how → IsFound (refusal how) bytes s text
+basin_found bytes s text (ending.BasinRefused finding) h = (finding, h)
+basin_found bytes s text ending.OutOfMemory h = tt
+basin_found bytes s text other h = absurd h
+
+-- a finding is of some fault
+some_fault : (b : Basin) (o : Option SeriesRefused) (finding : SeriesFinding) → option_and_then (finding_of b) o ≡ Some finding →
+    (why : SeriesRefused) × (o ≡ Some why)
+some_fault b None finding e = cc
+some_fault b (Some why) finding e = (why, refl)
+
+pub series_found : (bytes s text : List ℕ) (b : Basin) (how : Ending) → Spells bytes b → SeriesEnds b s how → IsFound (refusal how) bytes s text
+series_found bytes s text b (ending.SeriesRefused finding) spelled h =
+    let fault = some_fault b (series_fault b s) finding h in
+    record { basin = b; spelled = spelled; why = fault.0; first = fault.1 }
+series_found bytes s text b ending.OutOfMemory spelled h = tt
+series_found bytes s text b other spelled h = absurd h
+
+pub accepted_found : (bytes s text : List ℕ) (b : Basin) (series : Inflows) (months : ℕ) → AreSpelled bytes s b series →
+    IsAnswer b (Ok months) (text_verdict b series text) → IsFound found.Accepted bytes s text
+accepted_found bytes s text b series months spelled h = is_text bytes s text b series spelled.valid spelled h.0
+
+pub refuted_found : (bytes s text : List ℕ) (b : Basin) (series : Inflows) (refuted : Refuted) → AreSpelled bytes s b series →
+    IsAnswer b (Err refuted) (text_verdict b series text) → IsFound found.Refuted bytes s text
+refuted_found bytes s text b series refuted spelled h = is_no_text bytes s text b series refuted spelled.valid spelled h
+
+pub runs_are_accepted : RunsAreAccepted
+runs_are_accepted bytes s basin records is = record {
+  basin = basin;
+  series = is.series;
+  spelled = is.spelled;
+  records = records;
+  history = is.keeps.history;
+  text = refl;
+  greatest = is.keeps.greatest;
+}

@@ -1,0 +1,111 @@
+-- Scripts of changes to a series: how a call that answers one may end, and what it leaves on out.
+use Rattle.std.specs.Prelude.{◌≡◌, ℕ, ◌+◌, ◌*◌, ◌≤◌, ◌⊎◌, List, length, Option, Ok, Err, IsOk, IsErr, IfSome, ⊤}
+use Rattle.edit_script.specs.Edits.{cost}
+use Rattle.edit_script.specs.Scripts.{script_of}
+use Rattle.edit_script.specs.declared.edit.Edit.{Edit}
+use Rattle.edit_script.specs.declared.refused.ScriptFault.{ScriptFault}
+use Rattle.edit_script.specs.declared.refused.ScriptRefused.TheVariants as refused
+use Rattle.edit_shows.specs.Shown.{AnswersWhole}
+use Rattle.edit_shows.specs.declared.stop.EditStop.TheVariants as stop
+use Rattle.senior_hold.specs.MonthNetwork.{month_pushes}
+use Rattle.water_model.specs.declared.types.Basin.{Basin}
+use Rattle.water_model.specs.declared.types.Inflows.{Inflows}
+use Rattle.basin_cli.specs.declared.ending.Ending.{Ending}
+use Rattle.basin_cli.specs.declared.ending.Ending.TheVariants as ending
+use Rattle.basin_cli.specs.declared.ending.File.TheVariants as file
+use Rattle.basin_cli.specs.declared.status.Status.{Status}
+use Rattle.basin_cli.specs.declared.status.Status.TheVariants.{Done, WriteFault, OutOfMemory}
+use Rattle.basin_cli.specs.Bytes.{AreSpelled, IsTooLong, Told, file_limit}
+use Rattle.basin_cli.specs.Command.{Files}
+use Rattle.basin_cli.specs.Out.{MayWrite}
+use Rattle.basin_cli.specs.Reading.{AreAccepted, BehindSeries, CompletesBehind, IsDone, OfBoth, StopsReading}
+
+-- the bytes of a script are within the limit, and ask for something of the basin and series that other bytes spell
+pub record IsGoodScript (bytes series_bytes script : List ℕ) : Type 0 where
+  pub within : length script ≤ file_limit
+  pub basin : Basin
+  pub series : Inflows
+  pub spelled : AreSpelled bytes series_bytes basin series
+  pub reads : IsOk (script_of basin series script)
+
+-- the bytes of a script are within the limit, and this is the first fault in them and its line
+pub record IsScriptRefusedFor (fault : ScriptFault) (line : ℕ) (bytes series_bytes script : List ℕ) : Type 0 where
+  pub within : length script ≤ file_limit
+  pub basin : Basin
+  pub series : Inflows
+  pub spelled : AreSpelled bytes series_bytes basin series
+  pub first : script_of basin series script ≡ Err (refused.Refused fault line)
+
+-- the cause of an ending of `edit`
+abbrev pub HasEditingCause : Files → List ℕ → Ending → Told → Type 0 → Type 0 → Type 0
+HasEditingCause files script ending.Done told read write = BehindSeries told files script IsGoodScript
+HasEditingCause files script ending.WriteFault told read write = write × BehindSeries told files script IsGoodScript
+HasEditingCause files script (ending.ScriptRefused fault line) told read write = BehindSeries told files script (IsScriptRefusedFor fault line)
+HasEditingCause files script (ending.ReadFault file.Script) told read write = read × AreAccepted told files
+HasEditingCause files script (ending.InputTooLong file.Script) told read write = BehindSeries told files script (λ _ _ bytes. IsTooLong bytes)
+HasEditingCause files script other told read write = StopsReading files other told read
+
+-- told bytes that are accepted, and no fault of the shelf or of out: the call is done, unless memory ran out
+abbrev pub EditsBehind : Told → Files → List ℕ → Status → Type 0 → Type 0 → Type 0
+EditsBehind told files script status read write =
+    CompletesBehind told files (λ bytes series. IfSome (told script) (λ text. IsGoodScript bytes series text →
+    (read → ⊥) → (write → ⊥) → IsDone status))
+
+-- What is left on out: for each `show` the lines of its month, of the series as it is by then, and behind them how many were shown.
+-- After a fault of out a front is left of the months shown so far, or of the whole; and where memory ran out the whole lines of the
+-- months shown so far, and nothing else.
+abbrev pub LeavesShows : Status → Basin → Inflows → List Edit → Option (List ℕ) → Option (List ℕ) → Type 0
+LeavesShows Done b series edits old new = AnswersWhole b series edits (Ok tt) old new
+LeavesShows WriteFault b series edits old new = AnswersWhole b series edits (Err stop.SinkFailed) old new
+LeavesShows OutOfMemory b series edits old new = AnswersWhole b series edits (Err stop.OutOfMemory) old new
+LeavesShows status b series edits old new = ⊥
+
+-- out was left with the months that the script shows
+pub record ShowsScript (status : Status) (b : Basin) (series : Inflows) (script : List ℕ) (old new : Option (List ℕ)) : Type 0 where
+  pub edits : List Edit
+  pub reads : script_of b series script ≡ Ok edits
+  pub written : LeavesShows status b series edits old new
+
+-- what a call that has its files leaves on out: where memory ran out before the script was read, nothing
+abbrev pub LeavesScript : Status → Basin → Inflows → List ℕ → Option (List ℕ) → Option (List ℕ) → Type 0
+LeavesScript OutOfMemory b series script old new = (new ≡ old) ⊎ ShowsScript OutOfMemory b series script old new
+LeavesScript status b series script old new = MayWrite status → ShowsScript status b series script old new
+
+-- what `edit` leaves on out: the months that the script shows, of a basin and a series that bytes spell
+pub record WritesShows (status : Status) (bytes series_bytes script : List ℕ) (old new : Option (List ℕ)) : Type 0 where
+  pub basin : Basin
+  pub series : Inflows
+  pub spelled : AreSpelled bytes series_bytes basin series
+  pub shows : ShowsScript status basin series script old new
+
+-- and where memory ran out before a script was read, nothing
+abbrev pub EditLeaves : Status → List ℕ → List ℕ → List ℕ → Option (List ℕ) → Option (List ℕ) → Type 0
+EditLeaves OutOfMemory bytes series script old new = (new ≡ old) ⊎ WritesShows OutOfMemory bytes series script old new
+EditLeaves status bytes series script old new = MayWrite status → WritesShows status bytes series script old new
+
+abbrev pub EditWrites : Told → Files → List ℕ → Status → Option (List ℕ) → Option (List ℕ) → Type 0
+EditWrites told files script status old new =
+    OfBoth told files (λ bytes series. IfSome (told script) (λ text. EditLeaves status bytes series text old new))
+
+-- Searches push at most so often as the cost of the script allows, in months that are solved: a month before the first change is
+-- solved once. A script that is refused has no push.
+pub record PushesOfScript (b : Basin) (series : Inflows) (script : List ℕ) (before now : ℕ) : Type 0 where
+  pub asked : (edits : List Edit) → script_of b series script ≡ Ok edits → now ≤ before + cost edits * month_pushes b
+  pub refused : IsErr (script_of b series script) → now ≡ before
+
+abbrev pub EditPushes : Told → Files → List ℕ → ℕ → ℕ → Type 0
+EditPushes told files script before now =
+    OfBoth told files (λ bytes series. IfSome (told script) (λ text.
+    (b : Basin) (s : Inflows) → AreSpelled bytes series b s → PushesOfScript b s text before now))
+
+-- how the reading of a script's bytes may end without what they ask for
+abbrev pub ScriptEnds : Basin → Inflows → List ℕ → Ending → Type 0
+ScriptEnds b series script (ending.ScriptRefused fault line) = script_of b series script ≡ Err (refused.Refused fault line)
+ScriptEnds b series script ending.OutOfMemory = ⊤
+ScriptEnds b series script other = ⊥
+
+-- how the answer to a script's bytes may end
+abbrev pub EndsEditing : Basin → Inflows → List ℕ → Ending → Type 0 → Type 0
+EndsEditing b series script ending.Done write = IsOk (script_of b series script)
+EndsEditing b series script ending.WriteFault write = write × IsOk (script_of b series script)
+EndsEditing b series script other write = ScriptEnds b series script other

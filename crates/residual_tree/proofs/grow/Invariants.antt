@@ -1,5 +1,0 @@
-use Rattle.residual_tree.specs.Growth.{no_step}
-use Rattle.residual_tree.proofs.grow.Given as goal
-
-abbrev pub ghost-spread : goal.ghost-spread
-ghost-spread a = no_step a.circ.now

@@ -1,0 +1,16 @@
+use Rattle.residual_tree.specs.Tree.{IsReached}
+use Rattle.std.proofs.Common.{ℕ, ◌-◌, []}
+use Rattle.residual_tree.specs.Growth.{IsGrowing}
+use Rattle.residual_tree.proofs.growing.spread.Given as goal
+
+abbrev pub invariant-loop-done : goal.invariant-loop-done
+invariant-loop-done g l = record {
+  tree : IsGrowing l.circ g.lent l.way [] l.queue 0 0 l.done l.count;
+  more : (v : ℕ) → IsReached l.fn.way v → IsReached l.way v;
+}
+
+abbrev pub decreases-loop-done : goal.decreases-loop-done
+decreases-loop-done g l = l.circ.nodes - l.done
+
+abbrev pub ghost-spread_from : goal.ghost-spread_from
+ghost-spread_from g a = g.lent

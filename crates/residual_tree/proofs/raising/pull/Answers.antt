@@ -1,0 +1,11 @@
+use Rattle.residual_tree.proofs.Grows.{lent_some}
+use Rattle.residual_tree.proofs.Pushes.{stopped_tree}
+use Rattle.residual_tree.proofs.raising.pull.Goals as goal
+
+pub round-requires-clause-tree : goal.round-requires-clause-tree
+round-requires-clause-tree g c = lent_some c.loop-pushes.circ c.loop-pushes.tree _ c.loop-pushes.invariant.tree
+
+pub returns-then-not-round-clause-tree : goal.returns-then-not-round-clause-tree
+returns-then-not-round-clause-tree g c =
+    let stopped = c.round.ensures.stopped c.if-not-round.true in
+    stopped_tree c.loop-pushes.circ c.round.new.circ c.loop-pushes.tree c.round.new.tree c.loop-pushes.invariant.tree stopped.0 stopped.1

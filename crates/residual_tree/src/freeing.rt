@@ -1,0 +1,133 @@
+//! Nodes are freed: those whose steps lost their room, and all that is below them in the tree.
+ghost use Rattle.std.specs.Prelude.{◌≡◌, ℕ, ◌+◌, ◌-◌, ◌*◌, ◌^◌, ◌<◌, ◌≤◌, ◌≢◌, length, slice_set};
+ghost use Rattle.circulation.specs.Contents.{arcs, flow_of, network, step_of, IsCirculation};
+ghost use Rattle.circulation.specs.Residual.{arc_of, room_of, end_of};
+ghost use Rattle.residual_tree.specs.Tree.{word_of};
+ghost use Rattle.residual_tree.specs.Growth.{IsFreeing};
+
+use crate::ROOT;
+use crate::residual::{end, room};
+use circulation::Circulation;
+
+/// Frees the node that a step enters, where it is the step by which the node is reached. Takes and answers how many nodes
+/// were freed.
+fn free_end(way: &mut [u64], freed: &mut [u32], step: u64, node: u32, size: usize) -> usize
+    requires step { step < 2 ^ 33 }
+    requires node { node < length way.old }
+    requires room { word_of way.old node ≡ step + 1 → size < length freed.old }
+    ensures child { word_of way.old node ≡ step + 1 →
+        (result ≡ size + 1) × (way.new ≡ slice_set way.old node 0) × (freed.new ≡ slice_set freed.old size node) }
+    ensures other { word_of way.old node ≢ step + 1 →
+        (result ≡ size) × (way.new ≡ way.old) × (freed.new ≡ freed.old) }
+{
+    if way[node as usize] == step + 1 {
+        way[node as usize] = 0;
+        freed[size] = node;
+        size + 1
+    } else {
+        size
+    }
+}
+
+/// Frees the node that a step enters, where it is the step by which the node is reached and has no room.
+fn free_worn(
+    circ: &Circulation,
+    way: &mut [u64],
+    freed: &mut [u32],
+    step: u64,
+    size: usize,
+) -> usize
+    requires arc { arc_of step < arcs circ.now }
+    requires words { length way.old ≡ circ.now.nodes + 1 }
+    requires room { word_of way.old (end_of (network circ.now) step) ≡ step + 1 → size < length freed.old }
+    requires kept { IsCirculation circ.now }
+    ensures worn { let v = end_of (network circ.now) step in
+        word_of way.old v ≡ step + 1 → room_of (network circ.now) (flow_of circ.now) step ≡ 0 →
+        (result ≡ size + 1) × (way.new ≡ slice_set way.old v 0) × (freed.new ≡ slice_set freed.old size v) }
+    ensures other { word_of way.old (end_of (network circ.now) step) ≢ step + 1 →
+        (result ≡ size) × (way.new ≡ way.old) × (freed.new ≡ freed.old) }
+    ensures firm { 0 < room_of (network circ.now) (flow_of circ.now) step →
+        (result ≡ size) × (way.new ≡ way.old) × (freed.new ≡ freed.old) }
+{
+    if room(circ, step) == 0 {
+        free_end(way, freed, step, end(circ, step), size)
+    } else {
+        size
+    }
+}
+
+/// Frees the nodes whose steps lost their room. Those that may have lost it stand in the scratch words from
+/// `first` to below `last`.
+pub fn loosen(
+    circ: &Circulation,
+    way: &mut [u64],
+    freed: &mut [u32],
+    first: usize,
+    last: usize,
+) -> usize
+    requires order { first ≤ last }
+    requires fits { last ≤ 4 * circ.now.nodes + 8 }
+    requires arcs { (i : ℕ) → first ≤ i → i < last → arc_of (step_of circ.now i) < arcs circ.now }
+    requires tree { IsFreeing circ.now way.old freed.old first last 0 0 }
+    requires kept { IsCirculation circ.now }
+    ensures { IsFreeing circ.now way.new freed.new last last 0 result }
+{
+    let mut size = 0;
+    for at in first..last {
+        let step = circ.scratch_get(at);
+        size = free_worn(circ, way, freed, step, size);
+    }
+    size
+}
+
+/// Frees the children of the freed node with the number `done`.
+fn free_children(
+    circ: &Circulation,
+    way: &mut [u64],
+    freed: &mut [u32],
+    done: usize,
+    size: usize,
+) -> usize
+    requires done { done < size }
+    requires tree { (at : ℕ) × IsFreeing circ.now way.old freed.old at at done size }
+    requires kept { IsCirculation circ.now }
+    ensures { (at : ℕ) × IsFreeing circ.now way.new freed.new at at (done + 1) result }
+{
+    let node = freed[done];
+    let mut count = size;
+    for place in circ.row_first(node)..circ.row_last(node) {
+        let step = circ.step_at(place);
+        count = free_end(way, freed, step, circ.end_at(place), count);
+    }
+    count
+}
+
+/// Frees all that is below the freed nodes in the tree.
+pub fn free_below(circ: &Circulation, way: &mut [u64], freed: &mut [u32], size: usize) -> usize
+    requires tree { (at : ℕ) × IsFreeing circ.now way.old freed.old at at 0 size }
+    requires kept { IsCirculation circ.now }
+    ensures { (at : ℕ) × IsFreeing circ.now way.new freed.new at at result result }
+{
+    let mut count = size;
+    let mut done = 0;
+    while done < count {
+        count = free_children(circ, way, freed, done, count);
+        done += 1;
+    }
+    count
+}
+
+/// Reaches no node but the outside, and frees all others.
+pub fn fell(circ: &Circulation, way: &mut [u64], freed: &mut [u32])
+    requires words { length way.old ≡ circ.now.nodes + 1 }
+    requires places { length freed.old ≡ circ.now.nodes }
+    requires kept { IsCirculation circ.now }
+    ensures { IsFreeing circ.now way.new freed.new 0 0 circ.now.nodes circ.now.nodes }
+{
+    let nodes = circ.nodes();
+    way[nodes as usize] = ROOT;
+    for node in 0..nodes {
+        way[node as usize] = 0;
+        freed[node as usize] = node;
+    }
+}

@@ -1,0 +1,235 @@
+//! Raises the flow on an arc by pushes along the tree.
+ghost use Rattle.std.specs.Prelude.{◌≡◌, true, false, ◌+◌, ◌-◌, ◌*◌, ◌<◌, ◌≤◌, ◌≢◌, ◌⊎◌, slice_index, ◌↔◌};
+ghost use Rattle.circulation.specs.Contents.{arcs, flow_of, network, IsCirculation};
+ghost use Rattle.circulation.specs.Residual.{arc_of, end_of};
+ghost use Rattle.augment.specs.Raised.{IsGreatestCut};
+ghost use Rattle.augment.specs.Search.{SameButScratch};
+ghost use Rattle.residual_tree.specs.Tree.{word_of, IsReached, IsResidualTree, dry};
+ghost use Rattle.residual_tree.specs.Growth.{IsLentTree};
+ghost use Rattle.residual_tree.specs.Raised.{IsExit, IsFull, IsRaisedOver};
+
+use crate::ResidualTree;
+use crate::tracing::{trace, write_step};
+use circulation::Circulation;
+use std::sync::ledger::Ledger;
+use steps::Steps;
+
+/// One push along the walk over the arc, the exit and the tree, after which the flow of the arc is held and the tree
+/// repaired. The step `lent` to the head of the arc may have no room. Answers whether there was room for the
+/// push, which lacks only where the exit has none.
+fn round<L: Ledger>(
+    circ: &mut Circulation,
+    tree: &mut ResidualTree,
+    arc: u32,
+    exit: u32,
+    most: u64,
+    lent: u64,
+    searches: &mut Steps<L>,
+) -> bool
+    requires arc { arc < arcs circ.old }
+    requires positive { 0 < most }
+    requires most { flow_of circ.old arc + most ≤ slice_index circ.old.upper arc }
+    requires held { flow_of circ.old arc ≡ slice_index circ.old.lower arc }
+    requires exit { IsExit circ.old arc exit }
+    requires lent_arc { arc_of lent < arcs circ.old }
+    requires lent_end { end_of (network circ.old) lent ≡ slice_index circ.old.to arc }
+    requires tree { IsLentTree circ.old tree.old lent }
+    requires reached { IsReached tree.old (slice_index circ.old.from arc) }
+    requires kept { IsCirculation circ.old }
+    ensures kept { IsCirculation circ.new }
+    ensures rest { IsRaisedOver circ.old circ.new arc }
+    ensures held { flow_of circ.new arc ≡ slice_index circ.new.lower arc }
+    ensures tree { result ≡ true → IsResidualTree circ.new tree.new }
+    ensures pushed { result ≡ true →
+        (flow_of circ.old arc < flow_of circ.new arc) × (flow_of circ.new arc ≤ flow_of circ.old arc + most) ×
+        (searches.new ≡ searches.old + 1) }
+    ensures stopped { result ≡ false →
+        SameButScratch circ.old circ.new × (tree.new ≡ tree.old) × (searches.new ≡ searches.old) }
+    ensures full { result ≡ false → IsFull circ.new exit }
+{
+    let walk = trace(circ, tree, arc, exit, most);
+    if walk.amount == 0 {
+        return false;
+    }
+    let count = 4 * circ.nodes() as usize + 8 - walk.first;
+    circ.push(walk.first, count, walk.amount, searches);
+    let flow = circ.flow(arc);
+    circ.hold(arc, flow);
+    let first = write_step(circ, walk.first, lent);
+    tree.repair(circ, first, count + 1);
+    true
+}
+
+/// Pushes as long as the flow on the arc is less than wanted and its tail is reached, and at most so often.
+fn pull<L: Ledger>(
+    circ: &mut Circulation,
+    tree: &mut ResidualTree,
+    arc: u32,
+    exit: u32,
+    want: u64,
+    most_pushes: u32,
+    searches: &mut Steps<L>,
+)
+    requires arc { arc < arcs circ.old }
+    requires want { want ≤ slice_index circ.old.upper arc }
+    requires less { flow_of circ.old arc ≤ want }
+    requires held { flow_of circ.old arc ≡ slice_index circ.old.lower arc }
+    requires exit { IsExit circ.old arc exit }
+    requires tree { IsResidualTree circ.old tree.old }
+    requires kept { IsCirculation circ.old }
+    ensures kept { IsCirculation circ.new }
+    ensures rest { IsRaisedOver circ.old circ.new arc }
+    ensures held { flow_of circ.new arc ≡ slice_index circ.new.lower arc }
+    ensures tree { IsResidualTree circ.new tree.new }
+    ensures rises { flow_of circ.old arc ≤ flow_of circ.new arc }
+    ensures limit { flow_of circ.new arc ≤ want }
+    ensures cost { searches.new ≤ searches.old + most_pushes }
+    ensures each { flow_of circ.old arc + (searches.new - searches.old) ≤ flow_of circ.new arc }
+    ensures why { flow_of circ.new arc < want → IsReached tree.new (slice_index circ.old.from arc) →
+        (searches.new ≡ searches.old + most_pushes) ⊎ IsFull circ.new exit }
+{
+    let tail = circ.ends(arc).from;
+    for _pushes in 0..most_pushes {
+        let flow = circ.flow(arc);
+        if flow == want {
+            return;
+        }
+        if tree.word(tail) == 0 {
+            return;
+        }
+        let lent = 2 * u64::from(arc);
+        if !round(circ, tree, arc, exit, want - flow, lent, searches) {
+            return;
+        }
+    }
+}
+
+/// What a raise by the tree came to.
+#[derive(Clone, Copy, Debug, PartialEq, Eq)]
+pub enum Pulled {
+    /// The flow on the arc is what was wanted.
+    Met,
+    /// The flow on the arc is less than what was wanted, and its tail is dry.
+    Dry,
+    /// The flow on the arc is less than what was wanted: the pushes were used up, or the exit has no room.
+    Unfinished,
+}
+
+/// Raises the flow on an arc towards `want`, in units of 1,000 cubic metres, by at most `most_pushes` pushes along the tree,
+/// each of which ticks `searches` once. The flow on the arc is held as it rises. Where the head of the arc
+/// is not the outside, `exit` is an arc from there to the outside. Each push costs about as much as the
+/// walk is long, and as there are arcs at the nodes below the steps that it fills.
+pub fn raise_by_tree<L: Ledger>(
+    circ: &mut Circulation,
+    tree: &mut ResidualTree,
+    arc: u32,
+    exit: u32,
+    want: u64,
+    most_pushes: u32,
+    searches: &mut Steps<L>,
+) -> Pulled
+    requires arc { arc < arcs circ.old }
+    requires want { want ≤ slice_index circ.old.upper arc }
+    requires less { flow_of circ.old arc ≤ want }
+    requires exit { IsExit circ.old arc exit }
+    requires tree { IsResidualTree circ.old tree.old }
+
+    ensures kept { IsCirculation circ.new }
+    ensures rest { IsRaisedOver circ.old circ.new arc }
+    ensures held { flow_of circ.new arc ≡ slice_index circ.new.lower arc }
+    ensures tree { IsResidualTree circ.new tree.new }
+    ensures rises { flow_of circ.old arc ≤ flow_of circ.new arc }
+    ensures limit { flow_of circ.new arc ≤ want }
+    ensures met { (result ≡ Pulled.Met) ↔ (flow_of circ.new arc ≡ want) }
+
+    // After Dry the dry nodes are the greatest tight cut of the arc, where its head is the outside or reached.
+    ensures dry { result ≡ Pulled.Dry → word_of tree.new (slice_index circ.old.from arc) ≡ 0 }
+    ensures cut { result ≡ Pulled.Dry → IsReached tree.new (slice_index circ.old.to arc) →
+        IsGreatestCut (network circ.new) (flow_of circ.new) arc (dry circ.new tree.new) }
+
+    // Each push raises the flow, and Unfinished comes only where all pushes were made or the exit is full.
+    ensures cost { searches.new ≤ searches.old + most_pushes }
+    ensures each { flow_of circ.old arc + (searches.new - searches.old) ≤ flow_of circ.new arc }
+    ensures unfinished { result ≡ Pulled.Unfinished →
+        (searches.new ≡ searches.old + most_pushes) ⊎ IsFull circ.new exit }
+{
+    let start = circ.flow(arc);
+    tree.hold(circ, arc, start);
+    pull(circ, tree, arc, exit, want, most_pushes, searches);
+    if circ.flow(arc) == want {
+        return Pulled::Met;
+    }
+    let tail = circ.ends(arc).from;
+    if tree.word(tail) == 0 {
+        Pulled::Dry
+    } else {
+        Pulled::Unfinished
+    }
+}
+
+/// Raises the flow on an arc within the dry nodes, where its head is dry too: by walks from the head to the tail, which
+/// need no water. After Dry the tree is lent over the exit, so that `settle` has to follow; until then the
+/// nodes that it does not reach are the greatest tight cut of the arc. The rest is as at `raise_by_tree`.
+pub fn raise_within_dry<L: Ledger>(
+    circ: &mut Circulation,
+    tree: &mut ResidualTree,
+    arc: u32,
+    exit: u32,
+    want: u64,
+    most_pushes: u32,
+    searches: &mut Steps<L>,
+) -> Pulled
+    requires arc { arc < arcs circ.old }
+    requires want { want ≤ slice_index circ.old.upper arc }
+    requires less { flow_of circ.old arc ≤ want }
+    requires held { flow_of circ.old arc ≡ slice_index circ.old.lower arc }
+    requires exit { exit < arcs circ.old }
+    requires head { slice_index circ.old.from exit ≡ slice_index circ.old.to arc }
+    requires out { slice_index circ.old.to exit ≡ circ.old.nodes }
+    requires tree { IsResidualTree circ.old tree.old }
+
+    ensures kept { IsCirculation circ.new }
+    ensures rest { IsRaisedOver circ.old circ.new arc }
+    ensures held { flow_of circ.new arc ≡ slice_index circ.new.lower arc }
+    ensures rises { flow_of circ.old arc ≤ flow_of circ.new arc }
+    ensures limit { flow_of circ.new arc ≤ want }
+    ensures met { (result ≡ Pulled.Met) ↔ (flow_of circ.new arc ≡ want) }
+    ensures tree { result ≢ Pulled.Dry → IsResidualTree circ.new tree.new }
+
+    // After Dry no flow has more on the arc.
+    ensures lent { result ≡ Pulled.Dry → IsLentTree circ.new tree.new (2 * exit + 1) }
+    ensures cut { result ≡ Pulled.Dry →
+        IsGreatestCut (network circ.new) (flow_of circ.new) arc (dry circ.new tree.new) }
+
+    // Each push raises the flow, and Unfinished comes only where all pushes were made, the exit is full, or the head is
+    // not dry.
+    ensures cost { searches.new ≤ searches.old + most_pushes }
+    ensures each { flow_of circ.old arc + (searches.new - searches.old) ≤ flow_of circ.new arc }
+    ensures unfinished { result ≡ Pulled.Unfinished → (searches.new ≡ searches.old + most_pushes) ⊎
+        (IsFull circ.new exit ⊎ IsReached tree.new (slice_index circ.old.to arc)) }
+{
+    let ends = circ.ends(arc);
+    for _pushes in 0..most_pushes {
+        let flow = circ.flow(arc);
+        if flow == want {
+            return Pulled::Met;
+        }
+        if tree.word(ends.to) != 0 {
+            return Pulled::Unfinished;
+        }
+        tree.lend(circ, exit);
+        if tree.word(ends.from) == 0 {
+            return Pulled::Dry;
+        }
+        let lent = 2 * u64::from(exit) + 1;
+        if !round(circ, tree, arc, exit, want - flow, lent, searches) {
+            tree.settle(circ, exit);
+            return Pulled::Unfinished;
+        }
+    }
+    if circ.flow(arc) == want {
+        Pulled::Met
+    } else {
+        Pulled::Unfinished
+    }
+}

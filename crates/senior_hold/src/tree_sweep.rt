@@ -1,0 +1,205 @@
+//! A month by the residual tree.
+//!
+//! Water stays where it rises: a month begins with nothing on the links and each node's supply on its spill. At the end
+//! what is left on the spills runs down the rivers. No delivery changes by that, as a tight cut bounds every plan.
+ghost use Rattle.std.specs.Prelude.{◌≡◌, true, ℕ, ◌+◌, ◌*◌, ◌^◌, ◌<◌, ◌≤◌, List, length, slice_index, IfOk, OnErr};
+ghost use Rattle.water_text.specs.Months.{IsMonth};
+ghost use Rattle.water_text.specs.declared.month.Month.{Month};
+ghost use Rattle.water_model.specs.CutSets.{has_room};
+ghost use Rattle.water_model.specs.Plans.{IsPlan};
+ghost use Rattle.water_model.specs.Valid.{IsValidBasin};
+ghost use Rattle.circulation.specs.Contents.{network, flow_of, arcs};
+ghost use Rattle.residual_tree.specs.Raised.{IsExit};
+ghost use Rattle.river_net.specs.Net.{total_of};
+ghost use Rattle.senior_hold.specs.MonthNetwork.{HasBasinEnds};
+ghost use Rattle.senior_hold.specs.Solved.{FitsPlan, FitsCuts, AreSupplies, AreWants, IsGiven, IsSolved, LacksRoom};
+ghost use Rattle.senior_hold.specs.Layouts.{IsLayout, FitsRoom};
+ghost use Rattle.senior_hold.specs.Spilled.{spilled, spills_of, HasSpills, IsSpilledStart, IsSettledPlan};
+
+use crate::amounts::{RIVER_CARRY, lay, read_links, read_spills, read_takes, write_bounds};
+use crate::pulls::{Turn, serve_by_tree};
+use crate::solver::{Layout, Room};
+use circulation::Circulation;
+use residual_tree::ResidualTree;
+use std::alloc::AllocError;
+use std::sync::ledger::Ledger;
+use steps::Steps;
+use water_model::cut_list::CutList;
+use water_model::types::{Basin, Plan};
+use water_text::month::Month;
+
+/// The pushes that a month may have for each of its rights.
+const PUSHES_PER_RIGHT: u32 = 30;
+
+/// Writes the plan that lets all supply out where it comes in.
+fn spill_all(basin: &Basin, supply: &[u64], plan: &mut Plan)
+    requires valid { IsValidBasin basin.now }
+    requires supply { AreSupplies basin.now supply.now }
+    requires plan { FitsPlan basin.now plan.old }
+    ensures fits { FitsPlan basin.now plan.new }
+    ensures plan { (month : Month) (want : List ℕ) → IsPlan (spilled basin.now) month supply.now want plan.new }
+    ensures small { (n : ℕ) → n < length basin.now.nodes → slice_index plan.new.out n ≤ 10 ^ 15 }
+    ensures still { (e : ℕ) → e < length basin.now.links → slice_index plan.new.flow e ≡ 0 }
+    ensures all { plan.new.out ≡ supply.now }
+{
+    plan.flow.as_mut_slice().fill(0);
+    plan.take.as_mut_slice().fill(0);
+    plan.out.as_mut_slice().copy_from_slice(supply);
+}
+
+/// Starts a month with all supply spilled where it comes in, and with no arc held.
+fn begin_spilled(
+    basin: &Basin,
+    layout: &Layout,
+    room: &mut Room,
+    circ: &mut Circulation,
+    month: Month,
+    supply: &[u64],
+    want: &[u64],
+    plan: &mut Plan,
+)
+    requires valid { IsValidBasin basin.now }
+    requires layout { IsLayout basin.now layout.now }
+    requires room { FitsRoom basin.now room.old }
+    requires ends { HasBasinEnds (spilled basin.now) (network circ.old) }
+    requires month { IsMonth month }
+    requires supply { AreSupplies basin.now supply.now }
+    requires want { AreWants basin.now month want.now }
+    requires plan { FitsPlan basin.now plan.old }
+    ensures room { FitsRoom basin.now room.new }
+    ensures fits { FitsPlan basin.now plan.new }
+    ensures start { IsSpilledStart basin.now month supply.now want.now circ.new }
+{
+    room.most.out.as_mut_slice().fill(RIVER_CARRY);
+    write_bounds(
+        basin,
+        &layout.arcs,
+        month,
+        want,
+        &mut room.most,
+        &mut room.upper,
+    );
+    spill_all(basin, supply, plan);
+    lay(basin, &layout.arcs, plan, &mut room.start);
+    circ.begin_month(supply, &room.upper, &room.start);
+}
+
+/// An arc from the head of an arc to the outside, unless the head is the outside.
+fn exit_of(circ: &Circulation, first: u32, arc: u32) -> u32
+    requires arc { arc < arcs circ.now }
+    requires spills { HasSpills circ.now first }
+    requires some { 0 < circ.now.nodes }
+    ensures arc { result < arcs circ.now }
+    ensures exit { IsExit circ.now arc result }
+{
+    let head = circ.ends(arc).to;
+    if head < circ.nodes() {
+        first + head
+    } else {
+        first
+    }
+}
+
+/// Adds to flows what runs beside them.
+fn add_run(run: &[u64], flow: &mut [u64])
+    requires count { length run.now ≡ length flow.old }
+    requires fits { (e : ℕ) → e < length flow.old → slice_index flow.old e + slice_index run.now e < 2 ^ 64 }
+    ensures { (e : ℕ) → e < length flow.old → slice_index flow.new e ≡ slice_index flow.old e + slice_index run.now e }
+{
+    for link in 0..flow.len() {
+        flow[link] += run[link];
+    }
+}
+
+/// Writes the plan of a flow: what is spilled runs down the rivers, and leaves the basin at outlets.
+fn settle_plan(basin: &Basin, layout: &Layout, room: &mut Room, circ: &Circulation, plan: &mut Plan)
+    requires valid { IsValidBasin basin.now }
+    requires layout { IsLayout basin.now layout.now }
+    requires room { FitsRoom basin.now room.old }
+    requires ends { HasBasinEnds (spilled basin.now) (network circ.now) }
+    requires plan { FitsPlan basin.now plan.old }
+    requires small { total_of (spills_of basin.now (flow_of circ.now)) < 10 ^ 15 }
+    ensures room { FitsRoom basin.now room.new }
+    ensures fits { FitsPlan basin.now plan.new }
+    ensures settled { IsSettledPlan basin.now (flow_of circ.now) plan.new }
+{
+    // This call tells that the circulation is kept.
+    let _nodes = circ.nodes();
+    read_spills(basin, circ, &layout.arcs, room.most.out.as_mut_slice());
+    read_links(circ, plan.flow.as_mut_slice());
+    read_takes(basin, circ, &layout.arcs, plan.take.as_mut_slice());
+    layout.net.natural(
+        room.most.out.as_slice(),
+        room.most.flow.as_mut_slice(),
+        plan.out.as_mut_slice(),
+    );
+    add_run(room.most.flow.as_slice(), plan.flow.as_mut_slice());
+}
+
+/// What a sweep came to.
+#[derive(Clone, Copy, Debug, PartialEq, Eq)]
+pub enum Sweep {
+    /// The month is solved.
+    Solved,
+    /// The pushes were used up.
+    GaveUp,
+}
+
+/// Serves the rights, seniors first, and writes the plan.
+pub fn solve_by_tree<L: Ledger>(
+    basin: &Basin,
+    layout: &Layout,
+    room: &mut Room,
+    circ: &mut Circulation,
+    tree: &mut ResidualTree,
+    month: Month,
+    supply: &[u64],
+    want: &[u64],
+    plan: &mut Plan,
+    cuts: &mut CutList,
+    searches: &mut Steps<L>,
+) -> Result<Sweep, AllocError>
+    requires valid { IsValidBasin basin.now }
+    requires layout { IsLayout basin.now layout.now }
+    requires room { FitsRoom basin.now room.old }
+    requires ends { HasBasinEnds (spilled basin.now) (network circ.old) }
+    requires tree { length tree.old ≡ length basin.now.nodes + 1 }
+    requires month { IsMonth month }
+    requires given { IsGiven basin.now month supply.now want.now plan.old cuts.old }
+    ensures fits_room { FitsRoom basin.now room.new }
+    ensures ends { HasBasinEnds (spilled basin.now) (network circ.new) }
+    ensures tree { length tree.new ≡ length basin.now.nodes + 1 }
+    ensures plan { FitsPlan basin.now plan.new }
+    ensures cuts { FitsCuts basin.now cuts.new }
+    ensures solved { IfOk result (λ s. s ≡ Sweep.Solved → IsSolved basin.now month supply.now want.now plan.new cuts.new) }
+    ensures stays { (r : ℕ) → has_room cuts.old r ≡ true → has_room cuts.new r ≡ true }
+    ensures room { OnErr result (LacksRoom basin.now cuts.old) }
+    ensures pushes { searches.new ≤ searches.old + 30 * length basin.now.rights }
+{
+    begin_spilled(basin, layout, room, circ, month, supply, want, plan);
+    tree.plant(circ);
+    let order = layout.roll.by_seniority();
+    let mut left = PUSHES_PER_RIGHT * order.len() as u32;
+    for turn in 0..order.len() {
+        let right = order[turn];
+        let place = right as usize;
+        let arc = layout.arcs.rights[place];
+        let exit = exit_of(circ, layout.arcs.spill, arc);
+        let turn = serve_by_tree(
+            circ,
+            tree,
+            arc,
+            exit,
+            want[place],
+            right,
+            cuts,
+            &mut left,
+            searches,
+        )?;
+        if turn == Turn::GaveUp {
+            return Ok(Sweep::GaveUp);
+        }
+    }
+    settle_plan(basin, layout, room, circ, plan);
+    Ok(Sweep::Solved)
+}
