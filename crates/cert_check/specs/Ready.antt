@@ -1,5 +1,5 @@
 -- What the tests of a line look at.
-use Rattle.std.specs.Prelude.{◌≡◌, ℕ, ◌+◌, ◌≤◌, Unit, true, false, List, slice_index, Some}
+use Rattle.std.specs.Prelude.{◌≡◌, ℕ, ◌+◌, ◌≤◌, true, false, List, slice_index, Some}
 use Rattle.water_model.specs.Plans.{inflow_to, outflow_from, taken_at}
 use Rattle.water_model.specs.declared.item.Item.{Item}
 use Rattle.water_model.specs.declared.item.Item.TheVariants as line

@@ -12,7 +12,7 @@ returns-in-None-clause-takes c = λ items told.
     (sym c.deref_mut.ensures.value) told.account in
     let still = c.make_ready.ensures.keeps t kept in
     let ready = subst (λ (a : Account). Keeps c.args.means.now.basin.now c.args.means.now.series.now a t)
-    (sym c.deref.ensures.value) still in
+    (sym c.deref.ensures) still in
     let none = sym (c.in-None.ensures t ready told.comes) in
     let known = subst (λ (a : Account). Keeps c.args.means.now.basin.now c.args.means.now.series.now a t)
     (sym c.deref_mut-in-None.ensures.value) still in
