@@ -6,7 +6,7 @@ use Rattle.water_model.specs.declared.types.Basin.{Basin}
 use Rattle.water_model.specs.declared.types.Inflows.{Inflows}
 use Rattle.result_reader.specs.Telling.{Told}
 use Rattle.cert_check.specs.Checking.{Row, rows, first_row}
-use Rattle.cert_check.specs.Coming.{Awaits, HasMonth, HasTold, is_within}
+use Rattle.cert_check.specs.Coming.{Awaits}
 use Rattle.cert_check.specs.FirstRows.{first_of}
 use Rattle.cert_check.specs.Keeping.{Keeps}
 use Rattle.cert_check.specs.declared.account.Account.{Account}
@@ -40,12 +40,3 @@ none_first ((k, false) ∷ xs) ys h = none_first xs ys h
 
 pub still_awaits : (b : Basin) (series : Inflows) (a c : Account) (i : Item) → Awaits b series a i → ((t : Told) → Keeps b series a t → Keeps b series c t) → Awaits b series c i
 still_awaits b series a c i h k = record { told = h.told; keeps = k h.told h.keeps; comes = h.comes }
-
-pub still_told : (b : Basin) (series : Inflows) (a c : Account) (i : Item) → Awaits b series a i → ((t : Told) → Keeps b series a t → Keeps b series c t) → HasTold b series c
-still_told b series a c i h k = record { told = h.told; keeps = k h.told h.keeps }
-
-pub has_month : (b : Basin) (series : Inflows) (a c : Account) (i : Item) → is_within i ≡ true → Awaits b series a i → ((t : Told) → Keeps b series a t → Keeps b series c t) → HasMonth b series c
-has_month b series a c i within h k = record { told = h.told; keeps = k h.told h.keeps; partial = h.comes.partial; under_way = h.comes.inner within }
-
-pub month_still : (b : Basin) (series : Inflows) (a c : Account) → HasMonth b series a → ((t : Told) → Keeps b series a t → Keeps b series c t) → HasMonth b series c
-month_still b series a c h k = record { told = h.told; keeps = k h.told h.keeps; partial = h.partial; under_way = h.under_way }

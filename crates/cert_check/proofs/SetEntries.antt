@@ -1,42 +1,23 @@
 -- An account keeps the sets that are told, with one line more.
-use Rattle.std.proofs.Common.{◌≡◌, ℕ, zero, suc, ◌+◌, ◌<◌, ◌≤◌, Bool, true, false, refl, sym, ap, ◌∙◌, arith, inl, inr, List, [], ◌∷◌, ◌++◌, length, map, replicate, take, length-append}
-use Rattle.std.specs.Prelude.{Option, Some, None, IsSome, ◌&&◌, ◌||◌, not, is_none, is_some, slice_index, slice_set, slice_get, option_map, if◌then◌else◌}
+use Rattle.std.proofs.Common.{◌≡◌, ℕ, zero, suc, ◌<◌, Bool, true, false, refl, sym, ap, ◌∙◌, arith, inl, inr, List, [], ◌∷◌, length, replicate, take}
+use Rattle.std.specs.Prelude.{Option, Some, None, IsSome, ◌&&◌, ◌||◌, is_none, slice_set, option_map}
 use Rattle.std.specs.List.{list_any}
 use Rattle.std.proofs.lemmas.Bool.{cases_eq}
-use Rattle.std.proofs.lemmas.List.{length-map, length-replicate, map-append}
-use Rattle.std.proofs.lemmas.Option.{slice_get_past}
 use Rattle.std.proofs.Math.ListN.{length-set}
-use Rattle.water_model.proofs.Order.{length-by_seniority}
-use Rattle.water_text.specs.Months.{IsMonth}
-use Rattle.water_text.specs.declared.month.Month.{Month}
-use Rattle.lag_returns.specs.Lags as lag
-use Rattle.place_sums.specs.Sums.{total_where}
-use Rattle.lag_returns.specs.Lags.{OnTheWay}
-use Rattle.month_terms.specs.Terms.{HasReturned}
-use Rattle.water_model.specs.Basin.{taking_node}
-use Rattle.water_model.specs.CutSets.{CutSets, set_of, with_set, with_room, without_sets, has_room}
-use Rattle.water_model.specs.History.{cut_of, is_zone_of}
-use Rattle.water_model.specs.Hydrology.{returned_at}
+use Rattle.water_model.specs.CutSets.{CutSets, set_of, with_set, with_room, has_room}
+use Rattle.water_model.specs.History.{cut_of}
 use Rattle.water_model.specs.Lookups.{has}
 use Rattle.water_model.specs.Places.{seniors_first}
-use Rattle.water_model.specs.declared.item.Item.{Item}
 use Rattle.water_model.specs.declared.item.Item.TheVariants as line
-use Rattle.water_model.specs.declared.quantity.Quantity.{Quantity}
 use Rattle.water_model.specs.declared.types.Basin.{Basin}
 use Rattle.water_model.specs.declared.types.Inflows.{Inflows}
 use Rattle.water_model.specs.declared.types.MonthRecord.{MonthRecord}
-use Rattle.result_reader.specs.Telling.{Told, tell, with_supply, with_member}
-use Rattle.cert_check.specs.Checking.{first_row, is_short, is_due, callers_due}
-use Rattle.cert_check.specs.Keeping.{Keeps, callers_of, is_supplied, lacks_call}
-use Rattle.cert_check.specs.Shows.{Shows}
-use Rattle.cert_check.specs.Walks.{IsDueFrom, behind}
+use Rattle.result_reader.specs.Telling.{Told, tell, with_member}
+use Rattle.cert_check.specs.Checking.{is_short}
+use Rattle.cert_check.specs.Keeping.{Keeps, lacks_call}
 use Rattle.cert_check.specs.declared.account.Account.{Account}
-use Rattle.cert_check.specs.declared.answering.Due.{Due}
 use Rattle.cert_check.proofs.Calls.{set_here, set_apart}
-use Rattle.cert_check.proofs.Fitting.{Stays, callers_same, callers_stay, fits_amount, fits_behind, fits_same, lacks_stay, shows_amount, stays, supply_stays, with_amount}
-use Rattle.cert_check.proofs.Rows.{good_row}
-use Rattle.cert_check.proofs.Supplies.{length-supply}
-use Rattle.cert_check.proofs.RunSound.{opens_with_last}
+use Rattle.cert_check.proofs.Fitting.{fits_same}
 
 clash : {X : Type 0} → false ≡ true → X
 clash e = cc

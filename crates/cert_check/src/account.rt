@@ -16,11 +16,12 @@ pub struct Means<'b> {
     pub last_outlet: u32,
 }
 
-/// What is kept of the lines so far: what the months that ended leave to the next one, and what is told of the month under
-/// way. Amounts are in units of 1,000 cubic metres.
+/// What is kept of the lines so far: what the months that ended leave to the next one, and what is told of the month
+/// under way. Amounts are in units of 1,000 cubic metres.
 ///
-/// No month before is kept. Of what follows from the lines of the month under way its supply and the sums of its zones are
-/// made when they are first asked for, and again only where a line told something that they are made of.
+/// No month before is kept. Of what follows from the lines of the month under way its supply and the sums of its zones
+/// are made before the first line whose tests look at them, and again only where a line told something that they are
+/// made of.
 #[derive(Drop)]
 pub struct Account {
     /// How many months ended.

@@ -6,6 +6,7 @@ ghost use Rattle.water_model.specs.Plans.{inflow_to, outflow_from, taken_at};
 ghost use Rattle.water_model.specs.Valid.{IsValidBasin};
 ghost use Rattle.cert_check.specs.Checking.{balances};
 ghost use Rattle.cert_check.specs.Keeping.{with_outflow};
+ghost use Rattle.cert_check.specs.Ready.{AreSums};
 
 use month_terms::add::add_at;
 use water_model::calls::taking_node;
@@ -124,36 +125,42 @@ fn sum_out_of(basin: &Basin, month: &MonthRecord, out_of: &mut [u64])
     add_takes(basin, month.plan.take.as_slice(), out_of);
 }
 
-/// Whether each node is in balance in a month whose record has its supply, where this amount leaves the basin at this
-/// node. The lists are room for the sums.
-pub fn in_balance(
-    basin: &Basin,
-    month: &MonthRecord,
-    at: u32,
-    amount: u64,
-    into: &mut Rows<u64>,
-    out_of: &mut Rows<u64>,
-) -> bool
+/// Writes what comes into each node, and what leaves it for another node or a right, in a month whose record has its
+/// supply.
+pub fn make_sums(basin: &Basin, month: &MonthRecord, into: &mut Rows<u64>, out_of: &mut Rows<u64>)
     requires basin { IsValidBasin basin.now }
     requires fits { FitsRecord basin.now month.now }
-    requires at { at < length basin.now.nodes }
     requires into { length into.old ≡ length basin.now.nodes }
     requires out_of { length out_of.old ≡ length basin.now.nodes }
     requires supply { (n : ℕ) → n < length basin.now.nodes → slice_index month.now.supply n ≤ 10 ^ 15 }
     requires flow { (e : ℕ) → e < length basin.now.links → slice_index month.now.plan.flow e ≤ 10 ^ 15 }
     requires take { (r : ℕ) → r < length basin.now.rights → slice_index month.now.plan.take r ≤ 10 ^ 9 }
-    ensures all { result ≡ true → (n : ℕ) → n < length basin.now.nodes → balances basin.now (with_outflow month.now at amount) n ≡ true }
-    ensures some { result ≡ false → (n : ℕ) × (n < length basin.now.nodes) × (balances basin.now (with_outflow month.now at amount) n ≡ false) }
     ensures into { length into.new ≡ length into.old }
     ensures out_of { length out_of.new ≡ length out_of.old }
+    ensures sums { AreSums basin.now month.now into.new out_of.new }
 {
     sum_into(basin, month, into.as_mut_slice());
     sum_out_of(basin, month, out_of.as_mut_slice());
-    are_even(
-        into.as_slice(),
-        out_of.as_slice(),
-        month.plan.out.as_slice(),
-        at,
-        amount,
-    )
+}
+
+/// Whether each node is in balance by these sums of a month, where this amount leaves the basin at this node.
+pub fn in_balance(
+    basin: &Basin,
+    month: &MonthRecord,
+    at: u32,
+    amount: u64,
+    into: &[u64],
+    out_of: &[u64],
+) -> bool
+    requires fits { FitsRecord basin.now month.now }
+    requires at { at < length basin.now.nodes }
+    requires into { length into.now ≡ length basin.now.nodes }
+    requires out_of { length out_of.now ≡ length basin.now.nodes }
+    requires sums { AreSums basin.now month.now into.now out_of.now }
+    ensures all { result ≡ true → (n : ℕ) → n < length basin.now.nodes →
+        balances basin.now (with_outflow month.now at amount) n ≡ true }
+    ensures some { result ≡ false → (n : ℕ) × (n < length basin.now.nodes)
+        × (balances basin.now (with_outflow month.now at amount) n ≡ false) }
+{
+    are_even(into, out_of, month.plan.out.as_slice(), at, amount)
 }

@@ -10,6 +10,7 @@ ghost use Rattle.cert_check.specs.Taking.{HasItems, HasLines, IsTold, TakesItem,
 use crate::account::{Account, Means};
 use crate::compare::{is_done, is_member};
 use crate::entering::enter;
+use crate::ready::make_ready;
 use crate::refusing::first_row;
 use crate::refuted::{Refuted, RefutedKind};
 use result_reader::ResultReader;
@@ -67,7 +68,8 @@ fn take_item(means: &Means, book: &mut Book, item: &Item) -> Result<(), Refuted>
         TakesItem means.now.basin.now means.now.series.now book.new items item.now result }
     ensures reader { book.new.reader ≡ book.old.reader }
 {
-    match first_row(means, &mut *book.account, item) {
+    make_ready(means, &mut *book.account, item);
+    match first_row(means, &book.account, item) {
         Some(kind) => Err(Refuted {
             line: named_line(book, kind),
             kind,

@@ -14,6 +14,7 @@ mod entering;
 pub mod laws;
 mod opening;
 mod passing;
+mod ready;
 mod refusing;
 mod refuted;
 mod supplying;

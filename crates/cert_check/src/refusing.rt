@@ -12,6 +12,7 @@ ghost use Rattle.cert_check.specs.Coming.{Awaits, HasMonth, HasTold, IsUnderWay,
 ghost use Rattle.cert_check.specs.FirstRows.{first_of};
 ghost use Rattle.cert_check.specs.Keeping.{Keeps, with_outflow};
 ghost use Rattle.cert_check.specs.Means.{AreMeans};
+ghost use Rattle.cert_check.specs.Ready.{HasSums, IsReady, IsReadyForAmount, IsReadyForOwn, IsReadyForSet};
 
 use crate::account::{Account, Means};
 use crate::answering::{Due, next_due};
@@ -19,56 +20,20 @@ use crate::balancing::in_balance;
 use crate::compare;
 use crate::passing::pass_over;
 use crate::refuted::RefutedKind;
-use crate::supplying::make_supply;
 use cut_cert::tight;
-use month_terms::closing::close_zones;
 use water_model::item::Item;
 use water_model::quantity::Quantity;
 
-/// Makes the supply that is told, unless the record has it.
-fn know_supply(means: &Means, account: &mut Account)
-    requires means { AreMeans means.now }
-    requires month { HasMonth means.now.basin.now means.now.series.now account.old }
-    ensures rest { account.new ≡ record account.old { month = record account.old.month { supply = account.new.month.supply }; has_supply = true } }
-    ensures keeps { (t : Told) → Keeps means.now.basin.now means.now.series.now account.old t →
-        Keeps means.now.basin.now means.now.series.now account.new t }
-{
-    if !account.has_supply {
-        make_supply(means.basin, means.series, &mut account.month);
-        account.has_supply = true;
-    }
-}
-
-/// Makes the sums of the zones' takes that are told, unless the account has them.
-fn know_closes(means: &Means, account: &mut Account)
-    requires means { AreMeans means.now }
-    requires month { HasMonth means.now.basin.now means.now.series.now account.old }
-    ensures rest { account.new ≡ record account.old { closes = account.new.closes; has_closes = true } }
-    ensures keeps { (t : Told) → Keeps means.now.basin.now means.now.series.now account.old t →
-        Keeps means.now.basin.now means.now.series.now account.new t }
-{
-    if !account.has_closes {
-        close_zones(
-            means.basin,
-            account.month.plan.take.as_slice(),
-            account.closes.as_mut_slice(),
-        );
-        account.has_closes = true;
-    }
-}
-
 /// Whether the set of the right whose nodes came is no tight cut of it.
-fn is_loose(means: &Means, account: &mut Account, right: u32) -> bool
+fn is_loose(means: &Means, account: &Account, right: u32) -> bool
     requires means { AreMeans means.now }
-    requires month { HasMonth means.now.basin.now means.now.series.now account.old }
-    requires calling { account.old.calling ≡ Some right }
-    ensures value { (t : Told) → Keeps means.now.basin.now means.now.series.now account.old t →
+    requires month { HasMonth means.now.basin.now means.now.series.now account.now }
+    requires calling { account.now.calling ≡ Some right }
+    requires supply { account.now.has_supply ≡ true }
+    ensures { (t : Told) → Keeps means.now.basin.now means.now.series.now account.now t →
         result ≡ not (checking.has_tight means.now.basin.now
         (with_supply means.now.basin.now means.now.series.now t.now) right) }
-    ensures keeps { (t : Told) → Keeps means.now.basin.now means.now.series.now account.old t →
-        Keeps means.now.basin.now means.now.series.now account.new t }
 {
-    know_supply(means, account);
     !tight(
         means.basin,
         &means.roll,
@@ -81,13 +46,12 @@ fn is_loose(means: &Means, account: &mut Account, right: u32) -> bool
 }
 
 /// Whether a line ends the nodes of a set that is no tight cut of its right.
-fn cut_loose(means: &Means, account: &mut Account, item: &Item) -> bool
+fn cut_loose(means: &Means, account: &Account, item: &Item) -> bool
     requires means { AreMeans means.now }
-    requires awaits { Awaits means.now.basin.now means.now.series.now account.old item.now }
-    ensures value { (t : Told) → Keeps means.now.basin.now means.now.series.now account.old t →
+    requires awaits { Awaits means.now.basin.now means.now.series.now account.now item.now }
+    requires ready { IsReadyForSet account.now item.now }
+    ensures { (t : Told) → Keeps means.now.basin.now means.now.series.now account.now t →
         result ≡ checking.cut_loose means.now.basin.now means.now.series.now t item.now }
-    ensures keeps { (t : Told) → Keeps means.now.basin.now means.now.series.now account.old t →
-        Keeps means.now.basin.now means.now.series.now account.new t }
 {
     if compare::is_member(item) {
         return false;
@@ -98,41 +62,31 @@ fn cut_loose(means: &Means, account: &mut Account, item: &Item) -> bool
     }
 }
 
-/// Whether a line passes over a short right that has no `call`. The rights that are settled aren't looked at again.
-fn cut_missing(means: &Means, account: &mut Account, item: &Item) -> bool
+/// Whether a line passes over a short right that has no `call`.
+fn cut_missing(means: &Means, account: &Account, item: &Item) -> bool
     requires means { AreMeans means.now }
     requires item { IsOfBasin means.now.basin.now item.now }
-    requires awaits { Awaits means.now.basin.now means.now.series.now account.old item.now }
-    ensures value { (t : Told) → Keeps means.now.basin.now means.now.series.now account.old t →
+    requires awaits { Awaits means.now.basin.now means.now.series.now account.now item.now }
+    ensures { (t : Told) → Keeps means.now.basin.now means.now.series.now account.now t →
         result ≡ checking.cut_missing means.now.basin.now t item.now }
-    ensures keeps { (t : Told) → Keeps means.now.basin.now means.now.series.now account.old t →
-        Keeps means.now.basin.now means.now.series.now account.new t }
 {
     let order = means.roll.by_seniority();
     match pass_over(means.basin, order, &account.month, account.passed, item) {
-        Some(count) => {
-            account.passed = count;
-            false
-        }
+        Some(_) => false,
         None => true,
     }
 }
 
-/// Whether a right answers to a caller of which no `called` line tells yet. Where none does they aren't looked at again.
-fn has_due(means: &Means, account: &mut Account) -> bool
+/// Whether a right answers to a caller of which no `called` line tells yet.
+fn has_due(means: &Means, account: &Account) -> bool
     requires means { AreMeans means.now }
-    requires keeps { HasTold means.now.basin.now means.now.series.now account.old }
-    ensures value { (t : Told) → Keeps means.now.basin.now means.now.series.now account.old t →
+    requires keeps { HasTold means.now.basin.now means.now.series.now account.now }
+    ensures { (t : Told) → Keeps means.now.basin.now means.now.series.now account.now t →
         result ≡ nat_lt t.called (length (checking.callers_due means.now.basin.now t.now)) }
-    ensures keeps { (t : Told) → Keeps means.now.basin.now means.now.series.now account.old t →
-        Keeps means.now.basin.now means.now.series.now account.new t }
 {
     match next_due(means.basin, &means.roll, &account.month, account.answered) {
         Some(_) => true,
-        None => {
-            account.answered = means.basin.rights.len();
-            false
-        }
+        None => false,
     }
 }
 
@@ -156,13 +110,11 @@ fn is_not_due(means: &Means, account: &Account, right: u32, by: u32) -> bool
 }
 
 /// Whether a line is a `called` line other than the one that is due, or another line where one is due.
-fn called_wrong(means: &Means, account: &mut Account, item: &Item) -> bool
+fn called_wrong(means: &Means, account: &Account, item: &Item) -> bool
     requires means { AreMeans means.now }
-    requires keeps { HasTold means.now.basin.now means.now.series.now account.old }
-    ensures value { (t : Told) → Keeps means.now.basin.now means.now.series.now account.old t →
+    requires keeps { HasTold means.now.basin.now means.now.series.now account.now }
+    ensures { (t : Told) → Keeps means.now.basin.now means.now.series.now account.now t →
         result ≡ checking.called_wrong means.now.basin.now t item.now }
-    ensures keeps { (t : Told) → Keeps means.now.basin.now means.now.series.now account.old t →
-        Keeps means.now.basin.now means.now.series.now account.new t }
 {
     match *item {
         Item::Called { right, by } => is_not_due(means, account, right, by),
@@ -171,36 +123,34 @@ fn called_wrong(means: &Means, account: &mut Account, item: &Item) -> bool
 }
 
 /// Whether some node isn't in balance, where this amount leaves the basin at this one.
-fn is_uneven(means: &Means, account: &mut Account, node: u32, amount: u64) -> bool
+fn is_uneven(means: &Means, account: &Account, node: u32, amount: u64) -> bool
     requires means { AreMeans means.now }
     requires node { node < length means.now.basin.now.nodes }
-    requires month { HasMonth means.now.basin.now means.now.series.now account.old }
-    ensures value { (t : Told) → Keeps means.now.basin.now means.now.series.now account.old t →
+    requires month { HasMonth means.now.basin.now means.now.series.now account.now }
+    requires sums { HasSums means.now.basin.now account.now }
+    ensures { (t : Told) → Keeps means.now.basin.now means.now.series.now account.now t →
         result ≡ list_any (λ n. not (checking.balances means.now.basin.now
-        (with_supply means.now.basin.now means.now.series.now (with_outflow t.now node amount)) n)) (places_of means.now.basin.now.nodes) }
-    ensures keeps { (t : Told) → Keeps means.now.basin.now means.now.series.now account.old t →
-        Keeps means.now.basin.now means.now.series.now account.new t }
+        (with_supply means.now.basin.now means.now.series.now (with_outflow t.now node amount)) n))
+        (places_of means.now.basin.now.nodes) }
 {
-    know_supply(means, account);
     !in_balance(
         means.basin,
         &account.month,
         node,
         amount,
-        &mut account.into,
-        &mut account.out_of,
+        account.into.as_slice(),
+        account.out_of.as_slice(),
     )
 }
 
 /// Whether a node is the last outlet, and some node isn't in balance, where this amount leaves the basin at it.
-fn balance_wrong(means: &Means, account: &mut Account, node: u32, amount: u64) -> bool
+fn balance_wrong(means: &Means, account: &Account, node: u32, amount: u64) -> bool
     requires means { AreMeans means.now }
     requires node { node < length means.now.basin.now.nodes }
-    requires month { HasMonth means.now.basin.now means.now.series.now account.old }
-    ensures value { (t : Told) → Keeps means.now.basin.now means.now.series.now account.old t →
+    requires month { HasMonth means.now.basin.now means.now.series.now account.now }
+    requires ready { IsReadyForAmount means.now account.now Quantity.Outflow node }
+    ensures { (t : Told) → Keeps means.now.basin.now means.now.series.now account.now t →
         result ≡ checking.quantity_wrong means.now.basin.now means.now.series.now t Quantity.Outflow node amount }
-    ensures keeps { (t : Told) → Keeps means.now.basin.now means.now.series.now account.old t →
-        Keeps means.now.basin.now means.now.series.now account.new t }
 {
     if node < means.last_outlet {
         return false;
@@ -209,28 +159,25 @@ fn balance_wrong(means: &Means, account: &mut Account, node: u32, amount: u64) -
 }
 
 /// Whether an amount is another than the reservoir's zones take.
-fn closing_wrong(means: &Means, account: &mut Account, reservoir: u32, amount: u64) -> bool
+fn closing_wrong(means: &Means, account: &Account, reservoir: u32, amount: u64) -> bool
     requires means { AreMeans means.now }
     requires reservoir { reservoir < length means.now.basin.now.reservoirs }
-    requires month { HasMonth means.now.basin.now means.now.series.now account.old }
-    ensures value { (t : Told) → Keeps means.now.basin.now means.now.series.now account.old t →
+    requires month { HasMonth means.now.basin.now means.now.series.now account.now }
+    requires closes { account.now.has_closes ≡ true }
+    ensures { (t : Told) → Keeps means.now.basin.now means.now.series.now account.now t →
         result ≡ checking.quantity_wrong means.now.basin.now means.now.series.now t Quantity.Closing reservoir amount }
-    ensures keeps { (t : Told) → Keeps means.now.basin.now means.now.series.now account.old t →
-        Keeps means.now.basin.now means.now.series.now account.new t }
 {
-    know_closes(means, account);
     compare::differs(account.closes.as_slice(), reservoir, amount)
 }
 
 /// The first of the rows of the calls that holds of a line.
-fn call_row(means: &Means, account: &mut Account, item: &Item) -> Option<RefutedKind>
+fn call_row(means: &Means, account: &Account, item: &Item) -> Option<RefutedKind>
     requires means { AreMeans means.now }
     requires item { IsOfBasin means.now.basin.now item.now }
-    requires awaits { Awaits means.now.basin.now means.now.series.now account.old item.now }
-    ensures value { (t : Told) → Keeps means.now.basin.now means.now.series.now account.old t →
+    requires awaits { Awaits means.now.basin.now means.now.series.now account.now item.now }
+    requires ready { IsReadyForSet account.now item.now }
+    ensures { (t : Told) → Keeps means.now.basin.now means.now.series.now account.now t →
         result ≡ first_of (call_rows means.now.basin.now means.now.series.now t item.now) }
-    ensures keeps { (t : Told) → Keeps means.now.basin.now means.now.series.now account.old t →
-        Keeps means.now.basin.now means.now.series.now account.new t }
 {
     if cut_loose(means, account, item) {
         return Some(RefutedKind::CutLoose);
@@ -250,19 +197,18 @@ fn call_row(means: &Means, account: &mut Account, item: &Item) -> Option<Refuted
 /// Whether the amount of an entry is wrong.
 fn quantity_wrong(
     means: &Means,
-    account: &mut Account,
+    account: &Account,
     quantity: Quantity,
     entry: u32,
     amount: u64,
 ) -> bool
     requires means { AreMeans means.now }
     requires entry { entry < count_in (space_of quantity) means.now.basin.now }
-    requires month { HasMonth means.now.basin.now means.now.series.now account.old }
-    ensures value { (t : Told) → Keeps means.now.basin.now means.now.series.now account.old t →
+    requires month { HasMonth means.now.basin.now means.now.series.now account.now }
+    requires ready { IsReadyForAmount means.now account.now quantity entry }
+    ensures { (t : Told) → Keeps means.now.basin.now means.now.series.now account.now t →
         IsUnderWay means.now.basin.now means.now.series.now t →
         result ≡ checking.quantity_wrong means.now.basin.now means.now.series.now t quantity entry amount }
-    ensures keeps { (t : Told) → Keeps means.now.basin.now means.now.series.now account.old t →
-        Keeps means.now.basin.now means.now.series.now account.new t }
 {
     let basin = means.basin;
     match quantity {
@@ -301,15 +247,14 @@ fn kind_if(holds: bool, kind: RefutedKind) -> Option<RefutedKind>
 }
 
 /// The row of a line's own kind, if it has one and it holds.
-fn own_row(means: &Means, account: &mut Account, item: &Item) -> Option<RefutedKind>
+fn own_row(means: &Means, account: &Account, item: &Item) -> Option<RefutedKind>
     requires means { AreMeans means.now }
     requires item { IsOfBasin means.now.basin.now item.now }
-    requires awaits { Awaits means.now.basin.now means.now.series.now account.old item.now }
-    ensures value { (t : Told) → Keeps means.now.basin.now means.now.series.now account.old t →
+    requires awaits { Awaits means.now.basin.now means.now.series.now account.now item.now }
+    requires ready { IsReadyForOwn means.now account.now item.now }
+    ensures { (t : Told) → Keeps means.now.basin.now means.now.series.now account.now t →
         MayCome means.now.basin.now means.now.series.now t item.now →
         result ≡ first_of (own_rows means.now.basin.now means.now.series.now t item.now) }
-    ensures keeps { (t : Told) → Keeps means.now.basin.now means.now.series.now account.old t →
-        Keeps means.now.basin.now means.now.series.now account.new t }
 {
     match *item {
         Item::Run { first, months } => {
@@ -340,16 +285,15 @@ fn own_row(means: &Means, account: &mut Account, item: &Item) -> Option<RefutedK
     }
 }
 
-/// The first row of the verdict that holds of a line. What is told stays.
-pub fn first_row(means: &Means, account: &mut Account, item: &Item) -> Option<RefutedKind>
+/// The first row of the verdict that holds of a line. The account is ready for it.
+pub fn first_row(means: &Means, account: &Account, item: &Item) -> Option<RefutedKind>
     requires means { AreMeans means.now }
     requires item { IsOfBasin means.now.basin.now item.now }
-    requires awaits { Awaits means.now.basin.now means.now.series.now account.old item.now }
-    ensures value { (t : Told) → Keeps means.now.basin.now means.now.series.now account.old t →
+    requires awaits { Awaits means.now.basin.now means.now.series.now account.now item.now }
+    requires ready { IsReady means.now account.now item.now }
+    ensures { (t : Told) → Keeps means.now.basin.now means.now.series.now account.now t →
         MayCome means.now.basin.now means.now.series.now t item.now →
         result ≡ checking.first_row means.now.basin.now means.now.series.now t item.now }
-    ensures keeps { (t : Told) → Keeps means.now.basin.now means.now.series.now account.old t →
-        Keeps means.now.basin.now means.now.series.now account.new t }
 {
     match call_row(means, account, item) {
         Some(kind) => Some(kind),

@@ -8,11 +8,18 @@ use Rattle.cert_check.proofs.book.take_item.Goals as goal
 pub returns-in-None-clause-takes : goal.returns-in-None-clause-takes
 returns-in-None-clause-takes c = λ items told.
     let t = told_by c.args.means.now.basin.now c.args.means.now.series.now items in
-    let kept = subst (λ (a : Account). Keeps c.args.means.now.basin.now c.args.means.now.series.now a t) (sym c.deref_mut.ensures.value) told.account in
-    let none = sym (c.in-None.ensures.value t kept told.comes) in
-    let known = subst (λ (a : Account). Keeps c.args.means.now.basin.now c.args.means.now.series.now a t) (sym c.deref_mut-in-None.ensures.value) (c.first_row.ensures.keeps t kept) in
+    let kept = subst (λ (a : Account). Keeps c.args.means.now.basin.now c.args.means.now.series.now a t)
+    (sym c.deref_mut.ensures.value) told.account in
+    let still = c.make_ready.ensures.keeps t kept in
+    let ready = subst (λ (a : Account). Keeps c.args.means.now.basin.now c.args.means.now.series.now a t)
+    (sym c.deref.ensures) still in
+    let none = sym (c.in-None.ensures t ready told.comes) in
+    let known = subst (λ (a : Account). Keeps c.args.means.now.basin.now c.args.means.now.series.now a t)
+    (sym c.deref_mut-in-None.ensures.value) still in
     let entered = c.enter.ensures t known told.comes none in (
       none,
-      rw (c.count.ensures.account, told_more c.args.means.now.basin.now c.args.means.now.series.now items c.args.item.now) entered,
-      c.count.ensures.counts items (record { read = told.counts.read; last_other = told.counts.last_other; ended = told.counts.ended }),
+      rw (c.count.ensures.account,
+      told_more c.args.means.now.basin.now c.args.means.now.series.now items c.args.item.now) entered,
+      c.count.ensures.counts items
+          (record { read = told.counts.read; last_other = told.counts.last_other; ended = told.counts.ended }),
     )

@@ -1,20 +1,23 @@
 use Rattle.std.proofs.Common.{length, sym, ap, ◌∙◌, arith}
 use Rattle.water_model.proofs.Order.{length-by_seniority}
-use Rattle.cert_check.proofs.Kept.{keeps_passed}
-use Rattle.cert_check.proofs.Missing.{none_missed, some_missed, lacks_told}
+use Rattle.cert_check.proofs.Missing.{none_missed, some_missed}
 use Rattle.cert_check.proofs.refusing.cut_missing.Goals as goal
 
 pub pass_over-requires-clause-from : goal.pass_over-requires-clause-from
 pass_over-requires-clause-from c =
-    omega (arith, c.requires.awaits.keeps.fits.passed, ap length (c.by_seniority-order.ensures ∙ c.requires.means.roll.order), length-by_seniority c.args.means.now.basin.now.rights)
+    omega (
+      arith,
+      c.requires.awaits.keeps.fits.passed,
+      ap length (c.by_seniority-order.ensures ∙ c.requires.means.roll.order),
+      length-by_seniority c.args.means.now.basin.now.rights,
+    )
 
-pub returns-in-Some-clause-value : goal.returns-in-Some-clause-value
-returns-in-Some-clause-value c = λ t k. sym (none_missed c.args.means.now.basin.now c.args.means.now.series.now c.args.account.now t c.args.item.now c.in-Some.count c.requires.means.valid k c.in-Some.ensures)
+pub returns-in-Some : goal.returns-in-Some
+returns-in-Some c = λ t k.
+    sym (none_missed c.args.means.now.basin.now c.args.means.now.series.now c.args.account.now t c.args.item.now
+    c.in-Some.field-0 c.requires.means.valid k c.in-Some.ensures)
 
-pub returns-in-Some-clause-keeps : goal.returns-in-Some-clause-keeps
-returns-in-Some-clause-keeps c = λ t k.
-    keeps_passed c.args.means.now.basin.now c.args.means.now.series.now c.args.account.now t c.in-Some.count k (omega (arith, c.in-Some.ensures.within, length-by_seniority c.args.means.now.basin.now.rights))
-    (sym (lacks_told c.args.means.now.basin.now c.args.means.now.series.now c.args.account.now t k _) ∙ c.in-Some.ensures.settled)
-
-pub returns-in-None-clause-value : goal.returns-in-None-clause-value
-returns-in-None-clause-value c = λ t k. sym (some_missed c.args.means.now.basin.now c.args.means.now.series.now c.args.account.now t c.args.item.now k c.in-None.ensures)
+pub returns-in-None : goal.returns-in-None
+returns-in-None c = λ t k.
+    sym (some_missed c.args.means.now.basin.now c.args.means.now.series.now c.args.account.now t c.args.item.now k
+    c.in-None.ensures)

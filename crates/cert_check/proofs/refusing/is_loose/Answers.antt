@@ -1,13 +1,14 @@
-use Rattle.std.proofs.Common.{◌^◌, ap, ◌∙◌, arith}
+use Rattle.std.proofs.Common.{◌^◌, arith}
 use Rattle.cert_check.proofs.Bounded.{supplies_small, all_most}
 use Rattle.cert_check.proofs.refusing.is_loose.Goals as goal
 
 pub tight-requires-clause-amounts : goal.tight-requires-clause-amounts
 tight-requires-clause-amounts c =
     let month = c.requires.month in
-    let k = c.know_supply.ensures.keeps month.told month.keeps in
-    let all = supplies_small c.args.means.now.basin.now c.args.means.now.series.now month.told c.know_supply.new.account.month.supply c.requires.means.valid c.requires.means.series month.partial month.under_way
-    (k.supply (ap (λ a. a.has_supply) c.know_supply.ensures.rest)) in
+    let k = month.keeps in
+    let all = supplies_small c.args.means.now.basin.now c.args.means.now.series.now month.told
+    c.args.account.now.month.supply c.requires.means.valid c.requires.means.series month.partial month.under_way
+    (k.supply c.requires.supply) in
     rw (c.as_slice.ensures, c.as_slice-2.ensures) (record {
       supplies = k.fits.month.fits.supply;
       small = omega (arith, all);
@@ -17,7 +18,6 @@ tight-requires-clause-amounts c =
 
 pub tight-requires-clause-cut : goal.tight-requires-clause-cut
 tight-requires-clause-cut c =
-    let month = c.requires.month in
-    let k = c.know_supply.ensures.keeps month.told month.keeps in
-    let own = k.fits.calling c.args.right (ap (λ a. a.calling) c.know_supply.ensures.rest ∙ c.requires.calling) in
+    let k = c.requires.month.keeps in
+    let own = k.fits.calling c.args.right c.requires.calling in
     record { in_range = own.0; rights = k.fits.month.fits.cuts; nodes = k.fits.month.fits.cut_nodes; held = own.1 }

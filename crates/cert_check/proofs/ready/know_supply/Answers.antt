@@ -1,14 +1,16 @@
 use Rattle.std.proofs.Common.{arith}
 use Rattle.cert_check.proofs.Bounded.{node_small}
 use Rattle.cert_check.proofs.Kept.{keeps_supply}
-use Rattle.cert_check.proofs.refusing.know_supply.Goals as goal
+use Rattle.cert_check.proofs.ready.know_supply.Goals as goal
 
 pub make_supply-requires-clause-small : goal.make_supply-requires-clause-small
 make_supply-requires-clause-small c = λ n l.
     let month = c.requires.month in
-    let small = node_small c.args.means.now.basin.now c.args.means.now.series.now c.args.account.now.month month.told n c.requires.means.valid c.requires.means.series month.partial month.under_way month.keeps.shows l in
+    let small = node_small c.args.means.now.basin.now c.args.means.now.series.now c.args.account.now.month month.told n
+    c.requires.means.valid c.requires.means.series month.partial month.under_way month.keeps.shows l in
     omega (arith, small)
 
 pub returns-then-not-account-clause-keeps : goal.returns-then-not-account-clause-keeps
 returns-then-not-account-clause-keeps c = λ t k.
-    rw c.make_supply.ensures (keeps_supply c.args.means.now.basin.now c.args.means.now.series.now c.args.account.now t k)
+    rw c.make_supply.ensures
+    (keeps_supply c.args.means.now.basin.now c.args.means.now.series.now c.args.account.now t k)

@@ -1,0 +1,7 @@
+use Rattle.cert_check.proofs.Dues.{keeps_all}
+use Rattle.cert_check.proofs.ready.answer.Goals as goal
+
+pub returns-in-None-clause-keeps : goal.returns-in-None-clause-keeps
+returns-in-None-clause-keeps c = λ t k.
+    rw c.len-account.ensures (keeps_all c.args.means.now.basin.now c.args.means.now.series.now c.args.account.now t k
+    c.in-None.ensures)
