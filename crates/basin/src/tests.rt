@@ -11,6 +11,7 @@ mod ordinary;
 mod reporting;
 mod returning;
 mod rivers;
+mod ways;
 
 use basin_cli::{Status, basin_main};
 use canals::{CANAL_1900, CANAL_2000, CANAL_2001, CANAL_INSTREAM, TWO_CANALS};
