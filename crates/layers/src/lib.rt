@@ -14,10 +14,6 @@ mod lags;
 #[cfg(test)]
 mod nets;
 #[cfg(test)]
-mod networks;
-#[cfg(test)]
-mod pulls;
-#[cfg(test)]
 mod raises;
 #[cfg(test)]
 mod reported;
