@@ -18,8 +18,10 @@ returns-in-None-clause-takes c = λ items told.
     (sym c.deref_mut-in-None.ensures.value) still in
     let entered = c.enter.ensures t known told.comes none in (
       none,
-      rw (c.count.ensures.account,
-      told_more c.args.means.now.basin.now c.args.means.now.series.now items c.args.item.now) entered,
+      rw (
+        c.count.ensures.account,
+        told_more c.args.means.now.basin.now c.args.means.now.series.now items c.args.item.now,
+      ) entered,
       c.count.ensures.counts items
           (record { read = told.counts.read; last_other = told.counts.last_other; ended = told.counts.ended }),
     )
