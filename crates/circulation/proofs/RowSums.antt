@@ -209,6 +209,12 @@ row_sum_small r amounts v test place sum fits s =
     (omega (arith, fits (arc_of (slice_index r.step (first + k)))))) in
     omega (arith, each, s.is)
 
+-- what arcs with words as amounts bring to a node
+pub inflow_small : (n v : ℕ) (to amounts : List ℕ) → ((a : ℕ) → Fits w64 (slice_index amounts a)) →
+    total n (λ a. when (slice_index to a == v) (slice_index amounts a)) ≤ n * 2 ^ 64
+inflow_small n v to amounts fits = total_at_most n (2 ^ 64) (λ a. when (slice_index to a == v) (slice_index amounts a))
+    (λ a. when_le (slice_index to a == v) (slice_index amounts a) (2 ^ 64) (omega (arith, fits a)))
+
 -- at the end of the row
 pub row_sum_all : (r : Rows) (amounts : List ℕ) (v : ℕ) (test : ℕ → Bool) (place sum : ℕ) →
     place ≡ slice_index r.first (v + 1) → IsRowSum r amounts v test place sum →

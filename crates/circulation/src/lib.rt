@@ -220,7 +220,7 @@ impl Circulation {
         requires node { node ≤ self.now.nodes }
         requires amounts { length amounts.now ≡ arcs self.now }
         ensures sum { result ≡ inflow (network self.now) (slice_index amounts.now) node }
-        ensures small { result + 2 ^ 64 ≤ 2 ^ 128 }
+        ensures small { result < 2 ^ 96 }
     {
         let mut sum = 0u128;
         for place in self.row_first(node)..self.row_last(node) {

@@ -1,8 +1,8 @@
-use Rattle.std.proofs.Common.{ℕ, Bool, true, false, ◌≡◌, ◌+◌, ◌%◌, slice_index, arith, ap, sym, subst, ◌∙◌}
+use Rattle.std.proofs.Common.{ℕ, Bool, true, false, ◌≡◌, ◌+◌, ◌%◌, length, slice_index, arith, ap, sym, subst, ◌∙◌}
 use Rattle.std.proofs.lemmas.Bool.{eq-eqb, ne_eqb}
 use Rattle.place_sums.specs.Sums.{when}
 use Rattle.circulation.specs.Residual.{arc_of, is_back}
-use Rattle.circulation.proofs.RowSums.{IsRowSum, row_sum_start, row_sum_next, row_sum_small, row_sum_all, row_inflow}
+use Rattle.circulation.proofs.RowSums.{IsRowSum, row_sum_start, row_sum_next, row_sum_small, row_sum_all, row_inflow, inflow_small}
 use Rattle.circulation.proofs.Circulation.inflow.Goals as goal
 use Rattle.circulation.proofs.Circulation.inflow.Goals.{then-step-eq1, else-step-eq1}
 
@@ -67,13 +67,7 @@ returns-clause-sum c =
 
 pub returns-clause-small : goal.returns-clause-small
 returns-clause-small c =
-    let row = c.row_last-place-end.ensures.kept.rows.rows c.args.node c.requires.node in
-    let small = row_sum_small _ _ _ _ _ _ c.type_inv.amounts c.loop-place.invariant in
-    omega (
-      arith,
-      small,
-      c.loop-place.auto.place-end,
-      row.order,
-      c.row_first-place.ensures.place,
-      c.row_last-place-end.ensures.place,
-    )
+    let kept = c.row_last-place-end.ensures.kept in
+    let most = inflow_small (length c.args.self.now.from) c.args.node c.args.self.now.to c.args.amounts.now
+    c.type_inv.amounts in
+    omega (arith, most, kept.shape.few_arcs, returns-clause-sum c)
