@@ -105,6 +105,13 @@ impl ResidualTree {
         self.way[node as usize]
     }
 
+    /// The word of each node, the outside node's last: 0 where the node is dry.
+    pub fn words(&self) -> &[u64]
+        ensures { result.now ≡ self.now }
+    {
+        self.way.as_slice()
+    }
+
     /// Whether a node is a basin node that the outside does not reach.
     pub fn is_dry(&self, node: u32) -> bool
         requires { node < length self.now }

@@ -1,10 +1,10 @@
 -- The set of a right after writes.
-use Rattle.std.proofs.Common.{◌≡◌, ◌≢◌, ℕ, zero, suc, [], ◌∷◌, ◌+◌, ◌<◌, Bool, true, false, refl, sym, ◌∙◌, ap, subst, arith, List, length, replicate, inl, inr}
+use Rattle.std.proofs.Common.{◌≡◌, ◌≢◌, ℕ, zero, suc, [], ◌∷◌, ◌+◌, ◌<◌, ◌≤◌, Bool, true, false, refl, sym, ◌∙◌, ap, subst, arith, List, length, replicate, map, take, inl, inr}
 use Rattle.std.proofs.lemmas.Bool.{cases_eq, cases_Bool}
 use Rattle.std.proofs.lemmas.Bool.Decides.{nat_tests}
-use Rattle.std.proofs.lemmas.List.{ext_get_or, get_or-replicate, get_or-set_same, get_or-set_other, length-set, length-replicate}
+use Rattle.std.proofs.lemmas.List.{ext_get_or, get_or-replicate, get_or-set_same, get_or-set_other, length-set, length-replicate, length-map, length-take-le, get_or-map, get_or-take}
 use Rattle.std.proofs.lemmas.List.FromFn.{get_or-map-range_with_len, length-map-range_with_len}
-use Rattle.std.specs.Prelude.{◌==◌, ◌&&◌, nat_lt, slice_get, slice_set, Option, Some, None, unwrap_or, option_map, IfSome, IsSome, IsTrue, ◌↔◌}
+use Rattle.std.specs.Prelude.{◌==◌, ◌&&◌, nat_lt, slice_get, slice_set, slice_index, Option, Some, None, unwrap_or, option_map, IfSome, IsSome, IsTrue, ◌↔◌}
 use Rattle.water_model.specs.CutSets.{CutSets, set_of, with_set, with_room, has_room}
 use Rattle.senior_hold.specs.MonthNetwork.{list_of}
 use Rattle.senior_hold.proofs.Lists.{get_set, get_set_other, set_twice}
@@ -106,11 +106,31 @@ pub is_reached : (v n p : ℕ) (t : Bool) → (IsTrue t ↔ (0 < p)) → t ≡ t
 is_reached v n p t both h = grind (arith, nat_tests)
 
 -- a node is dry where its word is 0
-pub is_dry_node : (v n p : ℕ) (t : Bool) → v < n → (IsTrue t ↔ (p ≡ 0)) → t ≡ true → nat_lt v n && (p == 0) ≡ true
-is_dry_node v n p t l both h = grind (arith, nat_tests)
+-- whether words are 0
+abbrev are_zero : List ℕ → List Bool
+are_zero words = map (λ w. w == 0) words
 
-pub is_wet_node : (v n p : ℕ) (t : Bool) → (IsTrue t ↔ (p ≡ 0)) → t ≡ false → nat_lt v n && (p == 0) ≡ false
-is_wet_node v n p t both h = grind (arith, nat_tests)
+-- the nodes below n whose words are 0
+abbrev zero_nodes : ℕ → List ℕ → List Bool
+zero_nodes n words = list_of n (λ v. nat_lt v n && (slice_index words v == 0))
+
+-- both are one list
+pub zeros_are : (n : ℕ) (words : List ℕ) → n ≤ length words → are_zero (take n words) ≡ zero_nodes n words
+zeros_are n words h =
+    ext_get_or false (are_zero (take n words)) (zero_nodes n words)
+    (size ∙ sym (list_size n (λ v. nat_lt v n && (slice_index words v == 0)))) (λ i l. at i (omega (arith, size)))
+  where
+    size : length (are_zero (take n words)) ≡ n
+    size = length-map (take n words) (λ (w : ℕ). w == 0) ∙ length-take-le n words h
+
+    below : (i n : ℕ) (t : Bool) → i < n → t ≡ nat_lt i n && t
+    below i n t l = grind (arith, nat_tests)
+
+    at : (i : ℕ) → i < n → has (are_zero (take n words)) i ≡ has (zero_nodes n words) i
+    at i l =
+        get_or-map (λ (w : ℕ). w == 0) (take n words) i 0 false (omega (arith, length-take-le n words h))
+        ∙ ap (λ (w : ℕ). w == 0) (get_or-take n words i 0 l) ∙ below i n (slice_index words i == 0) l
+        ∙ sym (list_at n (λ v. nat_lt v n && (slice_index words v == 0)) i l)
 
 -- no right loses its room
 pub room_stays : (c : CutSets) (r q : ℕ) → has_room c q ≡ true → has_room (with_room c r) q ≡ true

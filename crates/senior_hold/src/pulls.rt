@@ -99,7 +99,7 @@ fn pull_up<L: Ledger>(
     Pulled::Unfinished
 }
 
-/// Adds to a right's empty set the dry nodes.
+/// Gives a right's empty set the dry nodes.
 fn mark_dry(circ: &Circulation, tree: &ResidualTree, right: u32, cuts: &mut CutList)
     requires right { right < length cuts.old.sets }
     requires nodes { cuts.old.nodes ≡ circ.now.nodes }
@@ -107,11 +107,8 @@ fn mark_dry(circ: &Circulation, tree: &ResidualTree, right: u32, cuts: &mut CutL
     requires empty { set_of cuts.old right ≡ Some (replicate cuts.old.nodes false) }
     ensures { cuts.new ≡ with_set cuts.old right (Some (list_of circ.now.nodes (dry circ.now tree.now))) }
 {
-    for node in 0..circ.nodes() {
-        if tree.is_dry(node) {
-            cuts.add(right, node);
-        }
-    }
+    let nodes = circ.nodes() as usize;
+    cuts.put_zeros(right, &tree.words()[..nodes]);
 }
 
 /// What a turn came to.

@@ -1,8 +1,8 @@
 -- What a write to one slot leaves.
-use Rattle.std.proofs.Common.{◌≡◌, ℕ, suc, ◌<◌, Bool, true, false, List, [], ◌∷◌, ◌++◌, length, get_or, take, drop, map, refl, ap, sym, ◌∙◌, arith}
-use Rattle.std.specs.Prelude.{◌≤◌, All, Option, Some, None, IfSome, slice_get, slice_set, if◌then◌else◌}
+use Rattle.std.proofs.Common.{◌≡◌, ◌==◌, ◌+◌, ℕ, suc, ◌<◌, Bool, true, false, List, [], ◌∷◌, ◌++◌, length, get_or, take, drop, map, refl, ap, sym, subst, ◌∙◌, arith}
+use Rattle.std.specs.Prelude.{◌≤◌, All, Option, Some, None, IfSome, IsSome, slice_get, slice_set, if◌then◌else◌}
 use Rattle.std.proofs.Common.{add-zero}
-use Rattle.std.proofs.lemmas.List.{map-set, map-append, get_or-drop, drop-set-lt}
+use Rattle.std.proofs.lemmas.List.{map-set, map-append, get_or-drop, drop-set-lt, take_more, take_more_set}
 use Rattle.std.proofs.lemmas.Simd.{map-map}
 use Rattle.std.proofs.lemmas.Grind.{common_steps}
 use Rattle.std.proofs.lemmas.List.Elements.{All-map}
@@ -119,3 +119,33 @@ emptied_seen n slots =
 
 pub emptied_sized : (n : ℕ) (slots : List Slot) → All (IsSizedSlot n) slots → All (IsSizedSlot n) (map emptied slots)
 emptied_sized n slots all = All-map (IsSizedSlot n) emptied slots (λ k d h. let was = all k d h in record { members = λ e. cc e; capacity = was.capacity })
+
+-- one more word is told to be 0 or not
+pub zeros_more : (words : List ℕ) (members : List Bool) (i : ℕ) → i < length words → i < length members →
+    take i members ≡ map (λ w. w == 0) (take i words) →
+    take (i + 1) (slice_set members i (get_or words i 0 == 0)) ≡ map (λ w. w == 0) (take (i + 1) words)
+zeros_more words members i k l done =
+    take_more_set members i (get_or words i 0 == 0) l ∙ ap (λ t. t ++ (get_or words i 0 == 0) ∷ []) done
+    ∙ sym (map-append (λ w. w == 0) (take i words) (get_or words i 0 ∷ [])) ∙ sym (ap (map (λ w. w == 0)) (take_more words i 0 k))
+
+-- a slot that holds a set gets another
+pub replaced : (n : ℕ) (slots : List Slot) (right : ℕ) (s t : Slot) (set : List Bool) → slice_get slots right ≡ Some s →
+    t.held ≡ true → t.has_room ≡ s.has_room → t.members.items ≡ set →
+    cut_sets n (slice_set slots right t) ≡ with_set (cut_sets n slots) right (Some set)
+replaced n slots right s t set h held roomy items =
+    seen_same n (map set_in (slice_set slots right t)) (slice_set (map set_in slots) right (Some set))
+    (map room_in (slice_set slots right t)) (map room_in slots)
+    (map-set set_in slots right t ∙ ap (slice_set (map set_in slots) right) same) (room_stays slots right s t h roomy)
+  where
+    same : set_in t ≡ Some set
+    same = ap (λ (h : Bool). if h then Some t.members.items else None) held ∙ ap Some items
+
+-- a slot whose set is there holds one
+pub holds_one : (n : ℕ) (slots : List Slot) (right : ℕ) (s : Slot) → slice_get slots right ≡ Some s →
+    IsSome (set_of (cut_sets n slots) right) → s.held ≡ true
+holds_one n slots right s at some = by_held s.held refl (subst IsSome (set_of_slot n slots right s at) some)
+  where
+    by_held : (x : Bool) → s.held ≡ x → IsSome (set_in s) → s.held ≡ true
+    by_held true e h = e
+    by_held false e h =
+        let none : set_in s ≡ None = ap (λ (h : Bool). if h then Some s.members.items else None) e in absurd (cc (subst IsSome none h))

@@ -1,5 +1,5 @@
 //! For each right none or a set of nodes.
-ghost use Rattle.std.specs.Prelude.{All, ◌≡◌, ◌<◌, ◌≤◌, None, Some, length, replicate, slice_set, false, true, IfOk, OnOk, OnErr, IfSome, IfNone, IsSome, IsNone, IsTrue, ◌↔◌, map};
+ghost use Rattle.std.specs.Prelude.{All, ◌≡◌, ◌<◌, ◌≤◌, None, Some, length, replicate, slice_set, false, true, IfOk, OnOk, OnErr, IfSome, IfNone, IsSome, IsNone, IsTrue, ◌↔◌, map, ◌==◌};
 ghost use Rattle.water_model.specs.Lookups.{has};
 ghost use Rattle.water_model.specs.CutInside.{emptied, set_in, IsSizedSlot};
 ghost use Rattle.water_model.specs.CutSets.{set_of, with_set, with_room, without_sets, has_room, CutSets};
@@ -111,6 +111,18 @@ impl CutList {
         slot.members[node as usize] = true;
     }
 
+    /// Gives a right's set the nodes whose words are 0, and no other. The words are indexed by node. The other rights' sets
+    /// stay.
+    pub fn put_zeros(&mut self, right: u32, words: &[u64])
+        requires right { right < length self.old.sets }
+        requires words { length words.now ≡ self.old.nodes }
+        requires held { IsSome (set_of self.old right) }
+        ensures { self.new ≡ with_set self.old right (Some (map (λ w. w == 0) words.now)) }
+    {
+        let slot = &mut self.slots[right as usize];
+        mark_zeros(words, slot.members.as_mut_slice());
+    }
+
     /// Gives a right the empty set, and room from now on. Memory can run out only for a right that never had a set;
     /// nothing is changed then.
     pub fn begin(&mut self, right: u32) -> Result<(), AllocError>
@@ -157,5 +169,15 @@ fn give_up(slots: &mut [Slot])
 {
     for slot in slots.iter_mut() {
         slot.held = false;
+    }
+}
+
+/// Tells of each word whether it is 0.
+fn mark_zeros(words: &[u64], members: &mut [bool])
+    requires { length words.now ≡ length members.old }
+    ensures { members.new ≡ map (λ w. w == 0) words.now }
+{
+    for at in 0..members.len() {
+        members[at] = words[at] == 0;
     }
 }
