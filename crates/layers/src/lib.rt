@@ -14,6 +14,10 @@ mod lags;
 #[cfg(test)]
 mod nets;
 #[cfg(test)]
+mod networks;
+#[cfg(test)]
+mod pulls;
+#[cfg(test)]
 mod raises;
 #[cfg(test)]
 mod reported;
