@@ -9,9 +9,6 @@ ghost use Rattle.basin_cli.specs.Command.{ServesFiles, command_of};
 ghost use Rattle.basin_cli.specs.Outcome.{Ends, Completes, WritesFor};
 ghost use Rattle.basin_cli.specs.declared.status.Status.{Status};
 
-#[cfg(test)]
-mod tests;
-
 use basin_cli::{Status, basin_main};
 use std::alloc::Global;
 use std::io;

@@ -1,13 +1,14 @@
 //! Results that are accepted and refuted.
-use super::canals::{CANAL_1900, TWO_CANALS};
-use super::lakes::{LAKE, POOL};
-use super::ordinary::{ORDINARY, ORDINARY_SERIES, ORDINARY_TEXT};
-use super::returning::RETURNS;
-use super::rivers::{JUNIOR_DRY, JUNIOR_SHORT, NOTHING_WANTED, OWN_BRANCHES, TROUT};
-use super::{NEVER, SERVED, expect, files};
+use crate::canals::{CANAL_1900, TWO_CANALS};
+use crate::lakes::POOL;
+use crate::returning::RETURNS;
+use crate::rivers::{JUNIOR_DRY, OWN_BRANCHES, TROUT};
+use crate::running::SERVED;
 use basin_cli::Status;
+use stage::basins::{JUNIOR_SHORT, LAKE, NOTHING_WANTED};
+use stage::ordinary::{ORDINARY, ORDINARY_SERIES, ORDINARY_TEXT};
+use stage::{NEVER, expect, files};
 use std::alloc::Global;
-use std::process::Abort;
 use std::test::Fail;
 
 /// A text with other lines in the place of one. Lines count from 1.
@@ -25,18 +26,18 @@ fn with_line(alloc: Global, text: &str, number: usize, put: &str) -> Result<Stri
 }
 
 /// Checks a result, and compares the answer.
-fn checks<R: Abort + AllocGlobal>(
-    rt: &R,
+fn checks(
+    alloc: Global,
     basin: &str,
     series: &str,
     text: &str,
     want: (Status, &str),
 ) -> Result<(), Fail> {
-    let mut set = files(rt.alloc(), basin, series)?;
+    let mut set = files(alloc, basin, series)?;
     set.result.extend_from_slice(text.as_bytes())?;
     let name = if series.is_empty() { "-" } else { "SERIES" };
     expect(
-        rt,
+        alloc,
         &["check", "BASIN", name, "RESULT"],
         set,
         (want.0, want.1, ""),
@@ -52,10 +53,10 @@ fn accepts_what_is_written(rt: HostRuntime) -> Result<(), Fail> {
             .filter(|line| line.starts_with("month "))
             .count();
         let answer = format!(in rt.alloc(); "checked {months}\n")?;
-        checks(&rt, basin, "", text, (Status::Done, answer.as_str()))?;
+        checks(rt.alloc(), basin, "", text, (Status::Done, answer.as_str()))?;
     }
     let yes = (Status::Done, "checked 2\n");
-    checks(&rt, ORDINARY, ORDINARY_SERIES, ORDINARY_TEXT, yes)
+    checks(rt.alloc(), ORDINARY, ORDINARY_SERIES, ORDINARY_TEXT, yes)
 }
 
 /// Texts by hand with other tight cuts and other flows: a basin, its text, a line and what stands in its place.
@@ -74,7 +75,7 @@ fn accepts_other_cuts(rt: HostRuntime) -> Result<(), Fail> {
     for ((basin, text), line, put) in BY_HAND {
         let changed = with_line(rt.alloc(), text, line, put)?;
         checks(
-            &rt,
+            rt.alloc(),
             basin,
             "",
             changed.as_str(),
@@ -95,9 +96,26 @@ const HIDDEN: [&str; 3] = [
 #[test]
 fn accepts_a_set_that_hides_a_caller(rt: HostRuntime) -> Result<(), Fail> {
     let run = files(rt.alloc(), HIDDEN[0], "")?;
-    expect(&rt, &["run", "BASIN"], run, (Status::Done, HIDDEN[1], ""))?;
-    checks(&rt, HIDDEN[0], "", HIDDEN[1], (Status::Done, "checked 1\n"))?;
-    checks(&rt, HIDDEN[0], "", HIDDEN[2], (Status::Done, "checked 1\n"))
+    expect(
+        rt.alloc(),
+        &["run", "BASIN"],
+        run,
+        (Status::Done, HIDDEN[1], ""),
+    )?;
+    checks(
+        rt.alloc(),
+        HIDDEN[0],
+        "",
+        HIDDEN[1],
+        (Status::Done, "checked 1\n"),
+    )?;
+    checks(
+        rt.alloc(),
+        HIDDEN[0],
+        "",
+        HIDDEN[2],
+        (Status::Done, "checked 1\n"),
+    )
 }
 
 /// Two springs above one user, who may take the water of either.
@@ -158,7 +176,7 @@ fn accepts_other_flows(rt: HostRuntime) -> Result<(), Fail> {
             "river-result 1\nrun 1900-01 1\nmonth 1900-01\n{flows}deliver old 10 10\nout m 10\nend\ndone 1\n"
         )?;
         checks(
-            &rt,
+            rt.alloc(),
             EITHER_SPRING,
             "",
             text.as_str(),
@@ -211,10 +229,10 @@ type Refuting = (
 );
 
 /// Checks a text with one line changed, and compares the answer.
-fn refutes<R: Abort + AllocGlobal>(rt: &R, row: Refuting) -> Result<(), Fail> {
+fn refutes(alloc: Global, row: Refuting) -> Result<(), Fail> {
     let ((basin, text), line, put, answer) = row;
-    let changed = with_line(rt.alloc(), text, line, put)?;
-    checks(rt, basin, "", changed.as_str(), (Status::No, answer))
+    let changed = with_line(alloc, text, line, put)?;
+    checks(alloc, basin, "", changed.as_str(), (Status::No, answer))
 }
 
 /// Lines behind the end, and lines that aren't of the form.
@@ -234,7 +252,7 @@ const OUT_OF_FORM: [Refuting; 8] = [
 #[test]
 fn refutes_lines_out_of_form(rt: HostRuntime) -> Result<(), Fail> {
     for row in OUT_OF_FORM {
-        refutes(&rt, row)?;
+        refutes(rt.alloc(), row)?;
     }
     Ok(())
 }
@@ -264,7 +282,7 @@ const SHORTAGES: [Refuting; 10] = [
 #[test]
 fn refutes_sets_of_nodes(rt: HostRuntime) -> Result<(), Fail> {
     for row in SHORTAGES {
-        refutes(&rt, row)?;
+        refutes(rt.alloc(), row)?;
     }
     Ok(())
 }
@@ -296,7 +314,7 @@ const OPENINGS: [Refuting; 12] = [
 #[test]
 fn refutes_callers_and_openings(rt: HostRuntime) -> Result<(), Fail> {
     for row in OPENINGS {
-        refutes(&rt, row)?;
+        refutes(rt.alloc(), row)?;
     }
     Ok(())
 }
@@ -332,7 +350,7 @@ const FLOWS: [Refuting; 12] = [
 #[test]
 fn refutes_flows_and_ends(rt: HostRuntime) -> Result<(), Fail> {
     for row in FLOWS {
-        refutes(&rt, row)?;
+        refutes(rt.alloc(), row)?;
     }
     Ok(())
 }
@@ -371,7 +389,7 @@ const TWICE: [((&str, &str), &str, &str); 6] = [
 #[test]
 fn refutes_for_the_first_of_two_faults(rt: HostRuntime) -> Result<(), Fail> {
     for ((basin, _text), text, answer) in TWICE {
-        checks(&rt, basin, "", text, (Status::No, answer))?;
+        checks(rt.alloc(), basin, "", text, (Status::No, answer))?;
     }
     Ok(())
 }
@@ -393,7 +411,7 @@ fn refutes_in_later_months(rt: HostRuntime) -> Result<(), Fail> {
     for (line, put, answer) in ORDINARY_REFUTED {
         let changed = with_line(rt.alloc(), ORDINARY_TEXT, line, put)?;
         checks(
-            &rt,
+            rt.alloc(),
             ORDINARY,
             ORDINARY_SERIES,
             changed.as_str(),
@@ -413,7 +431,7 @@ fn takes_a_long_rest_for_a_line(rt: HostRuntime) -> Result<(), Fail> {
         let mut set = files(rt.alloc(), JUNIOR_DRY.0, "")?;
         set.result = vec![in rt.alloc(); 120; count]?;
         let words = ["check", "BASIN", "-", "RESULT"];
-        expect(&rt, &words, set, (Status::No, answer, ""))?;
+        expect(rt.alloc(), &words, set, (Status::No, answer, ""))?;
     }
     Ok(())
 }
@@ -432,7 +450,7 @@ fn tells_what_fails_in_a_check(rt: HostRuntime) -> Result<(), Fail> {
         set.result.extend_from_slice(ORDINARY_TEXT.as_bytes())?;
         set.shelf_fails = shelf_fails;
         set.out_fails = out_fails;
-        expect(&rt, &words, set, (status, "", line))?;
+        expect(rt.alloc(), &words, set, (status, "", line))?;
     }
     Ok(())
 }

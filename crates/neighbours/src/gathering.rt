@@ -1,8 +1,7 @@
 //! Ensembles: the record begun in each of its years. What is expected is worked out by hand.
-use super::{expect, files};
 use basin_cli::Status;
+use stage::{expect, files};
 use std::alloc::Global;
-use std::process::Abort;
 use std::test::Fail;
 
 /// The amounts of gauges in each month of two years from the month of this place in 1900, as a series.
@@ -39,17 +38,17 @@ fn add_month(
 }
 
 /// Runs the ensemble of a basin with two years of its gauges from the month of this place in 1900, and compares its text.
-fn expect_ensemble<R: Abort + AllocGlobal>(
-    rt: &R,
+fn expect_ensemble(
+    alloc: Global,
     basin: &str,
     first: u32,
     gauges: &[(&str, [u64; 2])],
     text: &str,
 ) -> Result<(), Fail> {
-    let series = record(rt.alloc(), first, gauges)?;
-    let set = files(rt.alloc(), basin, series.as_str())?;
+    let series = record(alloc, first, gauges)?;
+    let set = files(alloc, basin, series.as_str())?;
     let words = ["ensemble", "BASIN", "SERIES"];
-    expect(rt, &words, set, (Status::Done, text, ""))
+    expect(alloc, &words, set, (Status::Done, text, ""))
 }
 
 /// A gauge with one user below it.
@@ -70,7 +69,7 @@ const USER_TEXT: &str = "ensemble 1900-01 2\nright user\nyearly 48 2\nyearly 120
 
 #[test]
 fn begins_the_record_in_each_year(rt: HostRuntime) -> Result<(), Fail> {
-    expect_ensemble(&rt, USER, 0, &[("top", [4, 12])], USER_TEXT)
+    expect_ensemble(rt.alloc(), USER, 0, &[("top", [4, 12])], USER_TEXT)
 }
 
 /// The same from October on: a year of a trace is counted from its first month.
@@ -91,7 +90,7 @@ const OCTOBER_TEXT: &str = "ensemble 1900-10 2\nright user\nyearly 48 2\nyearly 
 
 #[test]
 fn counts_years_from_the_first_month(rt: HostRuntime) -> Result<(), Fail> {
-    expect_ensemble(&rt, OCTOBER, 9, &[("top", [4, 12])], OCTOBER_TEXT)
+    expect_ensemble(rt.alloc(), OCTOBER, 9, &[("top", [4, 12])], OCTOBER_TEXT)
 }
 
 /// One year alone.
@@ -113,7 +112,7 @@ const ONE_YEAR_TEXT: &str = "ensemble 1900-01 1\nright user\nyearly 63 1\ndone 1
 /// 7 a month against wants from 1 to 12: 1 + 2 + .. + 7, and 7 in each of the five months behind.
 #[test]
 fn runs_a_record_of_one_year_once(rt: HostRuntime) -> Result<(), Fail> {
-    expect_ensemble(&rt, ONE_YEAR, 0, &[("top", [7, 0])], ONE_YEAR_TEXT)
+    expect_ensemble(rt.alloc(), ONE_YEAR, 0, &[("top", [7, 0])], ONE_YEAR_TEXT)
 }
 
 /// Two gauges, each with a right of its own. The junior is listed first.
@@ -146,7 +145,7 @@ const TWO_GAUGES_TEXT: &str =
 #[test]
 fn turns_all_gauges_together(rt: HostRuntime) -> Result<(), Fail> {
     let gauges = [("one", [1, 20]), ("two", [30, 3])];
-    expect_ensemble(&rt, TWO_GAUGES, 0, &gauges, TWO_GAUGES_TEXT)
+    expect_ensemble(rt.alloc(), TWO_GAUGES, 0, &gauges, TWO_GAUGES_TEXT)
 }
 
 /// A lake that holds 20 at first above a city that wants 10 a month; what the city leaves is kept. With 2 a month in one year and 15 in the
@@ -182,7 +181,7 @@ const STORING_TEXT: &str =
 
 #[test]
 fn carries_storage_from_year_to_year(rt: HostRuntime) -> Result<(), Fail> {
-    expect_ensemble(&rt, STORING, 0, &[("lake", [2, 15])], STORING_TEXT)
+    expect_ensemble(rt.alloc(), STORING, 0, &[("lake", [2, 15])], STORING_TEXT)
 }
 
 /// Thirteen months are no whole years, which is told before the series is read.
@@ -199,7 +198,7 @@ fn wants_whole_years(rt: HostRuntime) -> Result<(), Fail> {
     set.shelf_fails = 1;
     let words = ["ensemble", "BASIN", "SERIES"];
     expect(
-        &rt,
+        rt.alloc(),
         &words,
         set,
         (Status::BasinRefused, "", "basin: PartYear top 0\n"),
@@ -228,7 +227,7 @@ fn leaves_a_front_of_an_ensemble(rt: HostRuntime) -> Result<(), Fail> {
         set.shelf_fails = shelf_fails;
         set.out_fails = out_fails;
         let words = ["ensemble", "BASIN", "SERIES"];
-        expect(&rt, &words, set, (status, text, line))?;
+        expect(rt.alloc(), &words, set, (status, text, line))?;
     }
     Ok(())
 }
@@ -238,8 +237,13 @@ fn refuses_the_series_of_an_ensemble(rt: HostRuntime) -> Result<(), Fail> {
     let set = files(rt.alloc(), USER, "month,node,amount\n")?;
     let words = ["ensemble", "BASIN", "SERIES"];
     let line = "series: Missing 1900-01 top\n";
-    expect(&rt, &words, set, (Status::SeriesRefused, "", line))?;
+    expect(rt.alloc(), &words, set, (Status::SeriesRefused, "", line))?;
     let set = files(rt.alloc(), USER, "")?;
     let usage = "usage: basin_cli COMMAND WORDS\n";
-    expect(&rt, &["ensemble", "BASIN"], set, (Status::Usage, "", usage))
+    expect(
+        rt.alloc(),
+        &["ensemble", "BASIN"],
+        set,
+        (Status::Usage, "", usage),
+    )
 }

@@ -66,11 +66,13 @@ part = 2500
 lag = 1
 "#;
 
+/// What its gauge brings in both months.
 pub const ORDINARY_SERIES: &str = r#"month,node,amount
 1960-07,upper,2500
 1960-08,upper,1200
 "#;
 
+/// The text of its run.
 pub const ORDINARY_TEXT: &str = r#"river-result 1
 run 1960-07 2
 month 1960-07

@@ -1,11 +1,9 @@
 //! Scripts of changes to a series. What they show is compared with runs of the changed series.
-use super::ordinary::ORDINARY;
-use super::{NEVER, Set, blanks, call_over, expect, files, with};
 use basin_cli::Status;
+use stage::ordinary::ORDINARY;
+use stage::{NEVER, Set, blanks, call, expect, files, with};
 use std::alloc::Global;
-use std::marker::Brand;
 use std::process::Abort;
-use std::sync::ledger::Blank;
 use std::test::Fail;
 use water_edge::MemorySink;
 
@@ -65,7 +63,7 @@ done 3
 #[test]
 fn shows_months_of_the_changed_series(rt: HostRuntime) -> Result<(), Fail> {
     let set = with_script(rt.alloc(), USER, USER_SERIES, SHOWN.0)?;
-    expect(&rt, &WORDS, set, (Status::Done, SHOWN.1, ""))
+    expect(rt.alloc(), &WORDS, set, (Status::Done, SHOWN.1, ""))
 }
 
 /// Scripts at fault, each behind `river-edit 1` unless it begins otherwise, and the line on err.
@@ -160,7 +158,7 @@ const REFUSED: [(&str, &str); 30] = [
 fn refuses_a_script_at_its_first_fault(rt: HostRuntime) -> Result<(), Fail> {
     for (script, line) in REFUSED {
         let set = with_script(rt.alloc(), USER, USER_SERIES, script)?;
-        expect(&rt, &WORDS, set, (Status::ScriptRefused, "", line))?;
+        expect(rt.alloc(), &WORDS, set, (Status::ScriptRefused, "", line))?;
     }
     Ok(())
 }
@@ -170,13 +168,18 @@ fn refuses_a_script_at_its_first_fault(rt: HostRuntime) -> Result<(), Fail> {
 fn refuses_files_before_the_script(rt: HostRuntime) -> Result<(), Fail> {
     let basin = with_script(rt.alloc(), "format = 7\n", "", "")?;
     let refused = (Status::BasinRefused, "", "basin: MissingKey top 0\n");
-    expect(&rt, &WORDS, basin, refused)?;
+    expect(rt.alloc(), &WORDS, basin, refused)?;
     let series = with_script(rt.alloc(), USER, "", "")?;
     let refused = (Status::SeriesRefused, "", "series: Header 1\n");
-    expect(&rt, &WORDS, series, refused)?;
+    expect(rt.alloc(), &WORDS, series, refused)?;
     let missing = with_script(rt.alloc(), USER, "", SHOWN.0)?;
     let refused = (Status::SeriesRefused, "", "series: Missing 1900-01 head\n");
-    expect(&rt, &["edit", "BASIN", "-", "SCRIPT"], missing, refused)
+    expect(
+        rt.alloc(),
+        &["edit", "BASIN", "-", "SCRIPT"],
+        missing,
+        refused,
+    )
 }
 
 /// Calls of the shelf and of out that fail, and what stands then.
@@ -208,12 +211,12 @@ fn leaves_a_front_of_what_is_shown(rt: HostRuntime) -> Result<(), Fail> {
         let mut set = with_script(rt.alloc(), USER, USER_SERIES, script)?;
         set.shelf_fails = shelf_fails;
         set.out_fails = out_fails;
-        expect(&rt, &WORDS, set, (status, text, line))?;
+        expect(rt.alloc(), &WORDS, set, (status, text, line))?;
     }
     let mut long = files(rt.alloc(), USER, USER_SERIES)?;
     long.script = blanks(rt.alloc(), 67_108_865)?;
     let too_long = (Status::InputTooLong, "", "too long: SCRIPT\n");
-    expect(&rt, &WORDS, long, too_long)
+    expect(rt.alloc(), &WORDS, long, too_long)
 }
 
 /// What a line of a script does in the month of this index: it shows it, or makes this the amount of its gauge.
@@ -300,7 +303,7 @@ fn add_lines(into: &mut String, text: &str, month: Option<&str>) -> Result<(), F
 fn text_of_run(alloc: Global, basin: &str, series: &str) -> Result<MemorySink, Fail> {
     let set = files(alloc, basin, series)?;
     let words = ["run", "BASIN", "SERIES"];
-    let (_, out, _) = call_over::<Brand>(alloc, Blank::new(1), &words, set)?;
+    let (_, out, _) = call(alloc, &words, set)?;
     Ok(out)
 }
 
@@ -308,7 +311,7 @@ fn text_of_run(alloc: Global, basin: &str, series: &str) -> Result<MemorySink, F
 fn text_of_edit(alloc: Global, basin: &str, script: &str) -> Result<MemorySink, Fail> {
     let series = series_of(alloc, &START)?;
     let set = with_script(alloc, basin, series.as_str(), script)?;
-    let (_, out, _) = call_over::<Brand>(alloc, Blank::new(1), &WORDS, set)?;
+    let (_, out, _) = call(alloc, &WORDS, set)?;
     Ok(out)
 }
 

@@ -1,54 +1,5 @@
 //! Basins whose rights share rivers, and the whole texts of their runs, worked out by hand.
 
-/// The junior gets what the senior leaves.
-pub const JUNIOR_SHORT: (&str, &str) = (
-    r#"format = 1
-first_month = "1900-01"
-months = 1
-[[node]]
-name = "top"
-inflow = 80
-[[node]]
-name = "mid"
-[[node]]
-name = "mouth"
-outlet = true
-[[link]]
-name = "a"
-from = "top"
-to = "mid"
-[[link]]
-name = "b"
-from = "mid"
-to = "mouth"
-[[diversion]]
-name = "old"
-node = "mid"
-date = "1890-01-01"
-want = 60
-[[diversion]]
-name = "new"
-node = "top"
-date = "1920-01-01"
-want = 50
-"#,
-    r#"river-result 1
-run 1900-01 1
-month 1900-01
-flow a 60
-flow b 0
-deliver old 60 60
-deliver new 20 50
-out mouth 0
-call new
-in top
-in mid
-in mouth
-end
-done 1
-"#,
-);
-
 /// The senior gets all there is, and calls the junior.
 pub const JUNIOR_DRY: (&str, &str) = (
     r#"format = 1
@@ -348,44 +299,6 @@ call old
 in top
 in mid
 in mouth
-end
-done 1
-"#,
-);
-
-/// A right that wants nothing is met.
-pub const NOTHING_WANTED: (&str, &str) = (
-    r#"format = 1
-first_month = "1900-01"
-months = 1
-[[node]]
-name = "top"
-inflow = 80
-[[node]]
-name = "mouth"
-outlet = true
-[[link]]
-name = "a"
-from = "top"
-to = "mouth"
-[[diversion]]
-name = "none"
-node = "top"
-date = "1920-01-01"
-want = 0
-[[instream]]
-name = "fish"
-link = "a"
-date = "1900-01-01"
-want = 30
-"#,
-    r#"river-result 1
-run 1900-01 1
-month 1900-01
-flow a 80
-deliver fish 30 30
-deliver none 0 0
-out mouth 80
 end
 done 1
 "#,

@@ -1,10 +1,10 @@
 //! The account books of short rights. What is expected is worked out by hand: what is supplied within the reach and what links can
 //! bring in, less what is kept for seniors.
-use super::ordinary::{ORDINARY, ORDINARY_SERIES};
-use super::rivers::NOTHING_WANTED;
-use super::{expect, files};
 use basin_cli::Status;
-use std::process::Abort;
+use stage::basins::NOTHING_WANTED;
+use stage::ordinary::{ORDINARY, ORDINARY_SERIES};
+use stage::{expect, files};
+use std::alloc::Global;
 use std::test::Fail;
 
 const LIVE_BOOK: &str =
@@ -41,22 +41,22 @@ fn tells_why_a_right_got_no_more(rt: HostRuntime) -> Result<(), Fail> {
     for (month, right, status, book) in ORDINARY_BOOKS {
         let set = files(rt.alloc(), ORDINARY, ORDINARY_SERIES)?;
         let words = ["why", "BASIN", "SERIES", month, right];
-        expect(&rt, &words, set, (status, book, ""))?;
+        expect(rt.alloc(), &words, set, (status, book, ""))?;
     }
     Ok(())
 }
 
 /// Asks about a right in January 1900 of a basin without gauges.
-fn expect_book<R: Abort + AllocGlobal>(
-    rt: &R,
+fn expect_book(
+    alloc: Global,
     basin: &str,
     right: &str,
     status: Status,
     book: &str,
 ) -> Result<(), Fail> {
-    let set = files(rt.alloc(), basin, "")?;
+    let set = files(alloc, basin, "")?;
     let words = ["why", "BASIN", "-", "1900-01", right];
-    expect(rt, &words, set, (status, book, ""))
+    expect(alloc, &words, set, (status, book, ""))
 }
 
 /// 20 flow past fish that want 30.
@@ -164,11 +164,11 @@ const BOOKS: [(&str, &str, Status, &str); 5] = [
 #[test]
 fn names_what_is_kept_and_for_whom(rt: HostRuntime) -> Result<(), Fail> {
     for (basin, right, status, book) in BOOKS {
-        expect_book(&rt, basin, right, status, book)?;
+        expect_book(rt.alloc(), basin, right, status, book)?;
     }
     // A right that wants nothing lacks nothing.
     let (idle, _text) = NOTHING_WANTED;
-    expect_book(&rt, idle, "none", Status::No, "met 1900-01 none\n")
+    expect_book(rt.alloc(), idle, "none", Status::No, "met 1900-01 none\n")
 }
 
 /// Words that ask for what isn't there. A month that the run hasn't is told before a name that no right has.
@@ -185,7 +185,7 @@ fn refuses_months_and_names_that_are_not_there(rt: HostRuntime) -> Result<(), Fa
     for (month, right, line) in UNKNOWN {
         let set = files(rt.alloc(), ORDINARY, ORDINARY_SERIES)?;
         let words = ["why", "BASIN", "SERIES", month, right];
-        expect(&rt, &words, set, (Status::ScriptRefused, "", line))?;
+        expect(rt.alloc(), &words, set, (Status::ScriptRefused, "", line))?;
     }
     Ok(())
 }
@@ -201,10 +201,20 @@ fn asks_by_a_month_and_a_name(rt: HostRuntime) -> Result<(), Fail> {
         ("1960-07", "li ve"),
     ] {
         let set = files(rt.alloc(), ORDINARY, ORDINARY_SERIES)?;
-        expect(&rt, &["why", "BASIN", "SERIES", month, right], set, usage)?;
+        expect(
+            rt.alloc(),
+            &["why", "BASIN", "SERIES", month, right],
+            set,
+            usage,
+        )?;
     }
     let set = files(rt.alloc(), ORDINARY, ORDINARY_SERIES)?;
-    expect(&rt, &["why", "BASIN", "SERIES", "1960-07"], set, usage)
+    expect(
+        rt.alloc(),
+        &["why", "BASIN", "SERIES", "1960-07"],
+        set,
+        usage,
+    )
 }
 
 #[test]
@@ -212,14 +222,14 @@ fn refuses_files_before_what_is_asked(rt: HostRuntime) -> Result<(), Fail> {
     let words = ["why", "BASIN", "SERIES", "1999-01", "nobody"];
     let set = files(rt.alloc(), "format = 2\n", ORDINARY_SERIES)?;
     expect(
-        &rt,
+        rt.alloc(),
         &words,
         set,
         (Status::BasinRefused, "", "basin: MissingKey top 0\n"),
     )?;
     let set = files(rt.alloc(), ORDINARY, "month,node\n")?;
     expect(
-        &rt,
+        rt.alloc(),
         &words,
         set,
         (Status::SeriesRefused, "", "series: Header 1\n"),
@@ -247,7 +257,7 @@ fn leaves_a_front_of_a_book(rt: HostRuntime) -> Result<(), Fail> {
         set.shelf_fails = shelf_fails;
         set.out_fails = out_fails;
         let words = ["why", "BASIN", "SERIES", "1960-07", "live"];
-        expect(&rt, &words, set, (status, book, line))?;
+        expect(rt.alloc(), &words, set, (status, book, line))?;
     }
     Ok(())
 }

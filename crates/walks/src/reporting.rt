@@ -1,13 +1,11 @@
 //! Reports and trials.
-use super::lakes::LAKE;
-use super::ordinary::{ORDINARY, ORDINARY_SERIES};
-use super::returning::RETURNS;
-use super::rivers::JUNIOR_DRY;
-use super::{call_over, expect, files};
+use crate::returning::RETURNS;
+use crate::rivers::JUNIOR_DRY;
 use basin_cli::Status;
-use std::marker::Brand;
-use std::process::Abort;
-use std::sync::ledger::Blank;
+use stage::basins::LAKE;
+use stage::ordinary::{ORDINARY, ORDINARY_SERIES};
+use stage::{call, expect, files};
+use std::alloc::Global;
 use std::test::Fail;
 
 const ORDINARY_REPORT: &str = r#"report 1960-07 2
@@ -37,16 +35,16 @@ const REPORTED: [((&str, &str), &str); 3] = [
 ];
 
 /// Reports on a basin without gauges, and compares the report.
-fn expect_report<R: Abort + AllocGlobal>(rt: &R, basin: &str, report: &str) -> Result<(), Fail> {
-    let set = files(rt.alloc(), basin, "")?;
+fn expect_report(alloc: Global, basin: &str, report: &str) -> Result<(), Fail> {
+    let set = files(alloc, basin, "")?;
     let words = ["report", "BASIN", "-"];
-    expect(rt, &words, set, (Status::Done, report, ""))
+    expect(alloc, &words, set, (Status::Done, report, ""))
 }
 
 #[test]
 fn reports_on_a_run(rt: HostRuntime) -> Result<(), Fail> {
     for ((basin, _text), report) in REPORTED {
-        expect_report(&rt, basin, report)?;
+        expect_report(rt.alloc(), basin, report)?;
     }
     Ok(())
 }
@@ -55,7 +53,7 @@ fn reports_on_a_run(rt: HostRuntime) -> Result<(), Fail> {
 fn reports_on_the_ordinary_basin(rt: HostRuntime) -> Result<(), Fail> {
     let set = files(rt.alloc(), ORDINARY, ORDINARY_SERIES)?;
     let words = ["report", "BASIN", "SERIES"];
-    expect(&rt, &words, set, (Status::Done, ORDINARY_REPORT, ""))
+    expect(rt.alloc(), &words, set, (Status::Done, ORDINARY_REPORT, ""))
 }
 
 /// A spring and its outlet: nobody wants anything, and what flows in flows out.
@@ -74,7 +72,7 @@ fn sums_up_a_trial(rt: HostRuntime) -> Result<(), Fail> {
     for number in ["7", "007"] {
         let set = files(rt.alloc(), "", "")?;
         expect(
-            &rt,
+            rt.alloc(),
             &["trial", number, "2"],
             set,
             (Status::Done, LEAST_TRIAL, ""),
@@ -87,12 +85,7 @@ fn sums_up_a_trial(rt: HostRuntime) -> Result<(), Fail> {
 #[test]
 fn tries_the_greatest_size(rt: HostRuntime) -> Result<(), Fail> {
     let set = files(rt.alloc(), "", "")?;
-    let (status, out, _err) = call_over::<Brand>(
-        rt.alloc(),
-        Blank::new(1),
-        &["trial", "7", "2000"],
-        set,
-    )?;
+    let (status, out, _err) = call(rt.alloc(), &["trial", "7", "2000"], set)?;
     assert_eq!(&rt; status, Status::Done);
     assert!(&rt;
         out.bytes()

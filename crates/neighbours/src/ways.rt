@@ -6,8 +6,8 @@
 //! the canal. So a month of one right needs 40 pushes, and has a budget of 30: it is solved by searches, which begin with
 //! the run of the river, where all water goes over the river. With a second right, which wants nothing, there are 60
 //! pushes.
-use super::{expect, files};
 use basin_cli::Status;
+use stage::{expect, files};
 use std::alloc::Global;
 use std::test::Fail;
 
@@ -93,7 +93,7 @@ fn solves_by_searches_where_the_budget_gives_out(rt: HostRuntime) -> Result<(), 
     let want = result(rt.alloc(), "flow canal 0\nflow river 40\n", "")?;
     let set = files(rt.alloc(), basin.as_str(), "")?;
     expect(
-        &rt,
+        rt.alloc(),
         &["run", "BASIN"],
         set,
         (Status::Done, want.as_str(), ""),
@@ -110,7 +110,7 @@ fn solves_by_the_tree_within_the_budget(rt: HostRuntime) -> Result<(), Fail> {
     )?;
     let set = files(rt.alloc(), basin.as_str(), "")?;
     expect(
-        &rt,
+        rt.alloc(),
         &["run", "BASIN"],
         set,
         (Status::Done, want.as_str(), ""),

@@ -1,12 +1,9 @@
 //! Comparisons of two basins.
-use super::lakes::LAKE;
-use super::ordinary::{ORDINARY, ORDINARY_SERIES};
-use super::rivers::JUNIOR_SHORT;
-use super::{GAUGED, RIVER, Set, blanks, call_over, expect, files, with};
 use basin_cli::Status;
+use stage::basins::{GAUGED, JUNIOR_SHORT, LAKE, RIVER};
+use stage::ordinary::{ORDINARY, ORDINARY_SERIES};
+use stage::{Set, blanks, call, expect, files, with};
 use std::alloc::Global;
-use std::marker::Brand;
-use std::sync::ledger::Blank;
 use std::test::Fail;
 use water_edge::MemorySink;
 
@@ -29,21 +26,31 @@ fn lists_who_is_injured(rt: HostRuntime) -> Result<(), Fail> {
     let senior = with(rt.alloc(), JUNIOR_SHORT.0, "1920", "1880")?;
     let junior_added = set_of(rt.alloc(), without.as_str(), JUNIOR_SHORT.0, "")?;
     expect(
-        &rt,
+        rt.alloc(),
         &PLAIN,
         junior_added,
         (Status::Done, "compared 1 0\n", ""),
     )?;
     let made_senior = set_of(rt.alloc(), JUNIOR_SHORT.0, senior.as_str(), "")?;
     let injured = "injured 1900-01 old 60 30\ncompared 2 1\n";
-    expect(&rt, &PLAIN, made_senior, (Status::No, injured, ""))?;
+    expect(rt.alloc(), &PLAIN, made_senior, (Status::No, injured, ""))?;
     let junior_again = set_of(rt.alloc(), senior.as_str(), JUNIOR_SHORT.0, "")?;
     let injured = "injured 1900-01 new 50 20\ncompared 2 1\n";
-    expect(&rt, &PLAIN, junior_again, (Status::No, injured, ""))?;
+    expect(rt.alloc(), &PLAIN, junior_again, (Status::No, injured, ""))?;
     let same = set_of(rt.alloc(), JUNIOR_SHORT.0, JUNIOR_SHORT.0, "")?;
-    expect(&rt, &PLAIN, same, (Status::Done, "compared 2 0\n", ""))?;
+    expect(
+        rt.alloc(),
+        &PLAIN,
+        same,
+        (Status::Done, "compared 2 0\n", ""),
+    )?;
     let others = set_of(rt.alloc(), JUNIOR_SHORT.0, LAKE.0, "")?;
-    expect(&rt, &PLAIN, others, (Status::Done, "compared 0 0\n", ""))
+    expect(
+        rt.alloc(),
+        &PLAIN,
+        others,
+        (Status::Done, "compared 0 0\n", ""),
+    )
 }
 
 /// A mill of 1890 above the farm takes 2,000 from the lake's live zone in July. In August the lake opens with 3,460, of
@@ -56,7 +63,7 @@ fn lists_injuries_by_month_and_seniority(rt: HostRuntime) -> Result<(), Fail> {
     let set = set_of(rt.alloc(), ORDINARY, with_mill.as_str(), ORDINARY_SERIES)?;
     let injured =
         "injured 1960-07 live 4460 2460\ninjured 1960-08 canalco 3100 762\ninjured 1960-08 live 1562 0\ncompared 5 3\n";
-    expect(&rt, &GAUGES, set, (Status::No, injured, ""))
+    expect(rt.alloc(), &GAUGES, set, (Status::No, injured, ""))
 }
 
 /// Changes of the ordinary basin: what stands in it, and what is put in its place.
@@ -115,7 +122,7 @@ const CHANGES: [(&str, &str); 14] = [
 fn text_of_run(alloc: Global, basin: &str) -> Result<MemorySink, Fail> {
     let set = files(alloc, basin, ORDINARY_SERIES)?;
     let words = ["run", "BASIN", "SERIES"];
-    let (_, out, _) = call_over::<Brand>(alloc, Blank::new(1), &words, set)?;
+    let (_, out, _) = call(alloc, &words, set)?;
     Ok(out)
 }
 
@@ -185,7 +192,7 @@ fn lists_what_both_runs_say(rt: HostRuntime) -> Result<(), Fail> {
         let (injured, want) = comparison(rt.alloc(), first, second)?;
         let status = if injured { Status::No } else { Status::Done };
         let set = set_of(rt.alloc(), ORDINARY, changed.as_str(), ORDINARY_SERIES)?;
-        expect(&rt, &GAUGES, set, (status, want.as_str(), ""))?;
+        expect(rt.alloc(), &GAUGES, set, (status, want.as_str(), ""))?;
     }
     Ok(())
 }
@@ -196,7 +203,12 @@ fn junior_rights_injure_nobody(rt: HostRuntime) -> Result<(), Fail> {
     for (old, new) in CHANGES.iter().take(6) {
         let changed = with(rt.alloc(), ORDINARY, old, new)?;
         let set = set_of(rt.alloc(), ORDINARY, changed.as_str(), ORDINARY_SERIES)?;
-        expect(&rt, &GAUGES, set, (Status::Done, "compared 5 0\n", ""))?;
+        expect(
+            rt.alloc(),
+            &GAUGES,
+            set,
+            (Status::Done, "compared 5 0\n", ""),
+        )?;
     }
     Ok(())
 }
@@ -297,7 +309,7 @@ const REFUSED: [(&str, &str, &str, Status, &str); 11] = [
 fn says_whose_file_is_refused(rt: HostRuntime) -> Result<(), Fail> {
     for (first, second, series, status, line) in REFUSED {
         let set = set_of(rt.alloc(), first, second, series)?;
-        expect(&rt, &GAUGES, set, (status, "", line))?;
+        expect(rt.alloc(), &GAUGES, set, (status, "", line))?;
     }
     Ok(())
 }
@@ -313,7 +325,7 @@ fn refuses_another_run(rt: HostRuntime) -> Result<(), Fail> {
         let other = with(rt.alloc(), JUNIOR_SHORT.0, old, new)?;
         let set = set_of(rt.alloc(), JUNIOR_SHORT.0, other.as_str(), "")?;
         let want = (Status::BasinRefused, "", "basin2: OtherRun top 0\n");
-        expect(&rt, &PLAIN, set, want)?;
+        expect(rt.alloc(), &PLAIN, set, want)?;
     }
     Ok(())
 }
@@ -323,12 +335,17 @@ fn refuses_another_run(rt: HostRuntime) -> Result<(), Fail> {
 fn refuses_other_words(rt: HostRuntime) -> Result<(), Fail> {
     let usage = (Status::Usage, "", "usage: basin_cli COMMAND WORDS\n");
     let few = set_of(rt.alloc(), RIVER, RIVER, "")?;
-    expect(&rt, &["compare", "BASIN", "BASIN2"], few, usage)?;
+    expect(rt.alloc(), &["compare", "BASIN", "BASIN2"], few, usage)?;
     let many = set_of(rt.alloc(), RIVER, RIVER, "")?;
     let words = ["compare", "BASIN", "BASIN2", "SERIES", "SERIES"];
-    expect(&rt, &words, many, usage)?;
+    expect(rt.alloc(), &words, many, usage)?;
     let other = set_of(rt.alloc(), RIVER, RIVER, "")?;
-    expect(&rt, &["Compare", "BASIN", "BASIN2", "-"], other, usage)
+    expect(
+        rt.alloc(),
+        &["Compare", "BASIN", "BASIN2", "-"],
+        other,
+        usage,
+    )
 }
 
 /// Each file in turn can't be read, or is too long, and out fails.
@@ -341,16 +358,16 @@ fn tells_which_file_fails(rt: HostRuntime) -> Result<(), Fail> {
     ] {
         let mut set = set_of(rt.alloc(), GAUGED, GAUGED, TOP_ALONE)?;
         set.shelf_fails = call;
-        expect(&rt, &GAUGES, set, (Status::ReadFault, "", line))?;
+        expect(rt.alloc(), &GAUGES, set, (Status::ReadFault, "", line))?;
     }
     let mut long = set_of(rt.alloc(), GAUGED, "", "")?;
     long.second = blanks(rt.alloc(), 67_108_865)?;
     let too_long = (Status::InputTooLong, "", "too long: BASIN2\n");
-    expect(&rt, &GAUGES, long, too_long)?;
+    expect(rt.alloc(), &GAUGES, long, too_long)?;
     let mut unwritten = set_of(rt.alloc(), GAUGED, GAUGED, TOP_ALONE)?;
     unwritten.out_fails = 0;
     expect(
-        &rt,
+        rt.alloc(),
         &GAUGES,
         unwritten,
         (Status::WriteFault, "", "write: failed\n"),

@@ -1,4 +1,0 @@
-use Rattle.basin.proofs.tests.editing.text_of_run.Given as goal
-
-abbrev pub ghosts-call_over : goal.ghosts-call_over
-ghosts-call_over a = record { name = a.blank.name; parts = a.blank.parts }

@@ -1,0 +1,14 @@
+//! The tests of the commands beside a run, `why`, `compare`, `ensemble` and `edit`, and of a month's two ways, over the program's
+//! top call.
+#![tactic(auto)]
+
+#[cfg(test)]
+mod comparing;
+#[cfg(test)]
+mod editing;
+#[cfg(test)]
+mod explaining;
+#[cfg(test)]
+mod gathering;
+#[cfg(test)]
+mod ways;

@@ -1,0 +1,89 @@
+//! Words that are no command, and files and streams that fail.
+use basin_cli::Status;
+use stage::basins::RIVER;
+use stage::ordinary::{ORDINARY, ORDINARY_SERIES};
+use stage::{NEVER, blanks, expect, files};
+use std::test::Fail;
+
+#[test]
+fn tells_wrong_words_and_absent_files(rt: HostRuntime) -> Result<(), Fail> {
+    let usage = "usage: basin_cli COMMAND WORDS\n";
+    let table: [(&[&str], Status, &str); 16] = [
+        (&[], Status::Usage, usage),
+        (&["run"], Status::Usage, usage),
+        (&["run", "BASIN", "SERIES", "SERIES"], Status::Usage, usage),
+        (&["runs", "BASIN"], Status::Usage, usage),
+        (&["runs", "BASIN", "SERIES"], Status::Usage, usage),
+        (&["check", "BASIN", "SERIES"], Status::Usage, usage),
+        (&["report", "BASIN"], Status::Usage, usage),
+        (&["trial", "7", "2001"], Status::Usage, usage),
+        (&["trial", "7", "1"], Status::Usage, usage),
+        (&["trial", "4294967296", "2"], Status::Usage, usage),
+        (&["trial", "+7", "2"], Status::Usage, usage),
+        (
+            &["report", "BASIN", "ABSENT"],
+            Status::ReadFault,
+            "read: SERIES\n",
+        ),
+        (
+            &["check", "ABSENT", "-", "RESULT"],
+            Status::ReadFault,
+            "read: BASIN\n",
+        ),
+        (
+            &["check", "BASIN", "-", "ABSENT"],
+            Status::ReadFault,
+            "read: RESULT\n",
+        ),
+        (&["run", "ABSENT"], Status::ReadFault, "read: BASIN\n"),
+        (
+            &["run", "BASIN", "ABSENT"],
+            Status::ReadFault,
+            "read: SERIES\n",
+        ),
+    ];
+    for (words, status, err) in table {
+        let set = files(rt.alloc(), RIVER, "")?;
+        expect(rt.alloc(), words, set, (status, "", err))?;
+    }
+    Ok(())
+}
+
+#[test]
+fn tells_what_fails(rt: HostRuntime) -> Result<(), Fail> {
+    let words = ["run", "BASIN", "SERIES"];
+    let table = [
+        (0, NEVER, Status::ReadFault, "read: BASIN\n"),
+        (1, NEVER, Status::ReadFault, "read: SERIES\n"),
+        (NEVER, 0, Status::WriteFault, "write: failed\n"),
+    ];
+    for (shelf_fails, out_fails, status, line) in table {
+        let mut set = files(rt.alloc(), ORDINARY, ORDINARY_SERIES)?;
+        set.shelf_fails = shelf_fails;
+        set.out_fails = out_fails;
+        expect(rt.alloc(), &words, set, (status, "", line))?;
+    }
+    Ok(())
+}
+
+/// A file of one byte more than the limit.
+#[test]
+fn tells_a_file_that_is_too_long(rt: HostRuntime) -> Result<(), Fail> {
+    let words = ["run", "BASIN", "SERIES"];
+    let mut set = files(rt.alloc(), "", "")?;
+    set.basin = blanks(rt.alloc(), 67_108_865)?;
+    expect(
+        rt.alloc(),
+        &words,
+        set,
+        (Status::InputTooLong, "", "too long: BASIN\n"),
+    )?;
+    let mut set = files(rt.alloc(), RIVER, "")?;
+    set.series = blanks(rt.alloc(), 67_108_865)?;
+    expect(
+        rt.alloc(),
+        &words,
+        set,
+        (Status::InputTooLong, "", "too long: SERIES\n"),
+    )
+}
