@@ -1,0 +1,30 @@
+-- Marks of places by the bits of words, 64 to a word.
+use Rattle.std.specs.Prelude.{ℕ, ◌≡◌, ◌==◌, ◌+◌, ◌/◌, ◌%◌, ◌<◌, ◌≤◌, Bool, true, false, List, map, slice_index}
+use Rattle.std.specs.List.{range_with_len}
+use Rattle.std.specs.Int.{bit_at}
+
+-- how many words hold the marks of n places
+abbrev pub words_for : ℕ → ℕ
+words_for n = (n + 63) / 64
+
+-- whether a place is marked
+abbrev pub is_marked : List ℕ → ℕ → Bool
+is_marked words p = bit_at (slice_index words (p / 64)) (p % 64) == 1
+
+-- the marks of the first n places
+abbrev pub marks : ℕ → List ℕ → List Bool
+marks n words = map (is_marked words) (range_with_len 0 n)
+
+-- the least marked place from a place on, below a bound
+pub record IsNextMarked (words : List ℕ) (from places p : ℕ) : Type 0 where
+  pub after : from ≤ p
+  pub below : p < places
+  pub marked : is_marked words p ≡ true
+  pub least : (q : ℕ) → from ≤ q → q < p → is_marked words q ≡ false
+
+-- the lowest bit that is 1 of a word of 64, of those from a bit on
+pub record IsLowestFrom (word from bit : ℕ) : Type 0 where
+  pub after : from ≤ bit
+  pub below : bit < 64
+  pub one : bit_at word bit ≡ 1
+  pub least : (i : ℕ) → from ≤ i → i < bit → bit_at word i ≡ 0

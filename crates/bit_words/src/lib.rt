@@ -1,0 +1,74 @@
+//! Marks of places by the bits of words, 64 to a word. Nothing here takes memory.
+//!
+//! The mark of place p is bit p % 64 of word p / 64, counted from the lowest.
+#![tactic(auto)]
+
+ghost use Rattle.std.specs.Prelude.{◌≡◌, ◌≢◌, ℕ, ◌+◌, ◌*◌, ◌/◌, ◌<◌, ◌≤◌, true, false, length, IfSome, IfNone};
+ghost use Rattle.std.specs.Int.{bit_at};
+ghost use Rattle.bit_words.specs.Marks.{words_for, is_marked, IsNextMarked, IsLowestFrom};
+
+/// How many words hold the marks of so many places.
+pub fn words_for(places: u32) -> usize
+    ensures { result ≡ words_for places }
+{
+    (places as usize + 63) / 64
+}
+
+/// Whether a place is marked.
+pub fn is_marked(words: &[u64], place: u32) -> bool
+    requires { place / 64 < length words.now }
+    ensures { result ≡ is_marked words.now place }
+{
+    (words[place as usize / 64] >> (place % 64)) & 1 == 1
+}
+
+/// Marks a place. The marks of the other places stay.
+pub fn mark(words: &mut [u64], place: u32)
+    requires { place / 64 < length words.old }
+    ensures count { length words.new ≡ length words.old }
+    ensures on { is_marked words.new place ≡ true }
+    ensures off { (q : ℕ) → q ≢ place → is_marked words.new q ≡ is_marked words.old q }
+{
+    words[place as usize / 64] |= 1 << (place % 64);
+}
+
+/// Takes the mark of a place away. The marks of the other places stay.
+pub fn unmark(words: &mut [u64], place: u32)
+    requires { place / 64 < length words.old }
+    ensures count { length words.new ≡ length words.old }
+    ensures on { is_marked words.new place ≡ false }
+    ensures off { (q : ℕ) → q ≢ place → is_marked words.new q ≡ is_marked words.old q }
+{
+    words[place as usize / 64] &= !(1 << (place % 64));
+}
+
+/// The least marked place from `from` on and below `places`, or none where there is none. A word without marks costs
+/// one look.
+pub fn next_marked(words: &[u64], from: u32, places: u32) -> Option<u32>
+    requires { places ≤ 64 * length words.now }
+    ensures some { IfSome result (λ p. IsNextMarked words.now from places p) }
+    ensures none { IfNone result ((q : ℕ) → from ≤ q → q < places → is_marked words.now q ≡ false) }
+{
+    for at in from as usize / 64..words_for(places) {
+        let first = at as u32 * 64;
+        if let Some(bit) = lowest_bit(words[at], from.saturating_sub(first)) {
+            let place = first + bit;
+            return if place < places { Some(place) } else { None };
+        }
+    }
+    None
+}
+
+/// The lowest bit of a word that is 1, of those from `from` on, or none where all of them are 0.
+fn lowest_bit(word: u64, from: u32) -> Option<u32>
+    requires { from < 64 }
+    ensures some { IfSome result (λ bit. IsLowestFrom word from bit) }
+    ensures none { IfNone result ((i : ℕ) → from ≤ i → i < 64 → bit_at word i ≡ 0) }
+{
+    let rest = word >> from;
+    if rest == 0 {
+        None
+    } else {
+        Some(from + rest.trailing_zeros())
+    }
+}
