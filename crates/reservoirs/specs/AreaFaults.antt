@@ -1,5 +1,5 @@
 -- What is at fault in an area table.
-use Rattle.std.specs.Prelude.{◌≡◌, ℕ, ◌+◌, ◌==◌, nat_lt, nat_le, List, [], ◌∷◌, Option, Some, None, if◌then◌else◌, ⊤}
+use Rattle.std.specs.Prelude.{◌≡◌, ℕ, ◌+◌, ◌==◌, nat_lt, nat_le, List, [], ◌∷◌, Option, Some, None, if◌then◌else◌}
 use Rattle.water_model.specs.declared.types.AreaPoint.{AreaPoint}
 use Rattle.reservoirs.specs.declared.TableRefused.{TableRefused}
 use Rattle.reservoirs.specs.declared.TableRefused.TheVariants.{Empty, FirstNotZero, NotRising, AreaFalls, OutOfMemory}
@@ -16,7 +16,7 @@ abbrev pub table_fault : List AreaPoint → Option TableRefused
 table_fault [] = Some Empty
 table_fault (p ∷ points) = if p.storage == 0 then fault_behind p 1 points else Some FirstNotZero
 
--- a refusal names the first fault, or says that memory ran out
+-- a refusal names the first fault, or where there is none says that memory ran out
 abbrev pub IsTableRefusal : TableRefused → List AreaPoint → Type 0
-IsTableRefusal OutOfMemory points = ⊤
+IsTableRefusal OutOfMemory points = table_fault points ≡ None
 IsTableRefusal e points = table_fault points ≡ Some e

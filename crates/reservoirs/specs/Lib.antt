@@ -1,1 +1,2 @@
 pub mod AreaFaults
+pub mod Laws

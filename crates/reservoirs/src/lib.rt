@@ -11,6 +11,8 @@ use std::marker::Model;
 use thiserror::Error;
 use water_model::types::AreaPoint;
 
+pub mod laws;
+
 /// Why a list of points is no area table. Points are numbered from 0.
 #[derive(Clone, Copy, Debug, PartialEq, Eq, Error)]
 pub enum TableRefused {
@@ -138,7 +140,8 @@ pub fn close(fills: &[u64]) -> u64
 }
 
 impl AreaTable {
-    /// The table with these points, at most 64, or their first fault.
+    /// The table with these points, at most 64, or their first fault. The points are copied, which takes memory, behind
+    /// the look for faults: `OutOfMemory` comes only where it runs out, and only for a list without fault.
     pub fn build(alloc: Global, points: &[AreaPoint]) -> Result<AreaTable, TableRefused>
         requires { length points.now ≤ 64 }
         ensures ok { IfOk result (λ table. table ≡ points.now) }

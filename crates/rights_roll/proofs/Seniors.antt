@@ -4,10 +4,10 @@ use Rattle.std.proofs.lemmas.Bool.{cases_eq, cases_order}
 use Rattle.std.proofs.lemmas.Bool.Decides.{nat_tests}
 use Rattle.std.specs.Prelude.{◌==◌, nat_lt, ◌≢◌, if◌then◌else◌}
 use Rattle.water_model.specs.Rights.{is_lower, is_senior_in, priority_in, AreStrict}
-use Rattle.water_model.specs.Places.{places_of, put_right, sort_rights, by_seniority}
+use Rattle.water_model.specs.Places.{by_seniority}
 use Rattle.water_model.specs.declared.types.Right.{Right}
 use Rattle.water_model.proofs.Duality.{not_lower}
-use Rattle.water_model.proofs.Order.{Has, IsOrdered, length-by_seniority, length-numbers_from, seniors_have, seniors_below, seniors_ordered}
+use Rattle.water_model.proofs.Order.{Has, IsOrdered, length-by_seniority, seniors_have, seniors_below, seniors_ordered}
 use Rattle.water_model.proofs.Seniority.{senior_trans}
 use Rattle.rights_roll.specs.SeniorityOrder.{IsSeniorityOrder}
 

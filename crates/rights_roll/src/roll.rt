@@ -49,7 +49,8 @@ fn wants_of(alloc: Global, rights: &[Right]) -> Result<Vec<[u64; 12]>, AllocErro
 impl Roll {
     /// The roll of the rights, or what is at fault first: of dates, then of seniority, then of zones, then of return
     /// rows. The rows name rights of the list, and their parts are of 10,000. The cost is that of a sort, and
-    /// of a table up to the greatest link with an instream right. Want of memory may come at any point.
+    /// of a table up to the greatest link with an instream right. It takes memory: `OutOfMemory` comes only where it
+    /// runs out, and then says nothing of rights and rows.
     pub fn build(
         alloc: Global,
         rights: &[Right],

@@ -1,6 +1,7 @@
 -- The first places of texts, kept in a map.
 use Rattle.std.proofs.Common.{◌≡◌, ℕ, ◌+◌, ◌<◌, ◌≤◌, suc, List, [], ◌∷◌, ◌++◌, length, map, take, drop, get_or, slice_get, slice_index, Bool, true, false, Option, Some, None, is_some, if◌then◌else◌, refl, sym, ap, ◌∙◌, inl, inr, arith, add-zero, count_by, option_map, option_and_then, IfSome, MatchOption, zero, append_assoc}
-use Rattle.std.proofs.lemmas.List.{drop_all, append-nil}
+use Rattle.std.proofs.lemmas.List.{drop_all, append-nil, take_more, length-take}
+use Rattle.std.proofs.lemmas.Option.{slice_get-map, slice_get_read, slice_get_within, get_or_from_slice_get}
 use Rattle.std.proofs.lemmas.Bool.{cases_Bool, false≢true}
 use Rattle.std.proofs.lemmas.Slice.Eq.{bytes_eq-Decides}
 use Rattle.std.proofs.lemmas.Map.Text.{hash_map_updates_str}
@@ -8,12 +9,12 @@ use Rattle.std.specs.Borrow.{Bor}
 use Rattle.std.specs.Str.{bytes_eq}
 use Rattle.std.specs.List.{HoldsAt}
 use Rattle.std.specs.Option.{option_or, option_map_or}
-use Rattle.indexmap.specs.IndexMap.{IndexMap, get_by, UpdatesBy}
+use Rattle.indexmap.specs.IndexMap.{IndexMap, get_by, UpdatesBy, IsUnchanged}
 use Rattle.toml.specs.Data.{get_item, get, as_str}
 use Rattle.toml.specs.declared.value.Value.{Value}
 use Rattle.toml.specs.View.{view, items_view}
 use Rattle.toml_tree.specs.Texts.{earlier_like, texts_behind, is_the_text, first_from}
-use Rattle.toml_tree.specs.FirstPlaces.{kept_at, counted, earlier_from}
+use Rattle.toml_tree.specs.FirstPlaces.{kept_at, counted, earlier_from, AddsPlaces, AddsFront}
 
 pub bytes_eq-self : (xs : List ℕ) → bytes_eq xs xs ≡ true
 bytes_eq-self xs = (bytes_eq-Decides xs xs).1 refl
@@ -32,6 +33,14 @@ none_there : (r : Option ℕ) → is_some r ≡ false → r ≡ None
 none_there None h = refl
 none_there (Some n) h = cc
 
+or_none : (r : Option ℕ) → option_or r None ≡ r
+or_none None = refl
+or_none (Some n) = refl
+
+or_assoc : (r s t : Option ℕ) → option_or (option_or r s) t ≡ option_or r (option_or s t)
+or_assoc None s t = refl
+or_assoc (Some n) s t = refl
+
 -- a text that was not kept is kept from now on
 pub added : {S : Type 0} (t : Bor (List ℕ)) (old new : IndexMap (Bor (List ℕ)) ℕ S) (place : ℕ)
     → UpdatesBy (λ x y. bytes_eq x.now y.now) (λ k. bytes_eq t.now k.now) old new (Some place) → is_some (get_by (λ k. bytes_eq t.now k.now) old) ≡ false
@@ -46,14 +55,14 @@ added t old new place updates absent q =
       | inr other ↦ (let here : kept_at new q ≡ kept_at old q = rw other at there in
           rw (bytes_eq-sym q t.now) (rw other (here ∙ sym (or_none (kept_at old q)))))
     ]
-  where
-    or_none : (r : Option ℕ) → option_or r None ≡ r
-    or_none None = refl
-    or_none (Some n) = refl
 
 pub texts_view : (key : List ℕ) (vs : List Value) → texts_behind key (items_view vs) ≡ map (λ v. option_and_then as_str (get key (view v))) vs
 texts_view key [] = refl
 texts_view key (v ∷ vs) = ap (λ texts. option_and_then as_str (get key (view v)) ∷ texts) (texts_view key vs)
+
+pub texts_len : (key : List ℕ) (vs : List Value) → length (texts_behind key (items_view vs)) ≡ length vs
+texts_len key [] = refl
+texts_len key (v ∷ vs) = ap suc (texts_len key vs)
 
 pub add_assoc : (a b c : ℕ) → (a + b) + c ≡ a + (b + c)
 add_assoc a b c = omega arith
@@ -66,6 +75,58 @@ first_from-append p n (x ∷ xs) ys =
       | inl here ↦ rw here refl
       | inr other ↦ rw other (first_from-append p (n + 1) xs ys ∙ ap (λ m. option_or (first_from p (n + 1) xs) (first_from p m ys)) (omega arith))
     ]
+
+-- and among one text more
+first_more : {X : Type 0} (p : X → Bool) (n : ℕ) (xs : List X) (i : ℕ) (x : X) → slice_get xs i ≡ Some x →
+    first_from p n (take (i + 1) xs) ≡ option_or (first_from p n (take i xs)) (if p x then Some (n + i) else None)
+first_more p n xs i x at =
+    ap (first_from p n)
+    (take_more xs i x within ∙ ap (λ y. take i xs ++ y ∷ []) (get_or_from_slice_get xs i x x at))
+    ∙ (first_from-append p n (take i xs) (x ∷ [])
+    ∙ ap (λ m. option_or (first_from p n (take i xs)) (if p x then Some m else None)) place)
+  where
+    within : i < length xs
+    within = slice_get_within xs i x at
+
+    place : n + length (take i xs) ≡ n + i
+    place = omega (arith, length-take i xs, within)
+
+-- the text of a value stands at the value's place
+pub text_there : (key : List ℕ) (vs : List Value) (i : ℕ) (v : Value) (text : Option (List ℕ)) → i < length vs →
+    v ≡ get_or vs i v → text ≡ option_and_then as_str (get key (view v)) →
+    slice_get (texts_behind key (items_view vs)) i ≡ Some text
+text_there key vs i v text within at is =
+    ap (λ texts. slice_get texts i) (texts_view key vs)
+    ∙ (slice_get-map text_in vs i
+    ∙ (ap (option_map text_in) (slice_get_read vs (length vs) i v refl within at) ∙ ap Some (sym is)))
+  where
+    text_in : Value → Option (List ℕ)
+    text_in w = option_and_then as_str (get key (view w))
+
+-- nothing is added yet
+pub places_none : {S : Type 0} (old : IndexMap (Bor (List ℕ)) ℕ S) (from : ℕ) → AddsPlaces old old from []
+places_none old from q = sym (or_none (kept_at old q))
+
+module _ {S : Type 0} (old mid new : IndexMap (Bor (List ℕ)) ℕ S) (from : ℕ) (texts : List (Option (List ℕ))) (i : ℕ)
+    (before : AddsPlaces old mid from (take i texts)) where
+  -- one text more is added
+  pub places_more : (text : Option (List ℕ)) → slice_get texts i ≡ Some text →
+      ((q : List ℕ) → kept_at new q
+      ≡ option_or (kept_at mid q) (if is_the_text q text then Some (from + i) else None)) →
+      AddsPlaces old new from (take (i + 1) texts)
+  places_more text at here q =
+      let place : Option ℕ = if is_the_text q text then Some (from + i) else None in
+      here q
+      ∙ (ap (λ o. option_or o place) (before q)
+      ∙ (or_assoc (kept_at old q) (first_from (is_the_text q) from (take i texts)) place
+      ∙ ap (option_or (kept_at old q)) (sym (first_more (is_the_text q) from texts i text at))))
+
+  -- memory is lacking for one
+  pub places_front : i < length texts → IsUnchanged mid new → AddsFront old new from texts
+  places_front within same = (i, within, λ q. kept q ∙ before q)
+    where
+      kept : (q : List ℕ) → kept_at new q ≡ kept_at mid q
+      kept q = rw same refl
 
 -- after a count
 pub counted_more : {S : Type 0} (t : Bor (List ℕ)) (old new : IndexMap (Bor (List ℕ)) ℕ S) (before : ℕ)
@@ -84,10 +145,6 @@ counted_more t old new before updates was q =
 pub counts_all : {V : Type 0} (f : V → Option (List ℕ)) (seen : List (Option (List ℕ))) (earlier : List ℕ) (rows : List V) (i : ℕ) → length rows ≤ i
     → earlier ++ earlier_from seen (map f (drop i rows)) ≡ earlier_from [] (map f rows) → earlier ≡ earlier_from [] (map f rows)
 counts_all f seen earlier rows i h e = sym (append-nil earlier) ∙ (rw (drop_all i rows h) at e)
-
-pub texts_len : (key : List ℕ) (vs : List Value) → length (texts_behind key (items_view vs)) ≡ length vs
-texts_len key [] = refl
-texts_len key (v ∷ vs) = ap suc (texts_len key vs)
 
 pub get_item_view : (n : ℕ) (vs : List Value) → get_item n (items_view vs) ≡ option_map view (slice_get vs n)
 get_item_view n [] = refl

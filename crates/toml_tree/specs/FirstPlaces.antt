@@ -1,5 +1,5 @@
 -- The first places of texts, kept in a map.
-use Rattle.std.specs.Prelude.{◌≡◌, ℕ, ◌++◌, List, [], ◌∷◌, count_by, Option, unwrap_or}
+use Rattle.std.specs.Prelude.{◌≡◌, ℕ, ◌<◌, ◌++◌, List, [], ◌∷◌, length, take, count_by, Option, unwrap_or}
 use Rattle.std.specs.Borrow.{Bor}
 use Rattle.std.specs.Option.{option_map_or, option_or}
 use Rattle.std.specs.Str.{bytes_eq}
@@ -19,6 +19,12 @@ abbrev pub AddsPlaces : {S : Type 0} →
     IndexMap (Bor (List ℕ)) ℕ S → IndexMap (Bor (List ℕ)) ℕ S → ℕ → List (Option (List ℕ)) → Type 0
 AddsPlaces old new from texts =
     (q : List ℕ) → kept_at new q ≡ option_or (kept_at old q) (first_from (is_the_text q) from texts)
+
+-- of the texts only the first ones are added
+abbrev pub AddsFront : {S : Type 0} →
+    IndexMap (Bor (List ℕ)) ℕ S → IndexMap (Bor (List ℕ)) ℕ S → ℕ → List (Option (List ℕ)) → Type 0
+AddsFront old new from texts =
+    (count : ℕ) × (count < length texts) × AddsPlaces old new from (take count texts)
 
 -- how often a map counts a text
 abbrev pub counted : {S : Type 0} → IndexMap (Bor (List ℕ)) ℕ S → List ℕ → ℕ

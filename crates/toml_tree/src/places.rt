@@ -1,10 +1,11 @@
 //! The first places of texts in lists.
-ghost use Rattle.std.specs.Prelude.{◌≡◌, ◌+◌, ◌<◌, ◌^◌, [], List, ℕ, length, codes, IfOk, OnOk, Some, None, option_map, option_and_then, if◌then◌else◌};
+ghost use Rattle.std.specs.Prelude.{◌≡◌, ◌+◌, ◌<◌, ◌^◌, [], List, ℕ, length, codes, IfOk, OnOk, OnErr, MatchResult, Some, None, option_map, option_and_then, if◌then◌else◌};
 ghost use Rattle.std.specs.Option.{option_or, option_map_or};
+ghost use Rattle.indexmap.specs.IndexMap.{IsUnchanged};
 ghost use Rattle.toml.specs.Data.{as_str, get};
 ghost use Rattle.toml.specs.View.{view, items_view};
 ghost use Rattle.toml_tree.specs.Texts.{texts_behind, is_the_text};
-ghost use Rattle.toml_tree.specs.FirstPlaces.{kept_at, KeepsPlaces, AddsPlaces, earlier_from, counted};
+ghost use Rattle.toml_tree.specs.FirstPlaces.{kept_at, KeepsPlaces, AddsPlaces, AddsFront, earlier_from, counted};
 
 use indexmap::IndexMap;
 use std::alloc::{AllocError, Global};
@@ -24,9 +25,10 @@ fn add_place<'a>(
     text: Option<&'a str>,
     place: u64,
 ) -> Result<(), AllocError>
-    ensures { OnOk result ((q : List ℕ) →
+    ensures added { OnOk result ((q : List ℕ) →
         kept_at places.new q ≡ option_or (kept_at places.old q)
         (if is_the_text q (option_map (λ t. t.now) text.entry) then Some place else None)) }
+    ensures same { OnErr result (IsUnchanged places.old places.new) }
 {
     if let Some(text) = text {
         if !places.contains_key(text) {
@@ -37,6 +39,9 @@ fn add_place<'a>(
 }
 
 /// Adds the texts at a key of some values, where the first value's place is `from`. A text that has a place keeps it.
+///
+/// It takes memory. AllocError comes where memory is lacking for the text of some value: the texts of the values before
+/// it are then added, and no other.
 pub fn add_places<'a>(
     places: &mut IndexMap<&'a str, u64>,
     values: &'a [Value],
@@ -44,7 +49,9 @@ pub fn add_places<'a>(
     from: u64,
 ) -> Result<(), AllocError>
     requires { from + length values.now < 2 ^ 64 }
-    ensures { OnOk result (AddsPlaces places.old places.new from (texts_behind key.now (items_view values.now))) }
+    ensures { let texts = texts_behind key.now (items_view values.now) in
+        MatchResult result (λ _. AddsPlaces places.old places.new from texts)
+        (λ _. AddsFront places.old places.new from texts) }
 {
     for (i, value) in values.iter().enumerate() {
         add_place(places, text_of(value, key), from + i as u64)?;
@@ -52,7 +59,7 @@ pub fn add_places<'a>(
     Ok(())
 }
 
-/// The first place of each text at a key of some values, from 0.
+/// The first place of each text at a key of some values, from 0. AllocError comes where memory is lacking.
 pub fn places_of<'a>(
     alloc: Global,
     values: &'a [Value],
@@ -94,7 +101,7 @@ fn count_text<'a>(
     }
 }
 
-/// For each value, how many of the values before it have its text at a key.
+/// For each value, how many of the values before it have its text at a key. AllocError comes where memory is lacking.
 pub fn earlier_of(alloc: Global, values: &[Value], key: &str) -> Result<Vec<u64>, AllocError>
     ensures { IfOk result (λ earlier. earlier.items ≡ earlier_from [] (texts_behind key.now (items_view values.now))) }
 {

@@ -6,7 +6,7 @@ ghost use Rattle.toml_tree.specs.Document.{document_of};
 use std::alloc::{AllocError, Global};
 use toml::Table;
 
-/// The top table of a document, if the bytes are one.
+/// The top table of a document, if the bytes are one. AllocError comes where memory is lacking.
 pub fn document(alloc: Global, text: &[u8]) -> Result<Option<Table>, AllocError>
     ensures { IfOk result (λ found. option_map table_view found ≡ document_of text.now) }
 {

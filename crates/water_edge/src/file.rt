@@ -10,7 +10,7 @@ use std::marker::Model;
 use std::rt::Files;
 
 /// How many bytes one read asks for.
-const PIECE: usize = 4096;
+const PIECE: usize = 65_536;
 
 /// All that a reader has left, if that is at most `limit` bytes.
 fn read_within<F: Read>(reader: &mut F, alloc: Global, limit: u64) -> Result<Vec<u8>, ShelfRefused>
