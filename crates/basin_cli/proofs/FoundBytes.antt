@@ -2,7 +2,7 @@
 use Rattle.std.proofs.Common.{◌≡◌, ℕ, List, Option, Some, None, refl}
 use Rattle.std.specs.Prelude.{Ok, Err}
 use Rattle.std.specs.Option.{option_and_then}
-use Rattle.basin_file.specs.BasinFaults.{Spells}
+use Rattle.basin_file.specs.BasinFaults.{Spells, file_fault}
 use Rattle.cert_check.specs.Standing.{IsAnswer}
 use Rattle.cert_check.specs.Whole.{text_verdict}
 use Rattle.cert_check.specs.declared.refuted.Refuted.{Refuted}
@@ -16,7 +16,7 @@ use Rattle.basin_cli.specs.declared.ending.SeriesFinding.{SeriesFinding}
 use Rattle.basin_cli.specs.declared.found.Found.TheVariants as found
 use Rattle.basin_cli.specs.Bytes.{AreSpelled}
 use Rattle.basin_cli.specs.Ending.{finding_of}
-use Rattle.basin_cli.specs.Found.{IsFound, RunsAreAccepted, refusal}
+use Rattle.basin_cli.specs.Found.{AreFaultless, IsFound, RunsAreAccepted, refusal}
 use Rattle.basin_cli.specs.Series.{BasinEnds, SeriesEnds}
 use Rattle.basin_cli.proofs.Judged.{is_no_text, is_text}
 
@@ -31,20 +31,33 @@ some_fault : (b : Basin) (o : Option SeriesRefused) (finding : SeriesFinding) �
 some_fault b None finding e = cc
 some_fault b (Some why) finding e = (why, refl)
 
-pub series_found : (bytes s text : List ℕ) (b : Basin) (how : Ending) → Spells bytes b → SeriesEnds b s how → IsFound (refusal how) bytes s text
-series_found bytes s text b (ending.SeriesRefused finding) spelled h =
+pub series_found : (bytes s text : List ℕ) (b : Basin) (how : Ending) → file_fault bytes ≡ None → Spells bytes b →
+    SeriesEnds b s how → IsFound (refusal how) bytes s text
+series_found bytes s text b (ending.SeriesRefused finding) sound spelled h =
     let fault = some_fault b (series_fault b s) finding h in
-    record { basin = b; spelled = spelled; why = fault.0; first = fault.1 }
-series_found bytes s text b ending.OutOfMemory spelled h = tt
-series_found bytes s text b other spelled h = absurd h
+    record { basin_sound = sound; basin = b; spelled = spelled; why = fault.0; first = fault.1 }
+series_found bytes s text b ending.OutOfMemory sound spelled h = tt
+series_found bytes s text b other sound spelled h = absurd h
 
-pub accepted_found : (bytes s text : List ℕ) (b : Basin) (series : Inflows) (months : ℕ) → AreSpelled bytes s b series →
-    IsAnswer b (Ok months) (text_verdict b series text) → IsFound found.Accepted bytes s text
-accepted_found bytes s text b series months spelled h = is_text bytes s text b series spelled.valid spelled h.0
+-- what was accepted is faultless
+pub faultless : (bytes s : List ℕ) (b : Basin) (series : Inflows) → file_fault bytes ≡ None →
+    AreSpelled bytes s b series → series_fault b s ≡ None → AreFaultless bytes s
+faultless bytes s b series sound spelled series_sound = record {
+  basin_sound = sound;
+  basin = b;
+  series = series;
+  spelled = spelled;
+  series_sound = series_sound;
+}
 
-pub refuted_found : (bytes s text : List ℕ) (b : Basin) (series : Inflows) (refuted : Refuted) → AreSpelled bytes s b series →
-    IsAnswer b (Err refuted) (text_verdict b series text) → IsFound found.Refuted bytes s text
-refuted_found bytes s text b series refuted spelled h = is_no_text bytes s text b series refuted spelled.valid spelled h
+pub accepted_found : (bytes s text : List ℕ) (b : Basin) (series : Inflows) (months : ℕ) → AreFaultless bytes s →
+    AreSpelled bytes s b series → IsAnswer b (Ok months) (text_verdict b series text) → IsFound found.Accepted bytes s text
+accepted_found bytes s text b series months clean spelled h = (clean, is_text bytes s text b series spelled.valid spelled h.0)
+
+pub refuted_found : (bytes s text : List ℕ) (b : Basin) (series : Inflows) (refuted : Refuted) → AreFaultless bytes s →
+    AreSpelled bytes s b series → IsAnswer b (Err refuted) (text_verdict b series text) → IsFound found.Refuted bytes s text
+refuted_found bytes s text b series refuted clean spelled h =
+    (clean, is_no_text bytes s text b series refuted spelled.valid spelled h)
 
 pub runs_are_accepted : RunsAreAccepted
 runs_are_accepted bytes s basin records is = record {

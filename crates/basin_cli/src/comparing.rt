@@ -69,8 +69,8 @@ fn compare_month<L: Ledger>(
     ensures compared { IfOk result (AreCompared basin.now other.now first.new second.new draft.new.bytes) }
     ensures pushes { searches.new ≤ searches.old + (month_pushes basin.now + month_pushes other.now) }
 {
-    first.step(searches)?;
-    second.step(searches)?;
+    first.step(searches);
+    second.step(searches);
     let count = draft_injuries(draft, pairing, basin, first.month(), second.month())?;
     Ok(injured + count)
 }

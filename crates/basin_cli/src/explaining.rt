@@ -64,41 +64,32 @@ fn right_named(basin: &Basin, name: &[u8]) -> Option<u32>
 }
 
 /// Solves so many months of a run that had none yet.
-fn solve_months<L: Ledger>(
-    run: &mut Run,
-    count: u32,
-    searches: &mut Steps<L>,
-) -> Result<(), AllocError>
+fn solve_months<L: Ledger>(run: &mut Run, count: u32, searches: &mut Steps<L>)
     requires first { StandsFor run.old [] }
     requires within { count ≤ run.old.basin.months }
     ensures basin { run.new.basin ≡ run.old.basin }
     ensures series { run.new.series ≡ run.old.series }
-    ensures done { OnOk result (run.new.done ≡ count) }
-    ensures months { OnOk result (HasMonths run.new) }
+    ensures done { run.new.done ≡ count }
+    ensures months { HasMonths run.new }
     ensures pushes { searches.new ≤ searches.old + count * month_pushes run.old.basin }
 {
     for _month in 0..count {
-        run.step(searches)?;
+        run.step(searches);
     }
-    Ok(())
 }
 
 /// Solves the months of a run up to the one of this index, whose record `month` then gives.
-fn solve_up_to<L: Ledger>(
-    run: &mut Run,
-    index: u32,
-    searches: &mut Steps<L>,
-) -> Result<(), AllocError>
+fn solve_up_to<L: Ledger>(run: &mut Run, index: u32, searches: &mut Steps<L>)
     requires first { StandsFor run.old [] }
     requires within { index < run.old.basin.months }
     ensures basin { run.new.basin ≡ run.old.basin }
     ensures series { run.new.series ≡ run.old.series }
-    ensures done { OnOk result (run.new.done ≡ index + 1) }
-    ensures last { OnOk result (HasLast run.new) }
+    ensures done { run.new.done ≡ index + 1 }
+    ensures last { HasLast run.new }
     ensures pushes { searches.new ≤ searches.old + (index + 1) * month_pushes run.old.basin }
 {
-    solve_months(run, index, searches)?;
-    run.step(searches)
+    solve_months(run, index, searches);
+    run.step(searches);
 }
 
 /// Makes the line of a right that is met.
@@ -221,10 +212,8 @@ fn explain_in<K: Sink, L: Ledger>(
     ensures idle { IsRefusal (status_of result) → ⊥ }
     ensures pushes { searches.new ≤ searches.old + (index + 1) * month_pushes basin.now }
 {
-    match solve_up_to(run, index, searches) {
-        Ok(()) => answer(out, basin, roll, run.month(), right),
-        Err(_) => Ending::OutOfMemory,
-    }
+    solve_up_to(run, index, searches);
+    answer(out, basin, roll, run.month(), right)
 }
 
 /// Solves the months of a basin with its series up to the one of this index, and puts why a right got no more in it.

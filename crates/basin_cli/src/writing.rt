@@ -35,7 +35,7 @@ fn draft_month<L: Ledger>(
     ensures draft { OnOk result (IsDraftOf basin.now run.new draft.new.bytes) }
     ensures pushes { searches.new ≤ searches.old + month_pushes basin.now }
 {
-    run.step(searches)?;
+    run.step(searches);
     match put_month(draft, basin, roll, run.month()) {
         Ok(()) => Ok(()),
         Err(_) => Err(AllocError),

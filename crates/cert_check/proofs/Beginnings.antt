@@ -10,20 +10,19 @@ use Rattle.lag_returns.specs.Lags as lag
 use Rattle.month_terms.specs.Blank.{blank_record}
 use Rattle.month_terms.specs.Terms.{HasReturned}
 use Rattle.month_terms.proofs.BlankRecords.{blank_fits}
-use Rattle.water_model.specs.CutSets.{CutSets, set_of, with_set, has_room}
-use Rattle.water_model.specs.Lookups.{of_entry, has}
+use Rattle.water_model.specs.CutSets.{CutSets}
+use Rattle.water_model.specs.Lookups.{of_entry}
 use Rattle.water_model.specs.Places.{numbers_from}
 use Rattle.water_model.specs.Valid.{IsValidBasin}
 use Rattle.water_model.specs.declared.types.Basin.{Basin}
 use Rattle.water_model.specs.declared.types.Inflows.{Inflows}
 use Rattle.result_reader.specs.Standing as reader
 use Rattle.result_reader.specs.Telling.{nothing_told}
-use Rattle.cert_check.specs.Beginning.{HasRoom, IsBlank}
+use Rattle.cert_check.specs.Beginning.{IsBlank}
 use Rattle.cert_check.specs.Keeping.{Keeps}
 use Rattle.cert_check.specs.Standing.{IsBookOf}
 use Rattle.cert_check.specs.declared.account.Account.{Account}
 use Rattle.cert_check.specs.declared.book.Book.{Book}
-use Rattle.cert_check.proofs.Calls.{set_apart}
 
 -- One outlet more.
 
@@ -64,38 +63,14 @@ pub most_more : (t : Bool) (k last : ℕ) → last ≤ k → (if t then k else l
 most_more true k last l = omega arith
 most_more false k last l = omega arith
 
--- Room for one set more.
-
-pub free_more : (c : CutSets) (right r : ℕ) (set : Option (List Bool)) → right + 1 ≤ r → set_of c r ≡ None → set_of (with_set c right set) r ≡ None
-free_more c right r set l h = set_apart c right r set (λ e. omega arith) ∙ h
-
-pub room_here : (c : CutSets) (right r : ℕ) → right < length c.room → r < right + 1 → ((k : ℕ) → k < right → has_room c k ≡ true) → has (slice_set c.room right true) r ≡ true
-room_here c right r l m h = in_list c.room right r l m h
-  where
-    in_list : (xs : List Bool) (i r : ℕ) → i < length xs → r < i + 1 → ((k : ℕ) → k < i → has xs k ≡ true) → has (slice_set xs i true) r ≡ true
-    in_list [] i r l m h = absurd (omega arith)
-    in_list (x ∷ xs) zero zero l m h = refl
-    in_list (x ∷ xs) zero (suc r) l m h = absurd (omega arith)
-    in_list (x ∷ xs) (suc i) zero l m h = h zero (omega arith)
-    in_list (x ∷ xs) (suc i) (suc r) l m h = in_list xs i r (omega arith) (omega arith) (λ k n. h (suc k) (omega arith))
-
-pub nothing_free : (n r : ℕ) → of_entry (replicate {A = Option (List Bool)} n None) r (λ set. set) None ≡ None
-nothing_free zero r = refl
-nothing_free (suc n) zero = refl
-nothing_free (suc n) (suc r) = nothing_free n r
-
-pub emptied : (sets : List (Option (List Bool))) (n : ℕ) → length sets ≡ n → map {A = Option (List Bool)} {B = Option (List Bool)} (λ _. None) sets ≡ replicate n None
-emptied [] zero e = refl
-emptied [] (suc n) e = absurd (omega (arith, e))
-emptied (x ∷ sets) zero e = absurd (omega (arith, e))
-emptied (x ∷ sets) (suc n) e = ap (λ ys. None ∷ ys) (emptied sets n (omega (arith, e)))
-
 -- An account of nothing.
 
-pub blank_is : (b : Basin) (cuts : CutSets) (rights nodes : ℕ) → IsValidBasin b → HasRoom rights nodes cuts → rights ≡ length b.rights → nodes ≡ length b.nodes →
+pub blank_is : (b : Basin) (cuts : CutSets) (rights nodes : ℕ) → IsValidBasin b →
+    cuts ≡ record { nodes = nodes; sets = replicate rights None } → rights ≡ length b.rights → nodes ≡ length b.nodes →
     IsBlank b (blank_record b cuts)
 blank_is b cuts rights nodes valid h r n = record {
-  fits = blank_fits b cuts (ap length h.sets ∙ (length-replicate {A = Option (List Bool)} rights None ∙ r)) (h.nodes_are ∙ n);
+  fits = blank_fits b cuts (ap (λ k. length k.sets) h ∙ (length-replicate {A = Option (List Bool)} rights None ∙ r))
+      (ap (λ k. k.nodes) h ∙ n);
   calendar = valid.run.first;
   shows = record {
     index = refl;
@@ -109,10 +84,9 @@ blank_is b cuts rights nodes valid h r n = record {
     take = refl;
     out = refl;
     delivered = refl;
-    sets = h.sets ∙ ap (λ k. replicate {A = Option (List Bool)} k None) r;
+    sets = ap (λ k. k.sets) h ∙ ap (λ k. replicate {A = Option (List Bool)} k None) r;
     closing = refl;
   };
-  room = λ x l. h.room x (omega (arith, l, r));
 }
 
 pub record Empty (b : Basin) (a : Account) : Type 0 where
@@ -138,7 +112,6 @@ keeps_nothing b series a e = record {
   fits = record {
     month = e.month.fits;
     calendar = e.month.calendar;
-    room = e.month.room;
     opens = ap length e.opens ∙ length-map b.reservoirs (λ v. v.opening);
     comes = e.comes.count;
     closes = e.closes;

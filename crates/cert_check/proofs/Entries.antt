@@ -12,7 +12,7 @@ use Rattle.place_sums.specs.Sums.{total_where}
 use Rattle.lag_returns.specs.Lags.{OnTheWay}
 use Rattle.month_terms.specs.Terms.{HasReturned}
 use Rattle.water_model.specs.Basin.{taking_node}
-use Rattle.water_model.specs.CutSets.{without_sets, has_room}
+use Rattle.water_model.specs.CutSets.{without_sets}
 use Rattle.water_model.specs.History.{is_zone_of}
 use Rattle.water_model.specs.Hydrology.{returned_at}
 use Rattle.water_model.specs.Places.{seniors_first}
@@ -48,7 +48,7 @@ pub keeps_amount : (b : Basin) (series : Inflows) (a : Account) (t : Told) (q : 
 keeps_amount b series a t q x amount k = record {
   fits = fits_behind b a (with_amount q x amount a.month) (a.has_supply && not (is_supplied q)) a.has_closes a.passed
       a.answered k.fits (fits_amount b q x amount a.month k.fits.month) (rw own.month k.fits.calendar)
-      (λ r l. ap (λ cuts. has_room cuts r) own.cuts ∙ k.fits.room r l) k.fits.passed k.fits.answered;
+      k.fits.passed k.fits.answered;
   shows = shows_amount q x amount a.month t.now k.shows;
   calling = refl;
   done = k.done;
@@ -80,7 +80,6 @@ keeps_delivery b series a t x amount want none k = record {
       length-set a.month.plan.take x (if is_some (taking_node b x) then amount else 0),
     ) refl) k.fits.month;
     calendar = k.fits.calendar;
-    room = k.fits.room;
     opens = k.fits.opens;
     comes = k.fits.comes;
     closes = k.fits.closes;
@@ -167,7 +166,6 @@ keeps_month b series a t month calendar k = record {
       out = length-replicate (length a.month.plan.out) 0 ∙ k.fits.month.out;
     };
     calendar = calendar;
-    room = k.fits.room;
     opens = k.fits.opens;
     comes = k.fits.comes;
     closes = k.fits.closes;
@@ -210,7 +208,6 @@ keeps_called b series a t x caller next l more k = record {
   fits = record {
     month = k.fits.month;
     calendar = k.fits.calendar;
-    room = k.fits.room;
     opens = k.fits.opens;
     comes = k.fits.comes;
     closes = k.fits.closes;
@@ -247,7 +244,6 @@ keeps_end b series a t lags comes stands back k = record {
   fits = record {
     month = k.fits.month;
     calendar = k.fits.calendar;
-    room = k.fits.room;
     opens = k.fits.month.fits.closing;
     comes = back.count;
     closes = k.fits.closes;

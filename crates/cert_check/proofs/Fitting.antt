@@ -5,7 +5,7 @@ use Rattle.std.specs.List.{list_any}
 use Rattle.std.proofs.Math.ListN.{length-set}
 use Rattle.water_text.specs.Months.{IsMonth}
 use Rattle.month_terms.specs.Terms.{FitsRecord}
-use Rattle.water_model.specs.CutSets.{CutSets, has_room}
+use Rattle.water_model.specs.CutSets.{CutSets}
 use Rattle.water_model.specs.Entries.{count_in}
 use Rattle.water_model.specs.Quantities.{amounts_of, space_of, with_amounts}
 use Rattle.water_model.specs.Text.{calls, calling_right}
@@ -66,7 +66,7 @@ amounts_sized b m k quantity.Closing = k.fits.closing
 -- An account whose record, counts and flags change, and behind which no nodes come.
 pub fits_behind : (b : Basin) (a : Account) (m : MonthRecord) (supply closes : Bool) (passed answered : ℕ) →
     FitsAccount b a → FitsRecord b m → IsMonth m.month →
-    ((r : ℕ) → r < length b.rights → has_room m.cuts r ≡ true) → passed ≤ length b.rights → answered ≤ length b.rights →
+    passed ≤ length b.rights → answered ≤ length b.rights →
     FitsAccount b (record a {
       month = m;
       calling = None;
@@ -75,10 +75,9 @@ pub fits_behind : (b : Basin) (a : Account) (m : MonthRecord) (supply closes : B
       passed = passed;
       answered = answered;
     })
-fits_behind b a m supply closes passed answered k fits calendar room p l = record {
+fits_behind b a m supply closes passed answered k fits calendar p l = record {
   month = fits;
   calendar = calendar;
-  room = room;
   opens = k.opens;
   comes = k.comes;
   closes = k.closes;
@@ -92,7 +91,7 @@ fits_behind b a m supply closes passed answered k fits calendar room p l = recor
 -- What a record shows, as one equation.
 
 abbrev masked : MonthRecord → MonthRecord
-masked m = record m { supply = []; cuts = record { nodes = 0; sets = m.cuts.sets; room = [] } }
+masked m = record m { supply = []; cuts = record { nodes = 0; sets = m.cuts.sets } }
 
 shows_masked : (m now : MonthRecord) → Shows m now → masked m ≡ masked now
 shows_masked m now s =
@@ -129,7 +128,7 @@ masked_shows m now e = record {
   closing = ap (λ k. k.closing) e;
 }
 
--- a change that doesn't touch the supply nor the room for sets
+-- a change that doesn't touch the supply
 pub shows_along : (f : MonthRecord → MonthRecord) → ((m : MonthRecord) → masked (f m) ≡ f (masked m)) →
     (m now : MonthRecord) → Shows m now → Shows (f m) (f now)
 shows_along f h m now s = masked_shows (f m) (f now) (h m ∙ (ap f (shows_masked m now s) ∙ sym (h now)))

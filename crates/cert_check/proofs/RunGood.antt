@@ -19,7 +19,7 @@ use Rattle.water_model.specs.declared.item.TheConstants.{SECTIONS}
 use Rattle.water_model.specs.declared.types.Basin.{Basin}
 use Rattle.water_model.specs.declared.types.Inflows.{Inflows}
 use Rattle.water_model.specs.declared.types.MonthRecord.{MonthRecord}
-use Rattle.result_reader.specs.Records.{AreTextMonths, without_room}
+use Rattle.result_reader.specs.Records.{AreTextMonths}
 use Rattle.result_reader.specs.Telling.{Told, tell, nothing_told, blank_month}
 use Rattle.result_reader.proofs.AllTold.{month_of, are_all_told}
 use Rattle.result_reader.proofs.Telling.{fold-both}
@@ -34,35 +34,6 @@ use Rattle.cert_check.proofs.Rows.{AreGood, good_both}
 use Rattle.cert_check.proofs.Spread.{onto}
 use Rattle.cert_check.proofs.Sections.{title_good, run_good, month_good, last_good}
 use Rattle.cert_check.proofs.Verdicts.{verdict_good, says_yes}
-
--- a month is good by what its records before it closed with and delivered
-good_along : (b : Basin) (series : Inflows) (before others : List MonthRecord) (m : MonthRecord) → opening_after b before ≡ opening_after b others →
-    map (λ k. k.delivered) before ≡ map (λ k. k.delivered) others → IsGoodMonth b series before m → IsGoodMonth b series others m
-good_along b series before others m o d g = record {
-  opening = λ x h. rw (← o) (g.opening x h);
-  evaporated = g.evaporated;
-  returned = λ x h. rw (← d) (g.returned x h);
-  used = λ x h. rw (← d) (g.used x h);
-  flow = g.flow;
-  deliver = g.deliver;
-  balance = g.balance;
-  sets = g.sets;
-  closing = g.closing;
-}
-
-entry-map : {X Y Z : Type 0} (f : X → Y) (g : Y → Z) (d : Z) (xs : List X) (k : ℕ) → of_entry (map f xs) k g d ≡ of_entry xs k (λ x. g (f x)) d
-entry-map f g d [] k = refl
-entry-map f g d (x ∷ xs) zero = refl
-entry-map f g d (x ∷ xs) (suc k) = entry-map f g d xs k
-
-pub opening_without : (b : Basin) (before : List MonthRecord) → opening_after b before ≡ opening_after b (map without_room before)
-opening_without b before =
-    sym (ap (λ n. of_entry (map without_room before) (n - 1) (λ m. m.closing) (map (λ v. v.opening) b.reservoirs)) (length-map before without_room)
-    ∙ entry-map without_room (λ m. m.closing) (map (λ v. v.opening) b.reservoirs) before (length before - 1))
-
-pub delivered_without : (before : List MonthRecord) → map (λ k. k.delivered) before ≡ map (λ k. k.delivered) (map without_room before)
-delivered_without [] = refl
-delivered_without (m ∷ ms) = ap (λ xs. m.delivered ∷ xs) (delivered_without ms)
 
 -- behind the last line of a month no call is open
 unfoldable pub Calm : Basin → Inflows → List Item → Type 0
@@ -108,36 +79,32 @@ pub items_are : (b : Basin) (m : MonthRecord) → items_of_month b m ≡ line.Mo
 items_are b m = month_is b m (calling_right b m)
 
 months_good : (b : Basin) (series : Inflows) (records before ms : List MonthRecord) → IsValidBasin b → IsPartialHistory b series records → AreTextMonths b series records →
-    records ≡ before ++ ms → AreAllTold b series (length before) ms → (t : Told) → t.calling ≡ None → t.months ≡ map without_room before →
+    records ≡ before ++ ms → AreAllTold b series (length before) ms → (t : Told) → t.calling ≡ None → t.months ≡ before →
     AreGood b series t (flat_map (items_of_month b) ms) × ((fold (tell b series) t (flat_map (items_of_month b) ms)).calling ≡ None)
 months_good b series records before [] valid history texts is told t c months = (tt, c)
 months_good b series records before (m ∷ ms) valid history texts is told t c months =
     let f = follows_of b series records before ms m history is in
     let text = month_of b series records before ms m texts is in
-    let count : length t.months ≡ length before = ap length months ∙ length-map before without_room in
-    let at : At b (map without_room before) (begun b m) (tell b series t (line.Month m.month)) = record {
+    let count : length t.months ≡ length before = ap length months in
+    let at : At b before (begun b m) (tell b series t (line.Month m.month)) = record {
       calling = refl;
       months = months;
       now_is = ap (λ n. blank_month b n m.month) (count ∙ sym f.index);
       called = refl;
     } in
-    let good = good_along b series before (map without_room before) m (opening_without b before) (delivered_without before) (follows_good b series before m f text) in
-    let inner = inner_good b series (map without_room before) m valid.roll.strict told.1 good (tell b series t (line.Month m.month)) at in
+    let good = follows_good b series before m f text in
+    let inner = inner_good b series before m valid.roll.strict told.1 good (tell b series t (line.Month m.month)) at in
     let here : AreGood b series t (items_of_month b m) = subst (λ (xs : List Item). AreGood b series t xs) (sym (items_are b m)) (month_good b series t m.month c, inner) in
     let behind : Told = fold (tell b series) t (items_of_month b m) in
     let still : behind.calling ≡ None = ap (λ xs. (fold (tell b series) t xs).calling) (items_are b m)
     ∙ calm b series (inner_lines b m (callers_due b m)) (tell b series t (line.Month m.month)) (inner_calm b series m (callers_due b m)) in
-    let later : behind.months ≡ map without_room (before ++ m ∷ []) =
-    month_told b series m (calling_right b m) t (f.index ∙ sym count) told.1 ∙ (ap (λ xs. xs ++ without_room m ∷ []) months ∙ map_more before m) in
+    let later : behind.months ≡ before ++ m ∷ [] =
+    month_told b series m (calling_right b m) t (f.index ∙ sym count) told.1 ∙ ap (λ xs. xs ++ m ∷ []) months in
     let rest = months_good b series records (before ++ m ∷ []) ms valid history texts (is ∙ sym (append_assoc before (m ∷ []) ms))
     (subst (λ (i : ℕ). AreAllTold b series i ms) (sym (length-append before (m ∷ []))) told.2) behind still later in (
       good_both b series t (items_of_month b m) (flat_map (items_of_month b) ms) here rest.0,
       ap (λ u. u.calling) (fold-both (tell b series) t (items_of_month b m) (flat_map (items_of_month b) ms)) ∙ rest.1,
     )
-  where
-    map_more : (xs : List MonthRecord) (m : MonthRecord) → map without_room xs ++ without_room m ∷ [] ≡ map without_room (xs ++ m ∷ [])
-    map_more [] m = refl
-    map_more (x ∷ xs) m = ap (λ ys. without_room x ∷ ys) (map_more xs m)
 
 run_items_good : (b : Basin) (series : Inflows) (records : List MonthRecord) → IsValidBasin b → IsPartialHistory b series records → AreTextMonths b series records →
     AreGood b series (nothing_told b) (items_of b records)

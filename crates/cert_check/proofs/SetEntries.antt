@@ -4,7 +4,7 @@ use Rattle.std.specs.Prelude.{Option, Some, None, IsSome, ◌&&◌, ◌||◌, is
 use Rattle.std.specs.List.{list_any}
 use Rattle.std.proofs.lemmas.Bool.{cases_eq}
 use Rattle.std.proofs.Math.ListN.{length-set}
-use Rattle.water_model.specs.CutSets.{CutSets, set_of, with_set, with_room, has_room}
+use Rattle.water_model.specs.CutSets.{CutSets, set_of, with_set}
 use Rattle.water_model.specs.History.{cut_of}
 use Rattle.water_model.specs.Lookups.{has}
 use Rattle.water_model.specs.Places.{seniors_first}
@@ -49,16 +49,6 @@ settled_with b m r set l (x ∷ xs) h =
       | inr other ↦ rw (set_apart m.cuts r x (Some set) other) e
     ]
 
-room_more : (c : CutSets) (r k : ℕ) → has_room c k ≡ true → has (slice_set c.room r true) k ≡ true
-room_more c r k h = in_list c.room r k h
-  where
-    in_list : (xs : List Bool) (r k : ℕ) → has xs k ≡ true → has (slice_set xs r true) k ≡ true
-    in_list [] r k e = e
-    in_list (x ∷ xs) zero zero e = refl
-    in_list (x ∷ xs) zero (suc k) e = e
-    in_list (x ∷ xs) (suc r) zero e = e
-    in_list (x ∷ xs) (suc r) (suc k) e = in_list xs r k e
-
 some_is : {X : Type 0} (o : Option X) (x : X) → o ≡ Some x → IsSome o
 some_is o x e = rw e refl
 
@@ -67,7 +57,7 @@ pub keeps_call : (b : Basin) (series : Inflows) (a : Account) (t : Told) (x : �
     t.called ≡ 0 → Keeps b series a t →
     Keeps b series (record a {
       month =
-          record a.month { cuts = with_room (with_set a.month.cuts x (Some (replicate a.month.cuts.nodes false))) x };
+          record a.month { cuts = with_set a.month.cuts x (Some (replicate a.month.cuts.nodes false)) };
       calling = Some x;
       answered = 0;
     }) (tell b series t (line.Call x))
@@ -76,7 +66,6 @@ keeps_call b series a t x l none k = record {
     month = fits_same b a.month _ (rw (length-set a.month.cuts.sets x (Some (replicate a.month.cuts.nodes false))) refl)
         k.fits.month;
     calendar = k.fits.calendar;
-    room = λ r h. room_more a.month.cuts x r (k.fits.room r h);
     opens = k.fits.opens;
     comes = k.fits.comes;
     closes = k.fits.closes;
@@ -130,7 +119,6 @@ keeps_stray b series a t node none stray k = by_call t.calling (sym k.calling �
       fits = record {
         month = k.fits.month;
         calendar = k.fits.calendar;
-        room = k.fits.room;
         opens = k.fits.opens;
         comes = k.fits.comes;
         closes = k.fits.closes;
@@ -167,7 +155,6 @@ keeps_own b series a t node r set none within is k = record {
     month = fits_same b a.month _
         (rw (length-set a.month.cuts.sets r (Some (slice_set set node true))) refl) k.fits.month;
     calendar = k.fits.calendar;
-    room = k.fits.room;
     opens = k.fits.opens;
     comes = k.fits.comes;
     closes = k.fits.closes;

@@ -108,7 +108,7 @@ record_of b series i s = supplied b series (record {
     out = listed b s quantity.Outflow;
   };
   delivered = set_all (seniors_first b) s.delivered (zeros (length b.rights));
-  cuts = record { nodes = length b.nodes; sets = put_sets (seniors_first b) s.cut (replicate (length b.rights) None); room = [] };
+  cuts = record { nodes = length b.nodes; sets = put_sets (seniors_first b) s.cut (replicate (length b.rights) None) };
   closing = listed b s quantity.Closing;
 })
 

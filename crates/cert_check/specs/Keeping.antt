@@ -3,7 +3,7 @@ use Rattle.std.specs.Prelude.{◌≡◌, ℕ, ◌<◌, ◌≤◌, Bool, true, fa
 use Rattle.std.specs.List.{list_any, flat_map}
 use Rattle.place_sums.specs.Sums.{total_where}
 use Rattle.water_text.specs.Months.{IsMonth}
-use Rattle.water_model.specs.CutSets.{set_of, has_room}
+use Rattle.water_model.specs.CutSets.{set_of}
 use Rattle.water_model.specs.History.{cut_of, opening_after, is_zone_of}
 use Rattle.water_model.specs.Hydrology.{returned_at}
 use Rattle.water_model.specs.Places.{seniors_first}
@@ -20,12 +20,11 @@ use Rattle.cert_check.specs.Checking.{is_short, caller_due}
 use Rattle.cert_check.specs.Shows.{Shows}
 use Rattle.cert_check.specs.declared.account.Account.{Account}
 
--- an account's lists have a number for each reservoir or node, and its record fits the basin. Each right has room for a
--- set, and the right whose nodes come has one
+-- an account's lists have a number for each reservoir or node, and its record fits the basin. The right whose nodes come
+-- has a set
 pub record FitsAccount (b : Basin) (a : Account) : Type 0 where
   pub month : FitsRecord b a.month
   pub calendar : IsMonth a.month.month
-  pub room : (r : ℕ) → r < length b.rights → has_room a.month.cuts r ≡ true
   pub opens : length a.opens ≡ length b.reservoirs
   pub comes : length a.comes ≡ length b.nodes
   pub closes : length a.closes ≡ length b.reservoirs

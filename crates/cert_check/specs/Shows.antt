@@ -2,7 +2,7 @@
 use Rattle.std.specs.Prelude.{◌≡◌}
 use Rattle.water_model.specs.declared.types.MonthRecord.{MonthRecord}
 
--- the record has what is told, but for its supply, of which lines tell nothing, and the room for sets
+-- the record has what is told, but for its supply, of which lines tell nothing
 pub record Shows (m now : MonthRecord) : Type 0 where
   pub index : m.index ≡ now.index
   pub month : m.month ≡ now.month

@@ -4,7 +4,7 @@ ghost use Rattle.lag_returns.specs.Lags.{return_rows};
 ghost use Rattle.lag_returns.specs.Lags as lag;
 ghost use Rattle.month_terms.specs.Terms.{HasReturned};
 ghost use Rattle.water_model.specs.Basin.{taking_node};
-ghost use Rattle.water_model.specs.CutSets.{set_of, with_set, with_room, without_sets, has_room};
+ghost use Rattle.water_model.specs.CutSets.{set_of, with_set, without_sets};
 ghost use Rattle.water_model.specs.Quantities.{amounts_of, with_amounts};
 ghost use Rattle.water_model.specs.Valid.{IsValidBasin};
 ghost use Rattle.water_model.specs.OfBasin.{IsOfBasin};
@@ -36,7 +36,7 @@ fn clear(list: &mut Rows<u64>)
     list.as_mut_slice().fill(0);
 }
 
-/// Makes a record one of which nothing is told but its index and month. Its supply stays, and its sets have room.
+/// Makes a record one of which nothing is told but its index and month. Its supply stays.
 fn blank(month: &mut MonthRecord, index: u32, calendar: Month)
     ensures { month.new ≡ record month.old {
       index = index;
@@ -157,21 +157,19 @@ pub fn enter_delivery(basin: &Basin, account: &mut Account, right: u32, amount: 
     account.answered = 0;
 }
 
-/// Enters a `call` line. The right has room for a set and has none yet.
+/// Enters a `call` line. The right has no set yet.
 pub fn enter_call(account: &mut Account, right: u32)
     requires right { right < length account.old.month.cuts.sets }
     requires free { set_of account.old.month.cuts right ≡ None }
-    requires room { has_room account.old.month.cuts right ≡ true }
     ensures { account.new ≡ record account.old {
-      month = record account.old.month { cuts = with_room (with_set account.old.month.cuts right (Some (replicate account.old.month.cuts.nodes false))) right };
+      month = record account.old.month {
+        cuts = with_set account.old.month.cuts right (Some (replicate account.old.month.cuts.nodes false));
+      };
       calling = Some right;
       answered = 0;
     } }
 {
-    match account.month.cuts.begin(right) {
-        Ok(()) => {}
-        Err(_) => unreachable!(),
-    }
+    account.month.cuts.begin(right);
     account.calling = Some(right);
     account.answered = 0;
 }

@@ -8,7 +8,7 @@ ghost use Rattle.water_model.specs.Basin.{is_outlet};
 ghost use Rattle.water_model.specs.Places.{outlets};
 ghost use Rattle.water_model.specs.Valid.{IsValidBasin};
 ghost use Rattle.water_model.specs.declared.types.Inflows.{Inflows};
-ghost use Rattle.cert_check.specs.Beginning.{HasRoom, IsBlank};
+ghost use Rattle.cert_check.specs.Beginning.{IsBlank};
 ghost use Rattle.cert_check.specs.Keeping.{Keeps};
 
 use crate::account::Account;
@@ -20,24 +20,12 @@ use water_model::cut_list::CutList;
 use water_model::rows::Rows;
 use water_model::types::{Basin, MonthRecord};
 
-/// No sets, with room for one of each right.
-fn room_for_sets(alloc: Global, rights: u32, nodes: u32) -> Result<CutList, AllocError>
-    ensures { IfOk result (HasRoom rights nodes) }
-{
-    let mut cuts = CutList::open(alloc, rights, nodes)?;
-    for right in 0..rights {
-        cuts.begin(right)?;
-    }
-    cuts.clear();
-    Ok(cuts)
-}
-
 /// A record with room for a month, of which nothing is told.
 fn blank_month(alloc: Global, basin: &Basin) -> Result<Box<MonthRecord>, AllocError>
     requires basin { IsValidBasin basin.now }
     ensures { IfOk result (λ month. IsBlank basin.now month.value) }
 {
-    let cuts = room_for_sets(alloc, basin.rights.len() as u32, basin.nodes.len() as u32)?;
+    let cuts = CutList::open(alloc, basin.rights.len() as u32, basin.nodes.len() as u32)?;
     let month = blank_record(alloc, basin, cuts)?;
     Ok(month)
 }

@@ -102,7 +102,6 @@ july = record {
   cuts = record {
     nodes = 6;
     sets = Some by_farm ∷ Some above_sea ∷ None ∷ None ∷ Some above_sea ∷ [];
-    room = replicate 5 true;
   };
   closing = 5460 ∷ [];
 }

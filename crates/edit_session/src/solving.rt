@@ -29,7 +29,7 @@ fn add_month<L: Ledger>(
     ensures same { OnErr result (kept.new.items ≡ kept.old.items) }
     ensures pushes { searches.new ≤ searches.old + month_pushes run.old.basin }
 {
-    run.step(searches)?;
+    run.step(searches);
     kept.push(run.month().copy(alloc)?)?;
     Ok(())
 }

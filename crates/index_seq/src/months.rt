@@ -23,7 +23,7 @@ struct Position {
     months: u32,
 }
 
-/// Solves the next month of a trace and adds it to the year. AllocError comes where memory is lacking.
+/// Solves the next month of a trace and adds it to the year.
 fn run_month<L: Ledger>(
     basin: &Basin,
     series: &Inflows,
@@ -32,20 +32,19 @@ fn run_month<L: Ledger>(
     sums: &[Rows<u64>],
     year: &mut [u64],
     searches: &mut Steps<L>,
-) -> Result<(), AllocError>
+)
     requires basin { IsValidBasin basin.now }
     requires left { run.old.done < basin.now.months }
     requires under_way { IsUnderWay basin.now series.now at.trace at.years at.months run.old sums.now year.old }
-    ensures done { OnOk result (run.new.done ≡ run.old.done + 1) }
-    ensures under_way { OnOk result (IsUnderWay basin.now series.now at.trace at.years (at.months + 1) run.new sums.now year.new) }
+    ensures done { run.new.done ≡ run.old.done + 1 }
+    ensures under_way { IsUnderWay basin.now series.now at.trace at.years (at.months + 1) run.new sums.now year.new }
     ensures pushes { searches.new ≤ searches.old + month_pushes basin.now }
 {
-    run.step(searches)?;
+    run.step(searches);
     add_month(year, run.month());
-    Ok(())
 }
 
-/// Solves the months of the next year of a trace and sums them up. AllocError comes where memory is lacking.
+/// Solves the months of the next year of a trace and sums them up.
 fn run_year<L: Ledger>(
     basin: &Basin,
     series: &Inflows,
@@ -55,12 +54,12 @@ fn run_year<L: Ledger>(
     sums: &[Rows<u64>],
     year: &mut [u64],
     searches: &mut Steps<L>,
-) -> Result<(), AllocError>
+)
     requires basin { IsValidBasin basin.now }
     requires left { run.old.done + 12 ≤ basin.now.months }
     requires under_way { IsUnderWay basin.now series.now trace years 0 run.old sums.now year.old }
-    ensures done { OnOk result (run.new.done ≡ run.old.done + 12) }
-    ensures under_way { OnOk result (IsUnderWay basin.now series.now trace years 12 run.new sums.now year.new) }
+    ensures done { run.new.done ≡ run.old.done + 12 }
+    ensures under_way { IsUnderWay basin.now series.now trace years 12 run.new sums.now year.new }
     ensures pushes { searches.new ≤ searches.old + 12 * month_pushes basin.now }
 {
     for months in 0..12u32 {
@@ -69,9 +68,8 @@ fn run_year<L: Ledger>(
             years,
             months,
         };
-        run_month(basin, series, at, run, sums, year, searches)?;
+        run_month(basin, series, at, run, sums, year, searches);
     }
-    Ok(())
 }
 
 /// Solves the next year of a trace and adds it to the sums. AllocError comes where memory is lacking.
@@ -93,7 +91,7 @@ fn next_year<L: Ledger>(
     ensures zeros { OnOk result ((r : ℕ) → r < length basin.now.rights → slice_index year.new r ≡ 0) }
     ensures pushes { searches.new ≤ searches.old + 12 * month_pushes basin.now }
 {
-    run_year(basin, series, trace, years, run, sums, year, searches)?;
+    run_year(basin, series, trace, years, run, sums, year, searches);
     end_year(sums, year)?;
     Ok(())
 }

@@ -61,7 +61,7 @@ delivers amounts = record {
   want = [];
   plan = record { flow = []; take = []; out = [] };
   delivered = amounts;
-  cuts = record { nodes = 3; sets = []; room = [] };
+  cuts = record { nodes = 3; sets = [] };
   closing = [];
 }
 

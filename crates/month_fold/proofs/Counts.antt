@@ -2,7 +2,7 @@
 use Rattle.std.proofs.Common.{◌≡◌, ℕ, ◌∙◌, ap, List, length, map, replicate, ◌∷◌, [], refl, arith}
 use Rattle.std.proofs.lemmas.List.{length-replicate}
 use Rattle.water_model.specs.CutSets.{CutSets}
-use Rattle.std.specs.Prelude.{None, false}
+use Rattle.std.specs.Prelude.{None}
 
 pub mapped_count : {X : Type 0} (f : X → ℕ) (xs : List ℕ) (ys : List X) → xs ≡ map f ys → length xs ≡ length ys
 mapped_count f xs ys e = ap length e ∙ whole f ys
@@ -11,10 +11,10 @@ mapped_count f xs ys e = ap length e ∙ whole f ys
     whole f [] = refl
     whole f (y ∷ ys) = omega (arith, whole f ys)
 
-pub no_sets_count : (cuts : CutSets) (rights nodes m : ℕ) → cuts ≡ record { nodes = nodes; sets = replicate rights None; room = replicate rights false } →
+pub no_sets_count : (cuts : CutSets) (rights nodes m : ℕ) → cuts ≡ record { nodes = nodes; sets = replicate rights None } →
     rights ≡ m → length cuts.sets ≡ m
 no_sets_count cuts rights nodes m e h = ap (λ c. length c.sets) e ∙ (length-replicate rights None ∙ h)
 
-pub no_sets_nodes : (cuts : CutSets) (rights nodes m : ℕ) → cuts ≡ record { nodes = nodes; sets = replicate rights None; room = replicate rights false } →
+pub no_sets_nodes : (cuts : CutSets) (rights nodes m : ℕ) → cuts ≡ record { nodes = nodes; sets = replicate rights None } →
     nodes ≡ m → cuts.nodes ≡ m
 no_sets_nodes cuts rights nodes m e h = ap (λ c. c.nodes) e ∙ h

@@ -1,10 +1,9 @@
 //! One month more.
-ghost use Rattle.std.specs.Prelude.{ℕ, List, ◌≡◌, ◌+◌, ◌*◌, ◌^◌, ◌<◌, ◌≤◌, All, length, map, replicate, OnOk, OnErr};
+ghost use Rattle.std.specs.Prelude.{ℕ, List, ◌≡◌, ◌+◌, ◌*◌, ◌^◌, ◌<◌, ◌≤◌, All, length, map, replicate};
 ghost use Rattle.lag_returns.specs.Lags.{OnTheWay, return_rows};
 ghost use Rattle.lag_returns.specs.Lags as lag;
 ghost use Rattle.month_terms.specs.Terms.{FitsRecord, HasReturned};
 ghost use Rattle.senior_hold.specs.MonthNetwork.{month_pushes};
-ghost use Rattle.senior_hold.specs.Solved.{LacksRoom};
 ghost use Rattle.water_model.specs.Valid.{IsValidBasin, IsSeriesOf};
 ghost use Rattle.water_model.specs.declared.types.MonthRecord.{MonthRecord};
 ghost use Rattle.month_fold.specs.Runs.{RunSeen, StandsFor, HasMonths, IsNext};
@@ -13,7 +12,6 @@ use lag_returns::Lags;
 use month_terms::month::{conclude, settle};
 use reservoirs::AreaTable;
 use senior_hold::Solver;
-use std::alloc::AllocError;
 use std::sync::ledger::Ledger;
 use steps::Steps;
 use water_model::types::{Basin, Inflows, MonthRecord};
@@ -43,10 +41,7 @@ fn bring_back(basin: &Basin, lags: &Lags, month: &mut MonthRecord)
 }
 
 /// Solves the month with this index in a record that has the closing storage of the month before. `tables` has the area
-/// table of each reservoir. Each search that finds a walk ticks `searches` once.
-///
-/// AllocError comes only where memory is lacking for the set of a right that had no room for one yet. The record then
-/// still has that closing storage, and says nothing else.
+/// table of each reservoir. Each search that finds a walk ticks `searches` once. It takes no memory.
 pub fn next_month<L: Ledger>(
     basin: &Basin,
     series: &Inflows,
@@ -56,7 +51,7 @@ pub fn next_month<L: Ledger>(
     index: u32,
     month: &mut MonthRecord,
     searches: &mut Steps<L>,
-) -> Result<(), AllocError>
+)
     requires basin { IsValidBasin basin.now }
     requires series { IsSeriesOf basin.now series.now }
     requires tables { tables.now ≡ map (λ v. v.area) basin.now.reservoirs }
@@ -68,12 +63,10 @@ pub fn next_month<L: Ledger>(
     ensures solver { solver.new ≡ solver.old }
     ensures fits { FitsRecord basin.now month.new }
     ensures used { month.new.used ≡ month.old.used }
-    ensures stored { OnErr result (month.new.closing ≡ month.old.closing) }
-    ensures room { OnErr result (LacksRoom basin.now month.old.cuts) }
-    ensures small { OnOk result (All (λ n. n ≤ 10 ^ 9) month.new.delivered) }
-    ensures next { OnOk result ((records : List MonthRecord) →
+    ensures small { All (λ n. n ≤ 10 ^ 9) month.new.delivered }
+    ensures next { (records : List MonthRecord) →
         StandsFor (record { basin = basin.now; series = series.now; done = index; last = month.old; lags = lags.now }) records →
-        IsNext basin.now series.now records month.new) }
+        IsNext basin.now series.now records month.new }
     ensures pushes { searches.new ≤ searches.old + month_pushes basin.now }
 {
     bring_back(basin, lags, month);
@@ -86,7 +79,6 @@ pub fn next_month<L: Ledger>(
         &mut month.plan,
         &mut month.cuts,
         searches,
-    )?;
+    );
     conclude(basin, month);
-    Ok(())
 }

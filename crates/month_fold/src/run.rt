@@ -1,7 +1,6 @@
 //! A run of a basin, month by month.
-ghost use Rattle.std.specs.Prelude.{ℕ, List, ◌≡◌, ◌+◌, ◌-◌, ◌*◌, ◌<◌, ◌≤◌, ◌++◌, ◌∷◌, [], length, map, IfOk, OnOk, OnErr};
+ghost use Rattle.std.specs.Prelude.{ℕ, List, ◌≡◌, ◌+◌, ◌-◌, ◌*◌, ◌<◌, ◌≤◌, ◌++◌, ◌∷◌, [], length, map, IfOk};
 ghost use Rattle.senior_hold.specs.MonthNetwork.{month_pushes};
-ghost use Rattle.senior_hold.specs.Solved.{LacksRoom};
 ghost use Rattle.water_model.specs.Valid.{IsValidBasin, IsSeriesOf};
 ghost use Rattle.water_model.specs.declared.types.MonthRecord.{MonthRecord};
 ghost use Rattle.water_model.specs.History.{IsPartialHistory};
@@ -116,17 +115,14 @@ impl<'b> Run<'b> {
     }
 
     /// Solves the next month, whose record `month` then gives: it follows the records before it, and the set of each
-    /// short right is its reach. Each search that finds a walk ticks `searches` once.
-    ///
-    /// AllocError comes only where memory is lacking for the set of a right that had no room for one yet. The run then
-    /// stands for what it stood for, and can go on.
-    pub fn step<L: Ledger>(&mut self, searches: &mut Steps<L>) -> Result<(), AllocError>
+    /// short right is its reach. Each search that finds a walk ticks `searches` once. It refuses nothing and takes no
+    /// memory: once a run is open, each of its months has its record.
+    pub fn step<L: Ledger>(&mut self, searches: &mut Steps<L>)
         requires left { self.old.done < self.old.basin.months }
         ensures basin { self.new.basin ≡ self.old.basin }
         ensures series { self.new.series ≡ self.old.series }
-        ensures month { OnOk result ((records : List MonthRecord) → StandsFor self.old records → StandsFor self.new (records ++ self.new.last ∷ [])) }
-        ensures stays { OnErr result ((records : List MonthRecord) → StandsFor self.old records → StandsFor self.new records) }
-        ensures room { OnErr result (LacksRoom self.old.basin self.old.last.cuts) }
+        ensures month { (records : List MonthRecord) → StandsFor self.old records →
+            StandsFor self.new (records ++ self.new.last ∷ []) }
         ensures pushes { searches.new ≤ searches.old + month_pushes self.old.basin }
     {
         next_month(
@@ -138,9 +134,8 @@ impl<'b> Run<'b> {
             self.done,
             &mut *self.month,
             searches,
-        )?;
+        );
         self.lags.month_done(self.month.delivered.as_slice());
         self.done += 1;
-        Ok(())
     }
 }

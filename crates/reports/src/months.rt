@@ -1,5 +1,5 @@
 //! All months of a run, one after the other.
-ghost use Rattle.std.specs.Prelude.{ℕ, [], ◌≡◌, ◌+◌, ◌-◌, ◌*◌, ◌<◌, ◌≤◌, length, IfOk, OnOk};
+ghost use Rattle.std.specs.Prelude.{ℕ, [], ◌≡◌, ◌+◌, ◌-◌, ◌*◌, ◌<◌, ◌≤◌, length, IfOk, OnErr};
 ghost use Rattle.rights_roll.specs.Rolls.{IsRollOf};
 ghost use Rattle.senior_hold.specs.MonthNetwork.{arc_count, month_pushes};
 ghost use Rattle.water_model.specs.Valid.{IsValidBasin, IsSeriesOf};
@@ -22,18 +22,17 @@ fn tally_month<L: Ledger>(
     series: &Inflows,
     run: &mut Run,
     searches: &mut Steps<L>,
-) -> Result<(), AllocError>
+)
     requires basin { IsValidBasin basin.now }
     requires series { IsSeriesOf basin.now series.now }
     requires left { run.old.done < basin.now.months }
     requires tally { IsTallyOf basin.now series.now run.old tally.old }
-    ensures done { OnOk result (run.new.done ≡ run.old.done + 1) }
-    ensures tally { OnOk result (IsTallyOf basin.now series.now run.new tally.new) }
+    ensures done { run.new.done ≡ run.old.done + 1 }
+    ensures tally { IsTallyOf basin.now series.now run.new tally.new }
     ensures pushes { searches.new ≤ searches.old + month_pushes basin.now }
 {
-    run.step(searches)?;
+    run.step(searches);
     tally.add(basin, series, run.month());
-    Ok(())
 }
 
 /// Solves all months and adds them to a tally.
@@ -43,18 +42,17 @@ fn tally_months<L: Ledger>(
     series: &Inflows,
     run: &mut Run,
     searches: &mut Steps<L>,
-) -> Result<(), AllocError>
+)
     requires basin { IsValidBasin basin.now }
     requires series { IsSeriesOf basin.now series.now }
     requires first { run.old.done ≡ 0 }
     requires tally { IsTallyOf basin.now series.now run.old tally.old }
-    ensures tally { OnOk result (IsTallyOfRun basin.now series.now tally.new) }
+    ensures tally { IsTallyOfRun basin.now series.now tally.new }
     ensures pushes { searches.new ≤ searches.old + run_pushes basin.now }
 {
     for _month in 0..basin.months {
-        tally_month(tally, basin, series, run, searches)?;
+        tally_month(tally, basin, series, run, searches);
     }
-    Ok(())
 }
 
 /// The tally of all months of a run that had none yet.
@@ -71,14 +69,16 @@ fn tally_of<L: Ledger>(
     requires fits { run.old.series ≡ series.now }
     requires first { StandsFor run.old [] }
     ensures tally { IfOk result (IsTallyOfRun basin.now series.now) }
+    ensures unsolved { OnErr result (searches.new ≡ searches.old) }
     ensures pushes { searches.new ≤ searches.old + run_pushes basin.now }
 {
     let mut tally = Tally::open(alloc, basin)?;
-    tally_months(&mut tally, basin, series, run, searches)?;
+    tally_months(&mut tally, basin, series, run, searches);
     Ok(tally)
 }
 
-/// The tally of all months of a run of a basin with a series. AllocError comes where memory is lacking.
+/// The tally of all months of a run of a basin with a series. AllocError comes where memory is lacking, before a month is
+/// solved.
 pub fn tally_run<L: Ledger>(
     alloc: Global,
     basin: &Basin,
@@ -88,6 +88,7 @@ pub fn tally_run<L: Ledger>(
     requires basin { IsValidBasin basin.now }
     requires series { IsSeriesOf basin.now series.now }
     ensures tally { IfOk result (IsTallyOfRun basin.now series.now) }
+    ensures unsolved { OnErr result (searches.new ≡ searches.old) }
     ensures pushes { searches.new ≤ searches.old + run_pushes basin.now }
 {
     let mut run = Run::open(alloc, basin, series)?;
@@ -102,19 +103,18 @@ fn try_month<L: Ledger>(
     roll: &Roll,
     run: &mut Run,
     searches: &mut Steps<L>,
-) -> Result<(), AllocError>
+)
     requires basin { IsValidBasin basin.now }
     requires series { IsSeriesOf basin.now series.now }
     requires roll { IsRollOf basin.now.rights roll.now }
     requires left { run.old.done < basin.now.months }
     requires trial { IsTrialOf basin.now series.now run.old trial.old }
-    ensures done { OnOk result (run.new.done ≡ run.old.done + 1) }
-    ensures trial { OnOk result (IsTrialOf basin.now series.now run.new trial.new) }
+    ensures done { run.new.done ≡ run.old.done + 1 }
+    ensures trial { IsTrialOf basin.now series.now run.new trial.new }
     ensures pushes { searches.new ≤ searches.old + month_pushes basin.now }
 {
-    run.step(searches)?;
+    run.step(searches);
     trial.add(basin, series, roll, run.month());
-    Ok(())
 }
 
 /// Solves all months and adds them to a trial.
@@ -125,19 +125,18 @@ fn try_months<L: Ledger>(
     roll: &Roll,
     run: &mut Run,
     searches: &mut Steps<L>,
-) -> Result<(), AllocError>
+)
     requires basin { IsValidBasin basin.now }
     requires series { IsSeriesOf basin.now series.now }
     requires roll { IsRollOf basin.now.rights roll.now }
     requires first { run.old.done ≡ 0 }
     requires trial { IsTrialOf basin.now series.now run.old trial.old }
-    ensures trial { OnOk result (IsTrialOfRun basin.now series.now trial.new) }
+    ensures trial { IsTrialOfRun basin.now series.now trial.new }
     ensures pushes { searches.new ≤ searches.old + run_pushes basin.now }
 {
     for _month in 0..basin.months {
-        try_month(trial, basin, series, roll, run, searches)?;
+        try_month(trial, basin, series, roll, run, searches);
     }
-    Ok(())
 }
 
 /// The trial of all months of a run that had none yet.
@@ -156,14 +155,16 @@ fn trial_of<L: Ledger>(
     requires fits { run.old.series ≡ series.now }
     requires first { StandsFor run.old [] }
     ensures trial { IfOk result (IsTrialOfRun basin.now series.now) }
+    ensures unsolved { OnErr result (searches.new ≡ searches.old) }
     ensures pushes { searches.new ≤ searches.old + run_pushes basin.now }
 {
     let mut trial = Trial::open(alloc, basin)?;
-    try_months(&mut trial, basin, series, roll, run, searches)?;
+    try_months(&mut trial, basin, series, roll, run, searches);
     Ok(trial)
 }
 
-/// The trial of all months of a run of a basin with a series. AllocError comes where memory is lacking.
+/// The trial of all months of a run of a basin with a series. AllocError comes where memory is lacking, before a month is
+/// solved.
 pub fn try_run<L: Ledger>(
     alloc: Global,
     basin: &Basin,
@@ -175,6 +176,7 @@ pub fn try_run<L: Ledger>(
     requires series { IsSeriesOf basin.now series.now }
     requires roll { IsRollOf basin.now.rights roll.now }
     ensures trial { IfOk result (IsTrialOfRun basin.now series.now) }
+    ensures unsolved { OnErr result (searches.new ≡ searches.old) }
     ensures pushes { searches.new ≤ searches.old + run_pushes basin.now }
 {
     let mut run = Run::open(alloc, basin, series)?;

@@ -33,6 +33,7 @@ pub fn trial_report<K: Sink, L: Ledger>(
     ensures text { Reports (λ records. trial_text number size basin.now series.now records) basin.now series.now result (K.taken sink.old) (K.taken sink.new) }
     ensures cause { HasCause (K.faults sink.old) (K.faults sink.new) (result ≡ Err SinkFailed) }
     ensures stays { result ≡ Err OutOfMemory → sink.new ≡ sink.old }
+    ensures unsolved { result ≡ Err OutOfMemory → searches.new ≡ searches.old }
     ensures pushes { searches.new ≤ searches.old + run_pushes basin.now }
 {
     let roll = match Roll::of_basin(alloc, basin) {

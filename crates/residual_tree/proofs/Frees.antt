@@ -1,7 +1,7 @@
 -- Nodes are freed, one after another.
-use Rattle.std.proofs.Common.{ℕ, nat_lt, ◌≡◌, ◌≢◌, ◌+◌, ◌-◌, ◌<◌, ◌≤◌, List, length, slice_index, slice_set, refl, arith, ap, sym, subst, inl, inr, ◌∙◌}
+use Rattle.std.proofs.Common.{ℕ, nat_lt, ◌≡◌, ◌≢◌, ◌+◌, ◌-◌, ◌<◌, ◌≤◌, List, length, replicate, slice_index, slice_set, refl, arith, ap, sym, subst, inl, inr, ◌∙◌}
 use Rattle.std.proofs.lemmas.Bool.{cases_eq, cases_lt}
-use Rattle.std.proofs.lemmas.List.{get_or-set_other, get_or-set_same, length-set}
+use Rattle.std.proofs.lemmas.List.{get_or-set_other, get_or-set_same, get_or-replicate, length-set, length-replicate}
 use Rattle.place_sums.specs.Sums.{when}
 use Rattle.place_sums.proofs.Totals.{total_zero}
 use Rattle.circulation.specs.Contents.{Contents, network, flow_of, arcs, step_of, IsCirculation}
@@ -219,39 +219,46 @@ orphaning_end c way freed at done size node o gone = record {
 }
 
 -- where only the outside is reached, and all others are listed as freed, they are freed
-pub felled : (c : Contents) (way freed : List ℕ) → IsCirculation c → length way ≡ c.nodes + 1 → length freed ≡ c.nodes →
-    word_of way c.nodes ≡ ROOT → ((v : ℕ) → v < c.nodes → word_of way v ≡ 0) →
-    ((v : ℕ) → v < c.nodes → slice_index freed v ≡ v) → IsFreeing c way freed 0 0 c.nodes c.nodes
-felled c way freed k words places root none_reached listed = record {
-  tree = record {
-    words = words;
-    root = root;
-    rank = λ v. 0;
-    branch = λ v b m. absurd (omega (arith, none_reached v b, m));
-    room = λ v b m. absurd (omega (arith, none_reached v b, m));
-    closed = λ s b r m. elim (cases_lt (end_of (network c) s) c.nodes) [
-      | inl inner ↦ inr (inl record {
-        place = end_of (network c) s;
-        from = omega arith;
-        below = inner;
-        is = listed
-            (end_of (network c) s) inner;
-      })
-      | inr outer ↦
-          let within = end_within c s k b in
-          let e : end_of (network c) s ≡ c.nodes = omega arith in
-          inl (omega (arith, ap (word_of way) e, root))
-    ];
-  };
-  order = omega arith;
-  places = places;
-  within = λ v b. omega (arith, listed v b, b);
-  few = omega (
-    arith,
-    total_zero c.nodes (λ v. when (nat_lt 0 (word_of way v)) 1)
-        (λ v b. ap (λ (x : ℕ). when (nat_lt 0 x) 1) (none_reached v b)),
-  );
-}
+pub felled : (c : Contents) (freed : List ℕ) → IsCirculation c → length freed ≡ c.nodes →
+    ((v : ℕ) → v < c.nodes → slice_index freed v ≡ v) →
+    IsFreeing c (slice_set (replicate (c.nodes + 1) 0) c.nodes ROOT) freed 0 0 c.nodes c.nodes
+felled c freed k places listed =
+    let way : List ℕ = slice_set (replicate (c.nodes + 1) 0) c.nodes ROOT in
+    let long : length {A = ℕ} (replicate (c.nodes + 1) 0) ≡ c.nodes + 1 = length-replicate (c.nodes + 1) 0 in
+    let root : word_of way c.nodes ≡ ROOT =
+    get_or-set_same (replicate (c.nodes + 1) 0) c.nodes ROOT 0 (omega (arith, long)) in
+    let none_reached = λ (v : ℕ) (b : v < c.nodes).
+    get_or-set_other (replicate (c.nodes + 1) 0) c.nodes v ROOT 0 (λ e. absurd (omega (arith, b, e))) ∙
+    get_or-replicate (c.nodes + 1) v 0 0 (omega (arith, b)) in
+    record {
+      tree = record {
+        words = length-set (replicate (c.nodes + 1) 0) c.nodes ROOT ∙ long;
+        root = root;
+        rank = λ v. 0;
+        branch = λ v b m. absurd (omega (arith, none_reached v b, m));
+        room = λ v b m. absurd (omega (arith, none_reached v b, m));
+        closed = λ s b r m. elim (cases_lt (end_of (network c) s) c.nodes) [
+          | inl inner ↦ inr (inl record {
+            place = end_of (network c) s;
+            from = omega arith;
+            below = inner;
+            is = listed (end_of (network c) s) inner;
+          })
+          | inr outer ↦
+              let within = end_within c s k b in
+              let e : end_of (network c) s ≡ c.nodes = omega arith in
+              inl (omega (arith, ap (word_of way) e, root))
+        ];
+      };
+      order = omega arith;
+      places = places;
+      within = λ v b. omega (arith, listed v b, b);
+      few = omega (
+        arith,
+        total_zero c.nodes (λ v. when (nat_lt 0 (word_of way v)) 1)
+            (λ v b. ap (λ (x : ℕ). when (nat_lt 0 x) 1) (none_reached v b)),
+      );
+    }
 
 -- a worn tree is one of which nothing was freed
 pub freeing_start : (c : Contents) (way freed : List ℕ) (first last : ℕ) → IsWornTree c way first last →

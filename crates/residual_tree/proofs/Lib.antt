@@ -1,3 +1,4 @@
+pub mod Marked
 pub mod Scans
 pub mod Changes
 pub mod Frees

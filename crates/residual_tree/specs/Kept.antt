@@ -4,10 +4,10 @@ use Rattle.residual_tree.specs.declared.ResidualTree.TheInside.{Inside}
 
 -- the word of each node
 abbrev pub words : Inside → List ℕ
-words i = i.way.items
+words i = i.way
 
 -- there is room for all basin nodes among those freed, those reached and the ways that were found
 pub record IsKept (i : Inside) : Type 0 where
-  pub freed : length i.way.items ≡ length i.freed.items + 1
-  pub queue : length i.way.items ≡ length i.queue.items + 1
-  pub found : length i.way.items ≡ length i.found.items + 1
+  pub freed : length i.way ≡ length i.freed.items + 1
+  pub queue : length i.way ≡ length i.queue.items + 1
+  pub found : length i.way ≡ length i.found.items + 1

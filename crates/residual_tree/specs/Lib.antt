@@ -1,5 +1,6 @@
 pub mod Steps
 pub mod Tree
+pub mod DryMarks
 pub mod Growth
 pub mod Raised
 pub mod Kept

@@ -7,11 +7,12 @@ ghost use Rattle.residual_tree.specs.Growth.{IsFreeing};
 
 use crate::ROOT;
 use crate::residual::{end, room};
+use crate::words::Words;
 use circulation::Circulation;
 
-/// Frees the node that a step enters, where it is the step by which the node is reached. Takes and answers how many nodes
-/// were freed.
-fn free_end(way: &mut [u64], freed: &mut [u32], step: u64, node: u32, size: usize) -> usize
+/// Frees the node that a step enters, where it is the step by which the node is reached. Takes and answers how many
+/// nodes were freed.
+fn free_end(way: &mut Words, freed: &mut [u32], step: u64, node: u32, size: usize) -> usize
     requires step { step < 2 ^ 33 }
     requires node { node < length way.old }
     requires room { word_of way.old node ≡ step + 1 → size < length freed.old }
@@ -20,8 +21,8 @@ fn free_end(way: &mut [u64], freed: &mut [u32], step: u64, node: u32, size: usiz
     ensures other { word_of way.old node ≢ step + 1 →
         (result ≡ size) × (way.new ≡ way.old) × (freed.new ≡ freed.old) }
 {
-    if way[node as usize] == step + 1 {
-        way[node as usize] = 0;
+    if way.get(node) == step + 1 {
+        way.set(node, 0);
         freed[size] = node;
         size + 1
     } else {
@@ -32,7 +33,7 @@ fn free_end(way: &mut [u64], freed: &mut [u32], step: u64, node: u32, size: usiz
 /// Frees the node that a step enters, where it is the step by which the node is reached and has no room.
 fn free_worn(
     circ: &Circulation,
-    way: &mut [u64],
+    way: &mut Words,
     freed: &mut [u32],
     step: u64,
     size: usize,
@@ -60,7 +61,7 @@ fn free_worn(
 /// `first` to below `last`.
 pub fn loosen(
     circ: &Circulation,
-    way: &mut [u64],
+    way: &mut Words,
     freed: &mut [u32],
     first: usize,
     last: usize,
@@ -83,7 +84,7 @@ pub fn loosen(
 /// Frees the children of the freed node with the number `done`.
 fn free_children(
     circ: &Circulation,
-    way: &mut [u64],
+    way: &mut Words,
     freed: &mut [u32],
     done: usize,
     size: usize,
@@ -103,7 +104,7 @@ fn free_children(
 }
 
 /// Frees all that is below the freed nodes in the tree.
-pub fn free_below(circ: &Circulation, way: &mut [u64], freed: &mut [u32], size: usize) -> usize
+pub fn free_below(circ: &Circulation, way: &mut Words, freed: &mut [u32], size: usize) -> usize
     requires tree { (at : ℕ) × IsFreeing circ.now way.old freed.old at at 0 size }
     requires kept { IsCirculation circ.now }
     ensures { (at : ℕ) × IsFreeing circ.now way.new freed.new at at result result }
@@ -118,16 +119,16 @@ pub fn free_below(circ: &Circulation, way: &mut [u64], freed: &mut [u32], size: 
 }
 
 /// Reaches no node but the outside, and frees all others.
-pub fn fell(circ: &Circulation, way: &mut [u64], freed: &mut [u32])
+pub fn fell(circ: &Circulation, way: &mut Words, freed: &mut [u32])
     requires words { length way.old ≡ circ.now.nodes + 1 }
     requires places { length freed.old ≡ circ.now.nodes }
     requires kept { IsCirculation circ.now }
     ensures { IsFreeing circ.now way.new freed.new 0 0 circ.now.nodes circ.now.nodes }
 {
     let nodes = circ.nodes();
-    way[nodes as usize] = ROOT;
+    way.clear();
+    way.set(nodes, ROOT);
     for node in 0..nodes {
-        way[node as usize] = 0;
         freed[node as usize] = node;
     }
 }

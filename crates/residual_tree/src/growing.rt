@@ -7,11 +7,12 @@ ghost use Rattle.residual_tree.specs.Tree.{word_of, IsReached, IsResidualTree, d
 ghost use Rattle.residual_tree.specs.Growth.{no_step, IsFound, IsShut, IsFreeing, IsGrowing, IsLentTree};
 
 use crate::residual::{room, turned};
+use crate::words::Words;
 use circulation::Circulation;
 
 /// Whether the opposite of a step to a node is a way into the node that the step leaves: it has room, and comes from a
 /// node that is reached.
-fn is_way_back(circ: &Circulation, way: &[u64], step: u64, node: u32) -> bool
+fn is_way_back(circ: &Circulation, way: &Words, step: u64, node: u32) -> bool
     requires arc { arc_of step < arcs circ.now }
     requires node { end_of (network circ.now) step ≡ node }
     requires inside { node ≤ circ.now.nodes }
@@ -21,14 +22,14 @@ fn is_way_back(circ: &Circulation, way: &[u64], step: u64, node: u32) -> bool
         (0 < room_of (network circ.now) (flow_of circ.now) (opposite step)) }
     ensures no { result ≡ false → IsShut circ.now way.now step }
 {
-    if way[node as usize] == 0 {
+    if way.get(node) == 0 {
         return false;
     }
     room(circ, turned(circ, step)) != 0
 }
 
 /// One more than a step by which the outside reaches a node, or 0 where there is none.
-fn find_way(circ: &Circulation, way: &[u64], node: u32) -> u64
+fn find_way(circ: &Circulation, way: &Words, node: u32) -> u64
     requires node { node ≤ circ.now.nodes }
     requires words { length way.now ≡ circ.now.nodes + 1 }
     requires kept { IsCirculation circ.now }
@@ -44,7 +45,7 @@ fn find_way(circ: &Circulation, way: &[u64], node: u32) -> u64
 }
 
 /// Finds a way into each freed node, from nodes that are reached already.
-fn find_ways(circ: &Circulation, way: &[u64], freed: &[u32], count: usize, found: &mut [u64])
+fn find_ways(circ: &Circulation, way: &Words, freed: &[u32], count: usize, found: &mut [u64])
     requires count { count ≤ length freed.now }
     requires places { count ≤ length found.old }
     requires within { (k : ℕ) → k < count → slice_index freed.now k < circ.now.nodes }
@@ -58,7 +59,7 @@ fn find_ways(circ: &Circulation, way: &[u64], freed: &[u32], count: usize, found
 }
 
 /// Reaches a node by a step. Takes and answers how many nodes were reached.
-fn attach(way: &mut [u64], queue: &mut [u32], node: u32, step: u64, size: usize) -> usize
+fn attach(way: &mut Words, queue: &mut [u32], node: u32, step: u64, size: usize) -> usize
     requires node { node < length way.old }
     requires size { size < length queue.old }
     requires step { step < 2 ^ 33 }
@@ -66,13 +67,13 @@ fn attach(way: &mut [u64], queue: &mut [u32], node: u32, step: u64, size: usize)
     ensures way { way.new ≡ slice_set way.old node (step + 1) }
     ensures queue { queue.new ≡ slice_set queue.old size node }
 {
-    way[node as usize] = step + 1;
+    way.set(node, step + 1);
     queue[size] = node;
     size + 1
 }
 
 /// Gives a dry node its word, unless the word is 0. Takes and answers how many nodes were reached.
-fn seed_node(way: &mut [u64], queue: &mut [u32], node: u32, word: u64, size: usize) -> usize
+fn seed_node(way: &mut Words, queue: &mut [u32], node: u32, word: u64, size: usize) -> usize
     requires node { node < length way.old }
     requires room { word_of way.old node ≡ 0 → size < length queue.old }
     ensures none { word ≡ 0 → (result ≡ size) × (way.new ≡ way.old) × (queue.new ≡ queue.old) }
@@ -83,10 +84,10 @@ fn seed_node(way: &mut [u64], queue: &mut [u32], node: u32, word: u64, size: usi
     if word == 0 {
         return size;
     }
-    if way[node as usize] != 0 {
+    if way.get(node) != 0 {
         return size;
     }
-    way[node as usize] = word;
+    way.set(node, word);
     queue[size] = node;
     size + 1
 }
@@ -95,7 +96,7 @@ fn seed_node(way: &mut [u64], queue: &mut [u32], node: u32, word: u64, size: usi
 /// first is taken, so that a way is no longer than it need be.
 fn seed(
     circ: &Circulation,
-    way: &mut [u64],
+    way: &mut Words,
     queue: &mut [u32],
     freed: &[u32],
     count: usize,
@@ -118,7 +119,7 @@ fn seed(
 /// Reaches the node that a step enters, if the step has room and the node is not reached.
 fn reach_end(
     circ: &Circulation,
-    way: &mut [u64],
+    way: &mut Words,
     queue: &mut [u32],
     step: u64,
     node: u32,
@@ -138,7 +139,7 @@ fn reach_end(
     ensures full { room_of (network circ.now) (flow_of circ.now) step ≡ 0 →
         (result ≡ size) × (way.new ≡ way.old) × (queue.new ≡ queue.old) }
 {
-    if way[node as usize] == 0 && room(circ, step) != 0 {
+    if way.get(node) == 0 && room(circ, step) != 0 {
         attach(way, queue, node, step, size)
     } else {
         size
@@ -148,7 +149,7 @@ fn reach_end(
 /// Reaches the nodes to which steps lead from the node with the number `done` among those reached.
 fn spread_from(
     circ: &Circulation,
-    way: &mut [u64],
+    way: &mut Words,
     queue: &mut [u32],
     done: usize,
     size: usize,
@@ -170,7 +171,7 @@ fn spread_from(
 }
 
 /// Reaches all nodes to which steps lead from those that were reached, in the order in which they were reached.
-fn spread(circ: &Circulation, way: &mut [u64], queue: &mut [u32], size: usize)
+fn spread(circ: &Circulation, way: &mut Words, queue: &mut [u32], size: usize)
     ghost lent: { ℕ }
     requires tree { IsGrowing circ.now lent way.old [] queue.old 0 0 0 size }
     requires kept { IsCirculation circ.now }
@@ -188,7 +189,7 @@ fn spread(circ: &Circulation, way: &mut [u64], queue: &mut [u32], size: usize)
 /// Reaches the freed nodes again, as far as steps with room lead to them.
 pub fn grow(
     circ: &Circulation,
-    way: &mut [u64],
+    way: &mut Words,
     queue: &mut [u32],
     freed: &[u32],
     count: usize,
@@ -205,7 +206,7 @@ pub fn grow(
 }
 
 /// Reaches the dry tail of an exit back over the exit, and all that is below it.
-pub fn lend_over(circ: &Circulation, way: &mut [u64], queue: &mut [u32], exit: u32)
+pub fn lend_over(circ: &Circulation, way: &mut Words, queue: &mut [u32], exit: u32)
     requires exit { exit < arcs circ.now }
     requires out { slice_index circ.now.to exit ≡ circ.now.nodes }
     requires dry { word_of way.old (slice_index circ.now.from exit) ≡ 0 }

@@ -7,10 +7,11 @@
 //! All amounts are in units of 1,000 cubic metres. Only `open` takes memory.
 #![tactic(auto)]
 
-ghost use Rattle.std.specs.Prelude.{◌≡◌, ℕ, ◌+◌, ◌-◌, ◌*◌, ◌<◌, ◌≤◌, length, slice_index, replicate, List, IsTrue, ◌↔◌, IfOk};
+ghost use Rattle.std.specs.Prelude.{◌≡◌, ℕ, ◌+◌, ◌-◌, ◌*◌, ◌<◌, ◌≤◌, ◌==◌, length, slice_index, replicate, List, IsTrue, ◌↔◌, IfOk};
 ghost use Rattle.circulation.specs.Contents.{arcs, flow_of, step_of, held_contents, IsCirculation};
 ghost use Rattle.circulation.specs.Residual.{arc_of};
 ghost use Rattle.augment.specs.Search.{SameButScratch};
+ghost use Rattle.bit_words.specs.Marks.{words_for, is_marked};
 ghost use Rattle.residual_tree.specs.Tree.{word_of, IsReached, IsResidualTree, dry};
 ghost use Rattle.residual_tree.specs.Growth.{IsWornTree, IsLentTree};
 
@@ -20,10 +21,12 @@ pub mod laws;
 mod raising;
 mod residual;
 mod tracing;
+mod words;
 
 use crate::freeing::{fell, free_below, loosen};
 use crate::growing::{grow, lend_over};
 pub use crate::raising::{Pulled, raise_by_tree, raise_within_dry};
+use crate::words::Words;
 use circulation::Circulation;
 use std::alloc::{AllocError, Global};
 use std::marker::Model;
@@ -31,10 +34,11 @@ use std::marker::Model;
 /// The word of the outside node, which no step has.
 const ROOT: u64 = u64::MAX;
 
-/// The tree, by a word for each node, and room for a search. Contracts see it as the list of its words.
+/// The tree, by a word for each node and a mark for each that is dry, and room for a search. Contracts see it as the
+/// list of its words.
 #[derive(Drop)]
 pub struct ResidualTree {
-    way: Vec<u64>,
+    way: Words,
     freed: Vec<u32>,
     queue: Vec<u32>,
     found: Vec<u64>,
@@ -59,7 +63,7 @@ impl ResidualTree {
     {
         let basin = nodes as usize;
         Ok(ResidualTree {
-            way: vec![in alloc; 0; basin + 1]?,
+            way: Words::open(alloc, nodes)?,
             freed: vec![in alloc; 0; basin]?,
             queue: vec![in alloc; 0; basin]?,
             found: vec![in alloc; 0; basin]?,
@@ -72,7 +76,7 @@ impl ResidualTree {
         ensures { IsResidualTree circ.now self.new }
     {
         let nodes = circ.nodes() as usize;
-        let way: &mut [u64] = &mut self.way;
+        let way = &mut self.way;
         let freed: &mut [u32] = &mut self.freed;
         fell(circ, way, freed);
         let found: &mut [u64] = &mut self.found;
@@ -89,7 +93,7 @@ impl ResidualTree {
     {
         // This call tells that the circulation is kept.
         let _nodes = circ.nodes();
-        let way: &mut [u64] = &mut self.way;
+        let way = &mut self.way;
         let freed: &mut [u32] = &mut self.freed;
         let loose = loosen(circ, way, freed, first, first + count);
         let free = free_below(circ, way, freed, loose);
@@ -102,14 +106,16 @@ impl ResidualTree {
         requires { node < length self.now }
         ensures { result ≡ word_of self.now node }
     {
-        self.way[node as usize]
+        self.way.get(node)
     }
 
-    /// The word of each node, the outside node's last: 0 where the node is dry.
-    pub fn words(&self) -> &[u64]
-        ensures { result.now ≡ self.now }
+    /// The marks of the dry nodes, 64 to a word, as `bit_words` has them. The outside has none, and the bits above the
+    /// last basin node's mean nothing.
+    pub fn dry_marks(&self) -> &[u64]
+        ensures count { length result.now ≡ words_for (length self.now - 1) }
+        ensures marks { (v : ℕ) → v + 1 < length self.now → is_marked result.now v ≡ (word_of self.now v == 0) }
     {
-        self.way.as_slice()
+        self.way.dry()
     }
 
     /// Whether a node is a basin node that the outside does not reach.
@@ -117,7 +123,7 @@ impl ResidualTree {
         requires { node < length self.now }
         ensures { IsTrue result ↔ (word_of self.now node ≡ 0) }
     {
-        self.way[node as usize] == 0
+        self.way.get(node) == 0
     }
 
     /// Holds an amount on an arc, in units of 1,000 cubic metres, as `Circulation::hold` does, and repairs the tree.
@@ -148,7 +154,7 @@ impl ResidualTree {
     {
         // This call tells that the circulation is kept.
         let _nodes = circ.nodes();
-        let way: &mut [u64] = &mut self.way;
+        let way = &mut self.way;
         lend_over(circ, way, &mut self.queue, exit);
     }
 

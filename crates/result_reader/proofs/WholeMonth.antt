@@ -15,7 +15,6 @@ use Rattle.water_model.specs.declared.quantity.Quantity.TheVariants as quantity
 use Rattle.water_model.specs.declared.types.Basin.{Basin}
 use Rattle.water_model.specs.declared.types.Inflows.{Inflows}
 use Rattle.water_model.specs.declared.types.MonthRecord.{MonthRecord}
-use Rattle.result_reader.specs.Records.{without_room}
 use Rattle.result_reader.specs.Telling.{Told, tell, told_by, nothing_told, blank_month, with_supply}
 use Rattle.result_reader.proofs.Telling.{set_all, fold-both}
 use Rattle.result_reader.proofs.MonthTold.{Tells, sections_told, put_sets, take_of, with_section}
@@ -40,7 +39,7 @@ before_end b m = fold (λ now k. with_section b m k now) (blank_month b m.index 
 
 -- the record is whole at its end
 end_is : (b : Basin) (series : Inflows) (m : MonthRecord) → IsAllTold b series m →
-    with_supply b series (before_end b m) ≡ without_room m
+    with_supply b series (before_end b m) ≡ m
 end_is b series m a =
     rw (
       a.listed quantity.Opening,
@@ -60,7 +59,7 @@ end_is b series m a =
 
 pub month_told : (b : Basin) (series : Inflows) (m : MonthRecord) (caller_of : ℕ → Option ℕ) (t : Told) →
     m.index ≡ length t.months → IsAllTold b series m →
-    (fold (tell b series) t (month_lines b m caller_of)).months ≡ t.months ++ without_room m ∷ []
+    (fold (tell b series) t (month_lines b m caller_of)).months ≡ t.months ++ m ∷ []
 unfolding month_lines
 month_told b series m caller_of t i a =
     ap (λ u. u.months) (fold-both (tell b series) begun (flat_map (λ k. lines_in k b m caller_of) SECTIONS)
@@ -89,28 +88,28 @@ AreAllTold b series i [] = Unit {0}
 AreAllTold b series i (m ∷ ms) = (m.index ≡ i) × IsAllTold b series m × AreAllTold b series (i + 1) ms
 
 months_told : (b : Basin) (series : Inflows) (records : List MonthRecord) (t : Told) → AreAllTold b series (length t.months) records →
-    (fold (tell b series) t (flat_map (items_of_month b) records)).months ≡ t.months ++ map without_room records
+    (fold (tell b series) t (flat_map (items_of_month b) records)).months ≡ t.months ++ records
 months_told b series [] t h = sym (append-nil t.months)
 months_told b series (m ∷ ms) t h =
     ap (λ u. u.months) (fold-both (tell b series) t (items_of_month b m) (flat_map (items_of_month b) ms))
     ∙ (months_told b series ms (fold (tell b series) t (items_of_month b m)) (subst (λ (i : ℕ). AreAllTold b series i ms) (sym longer) h.2)
-    ∙ (ap (λ xs. xs ++ map without_room ms) first ∙ append_assoc t.months (without_room m ∷ []) (map without_room ms)))
+    ∙ (ap (λ xs. xs ++ ms) first ∙ append_assoc t.months (m ∷ []) ms))
   where
-    first : (fold (tell b series) t (items_of_month b m)).months ≡ t.months ++ without_room m ∷ []
+    first : (fold (tell b series) t (items_of_month b m)).months ≡ t.months ++ m ∷ []
     first = month_told b series m (calling_right b m) t h.0 h.1
 
     longer : length (fold (tell b series) t (items_of_month b m)).months ≡ length t.months + 1
-    longer = ap length first ∙ length-append t.months (without_room m ∷ [])
+    longer = ap length first ∙ length-append t.months (m ∷ [])
 
 -- the text's items tell the records
 pub records_told : (b : Basin) (series : Inflows) (records : List MonthRecord) → AreAllTold b series 0 records →
-    (told_by b series (items_of b records)).months ≡ map without_room records
+    (told_by b series (items_of b records)).months ≡ records
 records_told b series records h =
     ap (λ u. u.months) (fold-both (tell b series) (nothing_told b) (flat_map (items_of_month b) records) (line.Done b.months ∷ []))
     ∙ months_told b series records (nothing_told b) h
 
--- Records whose items are the same are the same but for the room for sets.
+-- Records whose items are the same are the same.
 pub one_reading_of_items : (b : Basin) (series : Inflows) (records others : List MonthRecord) → AreAllTold b series 0 records → AreAllTold b series 0 others →
-    items_of b records ≡ items_of b others → map without_room records ≡ map without_room others
+    items_of b records ≡ items_of b others → records ≡ others
 one_reading_of_items b series records others h k e =
     sym (records_told b series records h) ∙ (ap (λ is. (told_by b series is).months) e ∙ records_told b series others k)

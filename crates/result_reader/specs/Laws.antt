@@ -1,5 +1,5 @@
 -- Laws over what is read, and over the form of a text.
-use Rattle.std.specs.Prelude.{◌≡◌, ℕ, List, [], ◌∷◌, ◌++◌, length, map, Some, Ok, Err, ◌↔◌}
+use Rattle.std.specs.Prelude.{◌≡◌, ℕ, List, [], ◌∷◌, ◌++◌, length, Some, Ok, Err, ◌↔◌}
 use Rattle.water_model.specs.Spelling.{line_of}
 use Rattle.water_model.specs.Text.{items_of, text_bytes}
 use Rattle.water_model.specs.Valid.{IsValidBasin}
@@ -11,7 +11,7 @@ use Rattle.result_reader.specs.Due.{Due, all_due, due_after}
 use Rattle.result_reader.specs.Form.{IsFront}
 use Rattle.result_reader.specs.OfText.{IsOfText}
 use Rattle.result_reader.specs.Reading.{item_of, read_line}
-use Rattle.result_reader.specs.Records.{AreTextMonths, without_room}
+use Rattle.result_reader.specs.Records.{AreTextMonths}
 use Rattle.result_reader.specs.declared.bad_line.BadLine.TheVariants as bad
 
 -- What is read is what the line says. A line says an item exactly where it is that item's spelling, and the item one that
@@ -47,9 +47,9 @@ TextsAreAccepted =
     AreTextMonths b series records → length records ≡ b.months → items_of b records ≡ before ++ item ∷ after →
     read_line b before (line_of b item) ≡ Ok item
 
--- One spelling. Records of one basin and one series whose texts have the same bytes are the same, but for the room for sets.
+-- One spelling. Records of one basin and one series whose texts have the same bytes are the same.
 abbrev pub TextsHaveOneReading : Type 0
 TextsHaveOneReading =
     (b : Basin) (series : Inflows) (records others : List MonthRecord) → IsValidBasin b →
     AreTextMonths b series records → AreTextMonths b series others → text_bytes b records ≡ text_bytes b others →
-    map without_room records ≡ map without_room others
+    records ≡ others

@@ -1,5 +1,5 @@
 -- Records of months as a text tells them.
-use Rattle.std.specs.Prelude.{◌≡◌, ℕ, ◌+◌, ◌<◌, ◌≤◌, ◌^◌, Bool, List, [], map, length, slice_index, slice_get, take, All, Some, None, IsTrue}
+use Rattle.std.specs.Prelude.{◌≡◌, ℕ, ◌+◌, ◌<◌, ◌≤◌, ◌^◌, Bool, List, map, length, slice_index, slice_get, take, All, Some, None, IsTrue}
 use Rattle.std.specs.List.{list_any}
 use Rattle.water_model.specs.History.{FitsBasin, IsShort, cut_of}
 use Rattle.water_model.specs.Hydrology.{run_month, in_year, inflow_at, evaporation, returned_at, stored_at, used_of, want_of}
@@ -55,7 +55,3 @@ pub record IsTextMonth (b : Basin) (series : Inflows) (before : List MonthRecord
 pub record AreTextMonths (b : Basin) (series : Inflows) (records : List MonthRecord) : Type 0 where
   pub within : length records ≤ b.months
   pub each : (i : ℕ) (m : MonthRecord) → slice_get records i ≡ Some m → IsTextMonth b series (take i records) m
-
--- the record with no room for sets. Room is memory, of which no line tells
-abbrev pub without_room : MonthRecord → MonthRecord
-without_room m = record m { cuts = record m.cuts { room = [] } }

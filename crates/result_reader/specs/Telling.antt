@@ -14,7 +14,7 @@ use Rattle.water_model.specs.declared.types.Inflows.{Inflows}
 use Rattle.water_model.specs.declared.types.MonthRecord.{MonthRecord}
 
 -- What lines tell: the records of the months that ended, that of the month under way, the right whose `in` lines
--- come, and how many `called` lines the month has. Of the room for sets they tell nothing.
+-- come, and how many `called` lines the month has.
 pub record Told : Type 0 where
   pub months : List MonthRecord
   pub now : MonthRecord
@@ -34,7 +34,7 @@ blank_month b index month = record {
   want = replicate (length b.rights) 0;
   plan = record { flow = replicate (length b.links) 0; take = replicate (length b.rights) 0; out = replicate (length b.nodes) 0 };
   delivered = replicate (length b.rights) 0;
-  cuts = record { nodes = length b.nodes; sets = replicate (length b.rights) None; room = [] };
+  cuts = record { nodes = length b.nodes; sets = replicate (length b.rights) None };
   closing = replicate (length b.reservoirs) 0;
 }
 

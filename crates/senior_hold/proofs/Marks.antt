@@ -1,11 +1,12 @@
 -- The set of a right after writes.
 use Rattle.std.proofs.Common.{◌≡◌, ◌≢◌, ℕ, zero, suc, [], ◌∷◌, ◌+◌, ◌<◌, ◌≤◌, Bool, true, false, refl, sym, ◌∙◌, ap, subst, arith, List, length, replicate, map, take, inl, inr}
-use Rattle.std.proofs.lemmas.Bool.{cases_eq, cases_Bool}
+use Rattle.std.proofs.lemmas.Bool.{cases_eq}
 use Rattle.std.proofs.lemmas.Bool.Decides.{nat_tests}
 use Rattle.std.proofs.lemmas.List.{ext_get_or, get_or-replicate, get_or-set_same, get_or-set_other, length-set, length-replicate, length-map, length-take-le, get_or-map, get_or-take}
 use Rattle.std.proofs.lemmas.List.FromFn.{get_or-map-range_with_len, length-map-range_with_len}
 use Rattle.std.specs.Prelude.{◌==◌, ◌&&◌, nat_lt, slice_get, slice_set, slice_index, Option, Some, None, unwrap_or, option_map, IfSome, IsSome, IsTrue, ◌↔◌}
-use Rattle.water_model.specs.CutSets.{CutSets, set_of, with_set, with_room, has_room}
+use Rattle.bit_words.specs.Marks.{is_marked, marks}
+use Rattle.water_model.specs.CutSets.{CutSets, set_of, with_set}
 use Rattle.senior_hold.specs.MonthNetwork.{list_of}
 use Rattle.senior_hold.proofs.Lists.{get_set, get_set_other, set_twice}
 use Rattle.water_model.specs.Lookups.{has}
@@ -105,47 +106,13 @@ is_unreached v n p t l both h = grind (arith, nat_tests)
 pub is_reached : (v n p : ℕ) (t : Bool) → (IsTrue t ↔ (0 < p)) → t ≡ true → nat_lt v n && (p == 0) ≡ false
 is_reached v n p t both h = grind (arith, nat_tests)
 
--- a node is dry where its word is 0
--- whether words are 0
-abbrev are_zero : List ℕ → List Bool
-are_zero words = map (λ w. w == 0) words
-
--- the nodes below n whose words are 0
-abbrev zero_nodes : ℕ → List ℕ → List Bool
-zero_nodes n words = list_of n (λ v. nat_lt v n && (slice_index words v == 0))
-
--- both are one list
-pub zeros_are : (n : ℕ) (words : List ℕ) → n ≤ length words → are_zero (take n words) ≡ zero_nodes n words
-zeros_are n words h =
-    ext_get_or false (are_zero (take n words)) (zero_nodes n words)
-    (size ∙ sym (list_size n (λ v. nat_lt v n && (slice_index words v == 0)))) (λ i l. at i (omega (arith, size)))
+-- the marks of the nodes whose words are 0 are the set of the dry nodes
+pub marks_are : (n : ℕ) (marked way : List ℕ) → length way ≡ n + 1 →
+    ((v : ℕ) → v + 1 < length way → is_marked marked v ≡ (slice_index way v == 0)) →
+    marks n marked ≡ list_of n (λ v. nat_lt v n && (slice_index way v == 0))
+marks_are n marked way size each =
+    same_marks n (is_marked marked) (λ v. nat_lt v n && (slice_index way v == 0))
+    (λ v l. each v (omega (arith, size, l)) ∙ below v n (slice_index way v == 0) l)
   where
-    size : length (are_zero (take n words)) ≡ n
-    size = length-map (take n words) (λ (w : ℕ). w == 0) ∙ length-take-le n words h
-
     below : (i n : ℕ) (t : Bool) → i < n → t ≡ nat_lt i n && t
     below i n t l = grind (arith, nat_tests)
-
-    at : (i : ℕ) → i < n → has (are_zero (take n words)) i ≡ has (zero_nodes n words) i
-    at i l =
-        get_or-map (λ (w : ℕ). w == 0) (take n words) i 0 false (omega (arith, length-take-le n words h))
-        ∙ ap (λ (w : ℕ). w == 0) (get_or-take n words i 0 l) ∙ below i n (slice_index words i == 0) l
-        ∙ sym (list_at n (λ v. nat_lt v n && (slice_index words v == 0)) i l)
-
--- no right loses its room
-pub room_stays : (c : CutSets) (r q : ℕ) → has_room c q ≡ true → has_room (with_room c r) q ≡ true
-room_stays c r q h = stays c.room r q h
-  where
-    stays : (xs : List Bool) (r q : ℕ) → has xs q ≡ true → has (slice_set xs r true) q ≡ true
-    stays [] r q h = h
-    stays (x ∷ xs) zero zero h = refl
-    stays (x ∷ xs) zero (suc q) h = h
-    stays (x ∷ xs) (suc r) zero h = h
-    stays (x ∷ xs) (suc r) (suc q) h = stays xs r q h
-
--- a right that lacks room now lacked it before
-pub room_lacked : (old new : CutSets) (r : ℕ) → ((q : ℕ) → has_room old q ≡ true → has_room new q ≡ true) → has_room new r ≡ false → has_room old r ≡ false
-room_lacked old new r keeps none = elim (cases_Bool (has_room old r)) [
-  | inl had ↦ absurd (let both : false ≡ true = sym none ∙ keeps r had in cc (both))
-  | inr lacked ↦ lacked
-]

@@ -4,7 +4,7 @@ use Rattle.std.proofs.lemmas.Bool.{cases_lt}
 use Rattle.std.specs.Prelude.{slice_index, slice_set, max, min, nat_lt, ◌==◌, ◌&&◌, Some}
 use Rattle.std.proofs.lemmas.Bool.Decides.{nat_tests}
 use mathlib.Core.Path.{fun_ext}
-use Rattle.water_model.specs.CutSets.{CutSets, with_set, with_room}
+use Rattle.water_model.specs.CutSets.{CutSets, with_set}
 use Rattle.circulation.specs.Contents.{Contents, network, flow_of}
 use Rattle.augment.specs.Raised.{IsGreatestCut, SameButFlow, not_reached, position_of}
 use Rattle.senior_hold.specs.MonthNetwork.{list_of}
@@ -49,7 +49,7 @@ unreached_list c = fun_ext (has_list c.nodes (not_reached c) (λ v l. outside v 
     outside v n p l = grind (arith, nat_tests)
 
 pub served_short : (old raised new : Contents) (arc want got : ℕ) (cuts begun after : CutSets) (right : ℕ) (empty : List Bool) → SameButFlow old raised → new ≡ held_at raised arc got →
-    got ≡ min want (flow_of raised arc) → flow_of raised arc < want → begun ≡ with_room (with_set cuts right (Some empty)) right →
+    got ≡ min want (flow_of raised arc) → flow_of raised arc < want → begun ≡ with_set cuts right (Some empty) →
     after ≡ with_set begun right (Some (list_of raised.nodes (not_reached raised))) →
     IsGreatestCut (network old) (flow_of raised) arc (not_reached raised) → IsServed old new arc want cuts after right
 served_short old raised new arc want got cuts begun after right empty rest held is less begin done greatest = record {
@@ -59,7 +59,7 @@ served_short old raised new arc want got cuts begun after right empty rest held 
     (
       list_of raised.nodes (not_reached raised),
       (
-        done ∙ (ap (λ (d : CutSets). with_set d right (Some (list_of raised.nodes (not_reached raised)))) begin ∙ ap (λ (d : CutSets). with_room d right) (with_twice cuts right (Some empty) (Some (list_of raised.nodes (not_reached raised))))),
+        done ∙ (ap (λ (d : CutSets). with_set d right (Some (list_of raised.nodes (not_reached raised)))) begin ∙ with_twice cuts right (Some empty) (Some (list_of raised.nodes (not_reached raised)))),
         (
           list_size raised.nodes (not_reached raised) ∙ ap (λ (x : Contents). x.nodes) rest,
           subst (λ (g : ℕ → ℕ). IsGreatestCut (network old) g arc (has (list_of raised.nodes (not_reached raised)))) (sym (held_flow raised new arc got held))

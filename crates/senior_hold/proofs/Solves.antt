@@ -7,7 +7,7 @@ use Rattle.std.specs.Prelude.{◌&&◌, slice_index, slice_set, max, min, nat_lt
 use Rattle.place_sums.specs.Sums.{when, greatest_where}
 use Rattle.place_sums.proofs.Totals.{greatest_where_le, greatest_same_tests}
 use Rattle.water_model.specs.Basin.{is_senior, is_on_link}
-use Rattle.water_model.specs.CutSets.{CutSets, set_of, with_set, with_room}
+use Rattle.water_model.specs.CutSets.{CutSets, set_of, with_set}
 use Rattle.water_text.specs.declared.month.Month.{Month}
 use Rattle.water_model.specs.declared.types.Basin.{Basin}
 use Rattle.circulation.specs.Contents.{Contents, network, flow_of, IsCirculation}
@@ -116,7 +116,7 @@ served_next : (b : Basin) (month : Month) (supply want order : List ℕ) (k r ar
     k < length b.rights → r ≡ slice_index order k → IsSeniorityOrder b.rights order → IsStanding b month supply want order k c cuts → arc ≡ right_arc b r → amount ≡ slice_index want r →
     IsFlow (network (changed c f s (slice_set c.lower arc (max (slice_index c.lower arc) (min amount (slice_index f arc)))))) (λ a. slice_index f a) →
     (((amount ≤ slice_index f arc) × (after ≡ cuts))
-    ⊎ ((slice_index f arc < amount) × ((cut : List Bool) × ((after ≡ with_room (with_set cuts r (Some cut)) r) × ((length cut ≡ c.nodes) × IsGreatestCut (network c) (λ a. slice_index f a) arc (has cut)))))) →
+    ⊎ ((slice_index f arc < amount) × ((cut : List Bool) × ((after ≡ with_set cuts r (Some cut)) × ((length cut ≡ c.nodes) × IsGreatestCut (network c) (λ a. slice_index f a) arc (has cut)))))) →
     IsStanding b month supply want order (k + 1) (changed c f s (slice_set c.lower arc (max (slice_index c.lower arc) (min amount (slice_index f arc))))) after
 served_next b month supply want order k r arc amount c f s cuts after kinds l at order_is now arc_is amount_is flow outcome = record {
   net = net_kept b month supply want c f s (slice_set c.lower arc (max (slice_index c.lower arc) (min amount (slice_index f arc)))) now.net;
@@ -154,25 +154,25 @@ served_next b month supply want order k r arc amount c f s cuts after kinds l at
     rest a m ne = get_or-set_other c.lower arc a (max (slice_index c.lower arc) (min amount (slice_index f arc))) 0 (λ e. ne (e ∙ arc_is))
 
     others : ((amount ≤ slice_index f arc) × (after ≡ cuts))
-        ⊎ ((slice_index f arc < amount) × ((cut : List Bool) × ((after ≡ with_room (with_set cuts r (Some cut)) r) × ((length cut ≡ c.nodes) × IsGreatestCut (network c) (λ a. slice_index f a) arc (has cut))))) →
+        ⊎ ((slice_index f arc < amount) × ((cut : List Bool) × ((after ≡ with_set cuts r (Some cut)) × ((length cut ≡ c.nodes) × IsGreatestCut (network c) (λ a. slice_index f a) arc (has cut))))) →
         (q : ℕ) → q < length b.rights → q ≢ r → set_of after q ≡ set_of cuts q
     others (inl met) q m ne = ap (λ (d : CutSets). set_of d q) met.1
     others (inr short) q m ne = ap (λ (d : CutSets). set_of d q) short.1.1.0 ∙ set_of_other cuts r q (Some short.1.0) ne
 
     nodes : ((amount ≤ slice_index f arc) × (after ≡ cuts))
-        ⊎ ((slice_index f arc < amount) × ((cut : List Bool) × ((after ≡ with_room (with_set cuts r (Some cut)) r) × ((length cut ≡ c.nodes) × IsGreatestCut (network c) (λ a. slice_index f a) arc (has cut))))) →
+        ⊎ ((slice_index f arc < amount) × ((cut : List Bool) × ((after ≡ with_set cuts r (Some cut)) × ((length cut ≡ c.nodes) × IsGreatestCut (network c) (λ a. slice_index f a) arc (has cut))))) →
         after.nodes ≡ length b.nodes
     nodes (inl met) = ap (λ (d : CutSets). d.nodes) met.1 ∙ now.cut_nodes
     nodes (inr short) = ap (λ (d : CutSets). d.nodes) short.1.1.0 ∙ now.cut_nodes
 
     rights : ((amount ≤ slice_index f arc) × (after ≡ cuts))
-        ⊎ ((slice_index f arc < amount) × ((cut : List Bool) × ((after ≡ with_room (with_set cuts r (Some cut)) r) × ((length cut ≡ c.nodes) × IsGreatestCut (network c) (λ a. slice_index f a) arc (has cut))))) →
+        ⊎ ((slice_index f arc < amount) × ((cut : List Bool) × ((after ≡ with_set cuts r (Some cut)) × ((length cut ≡ c.nodes) × IsGreatestCut (network c) (λ a. slice_index f a) arc (has cut))))) →
         length after.sets ≡ length b.rights
     rights (inl met) = ap (λ (d : CutSets). length d.sets) met.1 ∙ now.cut_rights
     rights (inr short) = ap (λ (d : CutSets). length d.sets) short.1.1.0 ∙ (length-set cuts.sets r (Some short.1.0) ∙ now.cut_rights)
 
     settled : (o : IsSeniorityOrder b.rights order) → ((amount ≤ slice_index f arc) × (after ≡ cuts))
-        ⊎ ((slice_index f arc < amount) × ((cut : List Bool) × ((after ≡ with_room (with_set cuts r (Some cut)) r) × ((length cut ≡ c.nodes) × IsGreatestCut (network c) (λ a. slice_index f a) arc (has cut))))) →
+        ⊎ ((slice_index f arc < amount) × ((cut : List Bool) × ((after ≡ with_set cuts r (Some cut)) × ((length cut ≡ c.nodes) × IsGreatestCut (network c) (λ a. slice_index f a) arc (has cut))))) →
         IsSettled b month supply want (deliveries_by b want (λ a. slice_index f a)) after r
     settled o (inl met) = inl (
       let d = got b want g r (r_in o) in let m = met.0 in omega (arith, d, is_amount, amount_is),

@@ -7,7 +7,7 @@ use Rattle.std.proofs.lemmas.Grind.{same_number_lists}
 use Rattle.std.specs.Prelude.{slice_index, slice_set, max, min, nat_lt, ◌==◌, ◌&&◌, not, if◌then◌else◌, Some}
 use mathlib.Core.Path.{fun_ext}
 use Rattle.place_sums.proofs.Totals.{total_same}
-use Rattle.water_model.specs.CutSets.{CutSets, with_set, with_room}
+use Rattle.water_model.specs.CutSets.{CutSets, with_set}
 use Rattle.water_model.specs.Lookups.{has}
 use Rattle.circulation.specs.Contents.{Contents, network, flow_of, arcs, IsCirculation}
 use Rattle.circulation.specs.Network.{Network, IsTight, cut_out, leaves}
@@ -18,7 +18,7 @@ use Rattle.residual_tree.specs.Tree.{word_of, dry}
 use Rattle.senior_hold.specs.MonthNetwork.{list_of}
 use Rattle.senior_hold.specs.Serving.{IsServed}
 use Rattle.senior_hold.proofs.Bridge.{has_list}
-use Rattle.senior_hold.proofs.Marks.{with_twice, list_size}
+use Rattle.senior_hold.proofs.Marks.{list_size}
 use Rattle.senior_hold.proofs.Solves.{changed}
 
 abbrev with_lower : Network → (ℕ → ℕ) → Network
@@ -113,19 +113,19 @@ dry_list c way = fun_ext (has_list c.nodes (dry c way) (λ v l. outside v c.node
     outside : (v n p : ℕ) → n ≤ v → nat_lt v n && (p == 0) ≡ false
     outside v n p l = grind (arith, nat_tests)
 
-pub served_dry : (old mid new : Contents) (way : List ℕ) (arc want : ℕ) (cuts begun after : CutSets) (right : ℕ) (empty : List Bool) → IsCirculation old → IsCirculation mid →
+pub served_dry : (old mid new : Contents) (way : List ℕ) (arc want : ℕ) (cuts after : CutSets) (right : ℕ) → IsCirculation old → IsCirculation mid →
     IsRaisedOver old mid arc → arc < arcs old → flow_of mid arc ≡ slice_index mid.lower arc → flow_of old arc ≤ flow_of mid arc → flow_of mid arc ≤ want →
     flow_of mid arc ≢ want → SameButScratch mid new → IsGreatestCut (network mid) (flow_of mid) arc (dry mid way) →
-    begun ≡ with_room (with_set cuts right (Some empty)) right → after ≡ with_set begun right (Some (list_of mid.nodes (dry mid way))) →
+    after ≡ with_set cuts right (Some (list_of mid.nodes (dry mid way))) →
     IsServed old new arc want cuts after right
-served_dry old mid new way arc want cuts begun after right empty kept_old kept_mid raised l held rises limit short scratch greatest begin done = record {
+served_dry old mid new way arc want cuts after right kept_old kept_mid raised l held rises limit short scratch greatest done = record {
   held = raised_held old mid new arc want kept_old kept_mid raised l held rises limit scratch;
   outcome = inr (
     let e = ap (λ (f : ℕ → ℕ). f arc) flow in omega arith,
     (
       list_of mid.nodes (dry mid way),
       (
-        done ∙ (ap (λ (d : CutSets). with_set d right (Some (list_of mid.nodes (dry mid way)))) begin ∙ ap (λ (d : CutSets). with_room d right) (with_twice cuts right (Some empty) (Some (list_of mid.nodes (dry mid way))))),
+        done,
         (
           list_size mid.nodes (dry mid way) ∙ ap (λ (x : Contents). x.nodes) raised.rest,
           subst (λ (g : ℕ → ℕ). IsGreatestCut (network old) g arc (has (list_of mid.nodes (dry mid way)))) (sym flow)

@@ -1,7 +1,7 @@
 -- What one right's turn changes.
-use Rattle.std.specs.Prelude.{◌≡◌, ◌⊎◌, ℕ, ◌<◌, ◌≤◌, Bool, true, List, length, slice_index, slice_set, Some, max, min}
+use Rattle.std.specs.Prelude.{◌≡◌, ◌⊎◌, ℕ, ◌<◌, ◌≤◌, Bool, List, length, slice_index, slice_set, Some, max, min}
 use Rattle.water_model.specs.Lookups.{has}
-use Rattle.water_model.specs.CutSets.{CutSets, with_set, with_room, has_room}
+use Rattle.water_model.specs.CutSets.{CutSets, with_set}
 use Rattle.circulation.specs.Contents.{Contents, network, flow_of}
 use Rattle.augment.specs.Raised.{IsGreatestCut}
 
@@ -13,7 +13,7 @@ pub record IsServed (old new : Contents) (arc want : ℕ) (before after : CutSet
     lower = slice_set old.lower arc (max (slice_index old.lower arc) (min want (flow_of new arc)));
   }
   pub outcome : ((want ≤ flow_of new arc) × (after ≡ before))
-      ⊎ ((flow_of new arc < want) × ((cut : List Bool) × ((after ≡ with_room (with_set before right (Some cut)) right)
+      ⊎ ((flow_of new arc < want) × ((cut : List Bool) × ((after ≡ with_set before right (Some cut))
       × ((length cut ≡ old.nodes) × IsGreatestCut (network old) (flow_of new) arc (has cut)))))
 
 -- the nodes and the ends of arcs are as before
@@ -22,8 +22,7 @@ pub record SameEnds (old new : Contents) : Type 0 where
   pub from : new.from ≡ old.from
   pub to : new.to ≡ old.to
 
--- there are as many nodes and sets as before, and no right lost its room
+-- there are as many nodes and sets as before
 pub record KeepsShape (old new : CutSets) : Type 0 where
   pub nodes : new.nodes ≡ old.nodes
   pub sets : length new.sets ≡ length old.sets
-  pub room : (r : ℕ) → has_room old r ≡ true → has_room new r ≡ true

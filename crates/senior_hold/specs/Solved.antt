@@ -1,10 +1,10 @@
 -- What a month gives a solver, and what it finds.
-use Rattle.std.specs.Prelude.{◌≡◌, ◌⊎◌, ℕ, ◌*◌, ◌^◌, ◌<◌, ◌≤◌, Bool, false, List, length, slice_index, Some, None}
+use Rattle.std.specs.Prelude.{◌≡◌, ◌⊎◌, ℕ, ◌*◌, ◌^◌, ◌<◌, ◌≤◌, Bool, List, length, slice_index, Some, None}
 use Rattle.place_sums.specs.Sums.{total}
 use Rattle.water_model.specs.Basin.{instream_link}
 use Rattle.water_model.specs.Plans.{IsGreatest, carry_of}
 use Rattle.water_model.specs.Cuts.{IsReach}
-use Rattle.water_model.specs.CutSets.{CutSets, set_of, has_room}
+use Rattle.water_model.specs.CutSets.{CutSets, set_of}
 use Rattle.water_model.specs.Laws.{AreDeliveries}
 use Rattle.water_model.specs.RunOfRiver.{IsRunOfRiver}
 use Rattle.water_text.specs.declared.month.Month.{Month}
@@ -40,12 +40,6 @@ pub record IsGiven (b : Basin) (month : Month) (supply want : List ℕ) (p : Pla
   pub fits_plan : FitsPlan b p
   pub fits_cuts : FitsCuts b cuts
   pub no_sets : (r : ℕ) → r < length b.rights → set_of cuts r ≡ None
-
--- some right has no room for a set
-pub record LacksRoom (b : Basin) (cuts : CutSets) : Type 0 where
-  pub right : ℕ
-  pub in_range : right < length b.rights
-  pub no_room : has_room cuts right ≡ false
 
 -- the right is met and has no set, or is short and its set is its reach
 abbrev pub IsSettled : Basin → Month → List ℕ → List ℕ → List ℕ → CutSets → ℕ → Type 0

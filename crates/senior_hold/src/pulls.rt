@@ -1,6 +1,6 @@
 //! One right's turn by the residual tree.
-ghost use Rattle.std.specs.Prelude.{◌≡◌, ◌≢◌, ◌↔◌, ◌+◌, ◌*◌, ◌<◌, ◌≤◌, length, slice_index, replicate, false, Some, None, IfOk, OnErr};
-ghost use Rattle.water_model.specs.CutSets.{set_of, with_set, has_room};
+ghost use Rattle.std.specs.Prelude.{◌≡◌, ◌≢◌, ◌↔◌, ◌+◌, ◌*◌, ◌<◌, ◌≤◌, length, slice_index, replicate, false, Some, None};
+ghost use Rattle.water_model.specs.CutSets.{set_of, with_set};
 ghost use Rattle.circulation.specs.Contents.{network, flow_of, arcs, IsCirculation};
 ghost use Rattle.augment.specs.Raised.{IsGreatestCut};
 ghost use Rattle.residual_tree.specs.Tree.{IsResidualTree, dry};
@@ -11,7 +11,6 @@ ghost use Rattle.senior_hold.specs.Serving.{IsServed, SameEnds, KeepsShape};
 
 use circulation::Circulation;
 use residual_tree::{Pulled, ResidualTree, raise_by_tree, raise_within_dry};
-use std::alloc::AllocError;
 use std::sync::ledger::Ledger;
 use steps::Steps;
 use water_model::cut_list::CutList;
@@ -99,18 +98,6 @@ fn pull_up<L: Ledger>(
     Pulled::Unfinished
 }
 
-/// Gives a right's empty set the dry nodes.
-fn mark_dry(circ: &Circulation, tree: &ResidualTree, right: u32, cuts: &mut CutList)
-    requires right { right < length cuts.old.sets }
-    requires nodes { cuts.old.nodes ≡ circ.now.nodes }
-    requires tree { length tree.now ≡ circ.now.nodes + 1 }
-    requires empty { set_of cuts.old right ≡ Some (replicate cuts.old.nodes false) }
-    ensures { cuts.new ≡ with_set cuts.old right (Some (list_of circ.now.nodes (dry circ.now tree.now))) }
-{
-    let nodes = circ.nodes() as usize;
-    cuts.put_zeros(right, &tree.words()[..nodes]);
-}
-
 /// What a turn came to.
 #[derive(Clone, Copy, Debug, PartialEq, Eq)]
 pub enum Turn {
@@ -120,8 +107,8 @@ pub enum Turn {
     GaveUp,
 }
 
-/// Serves a right as `serve` does, by at most `left` pushes, and takes from `left` what it used. `exit` is an arc from the head of the right's arc to the outside, unless
-/// the head is the outside.
+/// Serves a right as `serve` does, by at most `left` pushes, and takes from `left` what it used. `exit` is an arc from the
+/// head of the right's arc to the outside, unless the head is the outside.
 pub fn serve_by_tree<L: Ledger>(
     circ: &mut Circulation,
     tree: &mut ResidualTree,
@@ -132,7 +119,7 @@ pub fn serve_by_tree<L: Ledger>(
     cuts: &mut CutList,
     left: &mut u32,
     searches: &mut Steps<L>,
-) -> Result<Turn, AllocError>
+) -> Turn
     requires arc { arc < arcs circ.old }
     requires want { want ≤ slice_index circ.old.upper arc }
     requires exit_arc { exit < arcs circ.old }
@@ -141,27 +128,26 @@ pub fn serve_by_tree<L: Ledger>(
     requires right { right < length cuts.old.sets }
     requires nodes { cuts.old.nodes ≡ circ.old.nodes }
     requires free { set_of cuts.old right ≡ None }
-    ensures served { IfOk result (λ t. t ≡ Turn.Served → IsServed circ.old circ.new arc want cuts.old cuts.new right) }
-    ensures tree { IfOk result (λ t. t ≡ Turn.Served → IsResidualTree circ.new tree.new) }
+    ensures served { result ≡ Turn.Served → IsServed circ.old circ.new arc want cuts.old cuts.new right }
+    ensures tree { result ≡ Turn.Served → IsResidualTree circ.new tree.new }
     ensures words { length tree.new ≡ circ.old.nodes + 1 }
     ensures kept { IsCirculation circ.new }
     ensures ends { SameEnds circ.old circ.new }
     ensures shape { KeepsShape cuts.old cuts.new }
-    ensures room { OnErr result (has_room cuts.old right ≡ false) }
     ensures cost { searches.new + left.new ≤ searches.old + left.old }
 {
     if want <= circ.flow(arc) {
         tree.hold(circ, arc, want);
-        return Ok(Turn::Served);
+        return Turn::Served;
     }
     match pull_up(circ, tree, arc, exit, want, left, searches) {
-        Pulled::Met => Ok(Turn::Served),
-        Pulled::Unfinished => Ok(Turn::GaveUp),
+        Pulled::Met => Turn::Served,
+        Pulled::Unfinished => Turn::GaveUp,
         Pulled::Dry => {
-            cuts.begin(right)?;
-            mark_dry(circ, tree, right, cuts);
+            // The nodes that the tree does not reach are the greatest tight cut of the arc.
+            cuts.begin_with(right, tree.dry_marks());
             tree.settle(circ, exit);
-            Ok(Turn::Served)
+            Turn::Served
         }
     }
 }

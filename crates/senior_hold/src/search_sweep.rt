@@ -1,14 +1,14 @@
 //! A month by searches, each of them over the whole residual network.
 //!
 //! A month begins with the run of the river, and only outlets let water out.
-ghost use Rattle.std.specs.Prelude.{◌≡◌, ℕ, ◌+◌, ◌*◌, ◌^◌, ◌<◌, ◌≤◌, length, slice_index, OnOk, OnErr};
+ghost use Rattle.std.specs.Prelude.{◌≡◌, ℕ, ◌+◌, ◌*◌, ◌^◌, ◌<◌, ◌≤◌, length, slice_index};
 ghost use Rattle.water_text.specs.Months.{IsMonth};
 ghost use Rattle.water_model.specs.Valid.{IsValidBasin};
 ghost use Rattle.water_model.specs.RunOfRiver.{IsRunOfRiver};
 ghost use Rattle.circulation.specs.Contents.{network};
 ghost use Rattle.river_net.specs.Net.{IsNet};
 ghost use Rattle.senior_hold.specs.MonthNetwork.{arc_count, HasBasinEnds};
-ghost use Rattle.senior_hold.specs.Solved.{FitsPlan, FitsCuts, AreSupplies, AreWants, IsGiven, IsSolved, LacksRoom};
+ghost use Rattle.senior_hold.specs.Solved.{FitsPlan, FitsCuts, AreSupplies, AreWants, IsGiven, IsSolved};
 ghost use Rattle.senior_hold.specs.Layouts.{IsLayout, FitsRoom, IsBegun};
 ghost use Rattle.senior_hold.specs.Spilled.{spilled};
 
@@ -17,7 +17,6 @@ use crate::serving::serve;
 use crate::solver::{Layout, Room};
 use circulation::Circulation;
 use river_net::Net;
-use std::alloc::AllocError;
 use std::sync::ledger::Ledger;
 use steps::Steps;
 use water_model::cut_list::CutList;
@@ -87,7 +86,7 @@ pub fn solve_by_searches<L: Ledger>(
     plan: &mut Plan,
     cuts: &mut CutList,
     searches: &mut Steps<L>,
-) -> Result<(), AllocError>
+)
     requires valid { IsValidBasin basin.now }
     requires layout { IsLayout basin.now layout.now }
     requires room { FitsRoom basin.now room.old }
@@ -98,8 +97,7 @@ pub fn solve_by_searches<L: Ledger>(
     ensures ends { HasBasinEnds (spilled basin.now) (network circ.new) }
     ensures plan { FitsPlan basin.now plan.new }
     ensures cuts { FitsCuts basin.now cuts.new }
-    ensures solved { OnOk result (IsSolved basin.now month supply.now want.now plan.new cuts.new) }
-    ensures room { OnErr result (LacksRoom basin.now cuts.old) }
+    ensures solved { IsSolved basin.now month supply.now want.now plan.new cuts.new }
     ensures pushes { searches.new ≤ searches.old + length basin.now.rights * (30 * (2 * arc_count basin.now + 1)) }
 {
     begin_river(basin, layout, room, circ, month, supply, want, plan);
@@ -114,8 +112,7 @@ pub fn solve_by_searches<L: Ledger>(
             right,
             cuts,
             searches,
-        )?;
+        );
     }
     read_plan(basin, circ, &layout.arcs, plan);
-    Ok(())
 }

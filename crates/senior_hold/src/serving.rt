@@ -1,6 +1,6 @@
 //! One right's turn.
-ghost use Rattle.std.specs.Prelude.{◌≡◌, ◌+◌, ◌*◌, ◌^◌, ◌<◌, ◌≤◌, length, slice_index, replicate, false, Some, None, OnOk, OnErr};
-ghost use Rattle.water_model.specs.CutSets.{set_of, with_set, has_room};
+ghost use Rattle.std.specs.Prelude.{◌≡◌, ◌+◌, ◌*◌, ◌^◌, ◌<◌, ◌≤◌, length, slice_index, replicate, false, Some, None};
+ghost use Rattle.water_model.specs.CutSets.{set_of, with_set};
 ghost use Rattle.circulation.specs.Contents.{network, arcs, IsCirculation};
 ghost use Rattle.augment.specs.Raised.{HasWayOut, open_arcs, not_reached};
 ghost use Rattle.senior_hold.specs.MonthNetwork.{list_of};
@@ -8,7 +8,6 @@ ghost use Rattle.senior_hold.specs.Serving.{IsServed, SameEnds, KeepsShape};
 
 use augment::{Raised, raise, reached};
 use circulation::Circulation;
-use std::alloc::AllocError;
 use std::sync::ledger::Ledger;
 use steps::Steps;
 use water_model::cut_list::CutList;
@@ -28,7 +27,7 @@ fn mark(circ: &Circulation, right: u32, cuts: &mut CutList)
 }
 
 /// Raises a right's arc to its want, or as far as it can be; gives a right that stays short the greatest tight cut of
-/// its arc; and holds what the arc has of the want. Memory can run out only for a right without room for a set.
+/// its arc; and holds what the arc has of the want.
 pub fn serve<L: Ledger>(
     circ: &mut Circulation,
     arc: u32,
@@ -36,7 +35,7 @@ pub fn serve<L: Ledger>(
     right: u32,
     cuts: &mut CutList,
     searches: &mut Steps<L>,
-) -> Result<(), AllocError>
+)
     requires arc { arc < arcs circ.old }
     requires want { want ≤ slice_index circ.old.upper arc }
     requires limit { want ≤ 10 ^ 9 }
@@ -44,19 +43,17 @@ pub fn serve<L: Ledger>(
     requires right { right < length cuts.old.sets }
     requires nodes { cuts.old.nodes ≡ circ.old.nodes }
     requires free { set_of cuts.old right ≡ None }
-    ensures served { OnOk result (IsServed circ.old circ.new arc want cuts.old cuts.new right) }
-    ensures kept { OnOk result (IsCirculation circ.new) }
+    ensures served { IsServed circ.old circ.new arc want cuts.old cuts.new right }
+    ensures kept { IsCirculation circ.new }
     ensures ends { SameEnds circ.old circ.new }
     ensures shape { KeepsShape cuts.old cuts.new }
-    ensures room { OnErr result (has_room cuts.old right ≡ false) }
     ensures cost { searches.new ≤ searches.old + 30 * (2 * open_arcs (network circ.old) + 1) }
 {
     let raised = raise(circ, arc, want, searches);
     if raised == Raised::Stopped {
-        cuts.begin(right)?;
+        cuts.begin(right);
         mark(circ, right, cuts);
     }
     let got = want.min(circ.flow(arc));
     circ.hold(arc, got);
-    Ok(())
 }

@@ -4,12 +4,11 @@
 //! many. So that way has a budget of 30 pushes for each right, for the month as a whole. By searches a month has a bound
 //! on its pushes, whatever its amounts. Where the budget gives out, the month is solved from its beginning by searches.
 //! Both ways go over one network.
-ghost use Rattle.std.specs.Prelude.{◌≡◌, true, ℕ, ◌+◌, ◌*◌, ◌<◌, ◌≤◌, length, IfOk, OnOk, OnErr};
+ghost use Rattle.std.specs.Prelude.{◌≡◌, ℕ, ◌+◌, ◌*◌, ◌<◌, ◌≤◌, length, IfOk};
 ghost use Rattle.water_text.specs.Months.{IsMonth};
-ghost use Rattle.water_model.specs.CutSets.{has_room};
 ghost use Rattle.water_model.specs.Valid.{IsValidBasin};
 ghost use Rattle.senior_hold.specs.MonthNetwork.{arc_count, month_pushes};
-ghost use Rattle.senior_hold.specs.Solved.{FitsPlan, FitsCuts, IsGiven, IsSolved, LacksRoom};
+ghost use Rattle.senior_hold.specs.Solved.{FitsPlan, FitsCuts, IsGiven, IsSolved};
 ghost use Rattle.senior_hold.specs.Layouts.{IsLayout, FitsRoom};
 ghost use Rattle.senior_hold.specs.Spilled.{spilled};
 
@@ -133,15 +132,13 @@ impl<'b> Solver<'b> {
         plan: &mut Plan,
         cuts: &mut CutList,
         searches: &mut Steps<L>,
-    ) -> Result<Sweep, AllocError>
+    ) -> Sweep
         requires month { IsMonth month }
         requires given { IsGiven self.old month supply.now want.now plan.old cuts.old }
         ensures same { self.new ≡ self.old }
         ensures plan { FitsPlan self.old plan.new }
         ensures cuts { FitsCuts self.old cuts.new }
-        ensures solved { IfOk result (λ s. s ≡ Sweep.Solved → IsSolved self.old month supply.now want.now plan.new cuts.new) }
-        ensures stays { (r : ℕ) → has_room cuts.old r ≡ true → has_room cuts.new r ≡ true }
-        ensures room { OnErr result (LacksRoom self.old cuts.old) }
+        ensures solved { result ≡ Sweep.Solved → IsSolved self.old month supply.now want.now plan.new cuts.new }
         ensures pushes { searches.new ≤ searches.old + 30 * length self.old.rights }
     {
         solve_by_tree(
@@ -168,14 +165,13 @@ impl<'b> Solver<'b> {
         plan: &mut Plan,
         cuts: &mut CutList,
         searches: &mut Steps<L>,
-    ) -> Result<(), AllocError>
+    )
         requires month { IsMonth month }
         requires given { IsGiven self.old month supply.now want.now plan.old cuts.old }
         ensures same { self.new ≡ self.old }
         ensures plan { FitsPlan self.old plan.new }
         ensures cuts { FitsCuts self.old cuts.new }
-        ensures solved { OnOk result (IsSolved self.old month supply.now want.now plan.new cuts.new) }
-        ensures room { OnErr result (LacksRoom self.old cuts.old) }
+        ensures solved { IsSolved self.old month supply.now want.now plan.new cuts.new }
         ensures pushes { searches.new ≤ searches.old + length self.old.rights * (30 * (2 * arc_count self.old + 1)) }
     {
         solve_by_searches(
@@ -194,10 +190,8 @@ impl<'b> Solver<'b> {
 
     /// Writes the plan of a month that serves seniors first, and gives each right that is short its reach as its set. The
     /// supply is indexed by node, the want by right, both in units of 1,000 cubic metres. Without rights the plan is the
-    /// run of the river. Each search that finds a walk, and each push along the tree, ticks `searches` once.
-    ///
-    /// AllocError comes only where memory for the set of a right is lacking that had no room for one yet. Then the lists
-    /// keep their lengths and the solver can go on, but the plan and the sets say nothing of the month.
+    /// run of the river. Each search that finds a walk, and each push along the tree, ticks `searches` once. It refuses
+    /// nothing and takes no memory.
     pub fn solve_month<L: Ledger>(
         &mut self,
         month: Month,
@@ -206,21 +200,19 @@ impl<'b> Solver<'b> {
         plan: &mut Plan,
         cuts: &mut CutList,
         searches: &mut Steps<L>,
-    ) -> Result<(), AllocError>
+    )
         requires month { IsMonth month }
         requires given { IsGiven self.old month supply.now want.now plan.old cuts.old }
         ensures same { self.new ≡ self.old }
         ensures plan { FitsPlan self.old plan.new }
         ensures cuts { FitsCuts self.old cuts.new }
-        ensures solved { OnOk result (IsSolved self.old month supply.now want.now plan.new cuts.new) }
-        ensures room { OnErr result (LacksRoom self.old cuts.old) }
+        ensures solved { IsSolved self.old month supply.now want.now plan.new cuts.new }
         ensures pushes { searches.new ≤ searches.old + month_pushes self.old }
     {
-        let sweep = self.sweep_by_tree(month, supply, want, plan, cuts, searches)?;
-        if sweep == Sweep::Solved {
-            return Ok(());
+        let sweep = self.sweep_by_tree(month, supply, want, plan, cuts, searches);
+        if sweep == Sweep::GaveUp {
+            cuts.clear();
+            self.sweep_by_searches(month, supply, want, plan, cuts, searches);
         }
-        cuts.clear();
-        self.sweep_by_searches(month, supply, want, plan, cuts, searches)
     }
 }

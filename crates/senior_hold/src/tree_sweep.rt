@@ -2,17 +2,16 @@
 //!
 //! Water stays where it rises: a month begins with nothing on the links and each node's supply on its spill. At the end
 //! what is left on the spills runs down the rivers. No delivery changes by that, as a tight cut bounds every plan.
-ghost use Rattle.std.specs.Prelude.{◌≡◌, true, ℕ, ◌+◌, ◌*◌, ◌^◌, ◌<◌, ◌≤◌, List, length, slice_index, IfOk, OnErr};
+ghost use Rattle.std.specs.Prelude.{◌≡◌, true, ℕ, ◌+◌, ◌*◌, ◌^◌, ◌<◌, ◌≤◌, List, length, slice_index};
 ghost use Rattle.water_text.specs.Months.{IsMonth};
 ghost use Rattle.water_text.specs.declared.month.Month.{Month};
-ghost use Rattle.water_model.specs.CutSets.{has_room};
 ghost use Rattle.water_model.specs.Plans.{IsPlan};
 ghost use Rattle.water_model.specs.Valid.{IsValidBasin};
 ghost use Rattle.circulation.specs.Contents.{network, flow_of, arcs};
 ghost use Rattle.residual_tree.specs.Raised.{IsExit};
 ghost use Rattle.river_net.specs.Net.{total_of};
 ghost use Rattle.senior_hold.specs.MonthNetwork.{HasBasinEnds};
-ghost use Rattle.senior_hold.specs.Solved.{FitsPlan, FitsCuts, AreSupplies, AreWants, IsGiven, IsSolved, LacksRoom};
+ghost use Rattle.senior_hold.specs.Solved.{FitsPlan, FitsCuts, AreSupplies, AreWants, IsGiven, IsSolved};
 ghost use Rattle.senior_hold.specs.Layouts.{IsLayout, FitsRoom};
 ghost use Rattle.senior_hold.specs.Spilled.{spilled, spills_of, HasSpills, IsSpilledStart, IsSettledPlan};
 
@@ -21,7 +20,6 @@ use crate::pulls::{Turn, serve_by_tree};
 use crate::solver::{Layout, Room};
 use circulation::Circulation;
 use residual_tree::ResidualTree;
-use std::alloc::AllocError;
 use std::sync::ledger::Ledger;
 use steps::Steps;
 use water_model::cut_list::CutList;
@@ -158,7 +156,7 @@ pub fn solve_by_tree<L: Ledger>(
     plan: &mut Plan,
     cuts: &mut CutList,
     searches: &mut Steps<L>,
-) -> Result<Sweep, AllocError>
+) -> Sweep
     requires valid { IsValidBasin basin.now }
     requires layout { IsLayout basin.now layout.now }
     requires room { FitsRoom basin.now room.old }
@@ -171,9 +169,7 @@ pub fn solve_by_tree<L: Ledger>(
     ensures tree { length tree.new ≡ length basin.now.nodes + 1 }
     ensures plan { FitsPlan basin.now plan.new }
     ensures cuts { FitsCuts basin.now cuts.new }
-    ensures solved { IfOk result (λ s. s ≡ Sweep.Solved → IsSolved basin.now month supply.now want.now plan.new cuts.new) }
-    ensures stays { (r : ℕ) → has_room cuts.old r ≡ true → has_room cuts.new r ≡ true }
-    ensures room { OnErr result (LacksRoom basin.now cuts.old) }
+    ensures solved { result ≡ Sweep.Solved → IsSolved basin.now month supply.now want.now plan.new cuts.new }
     ensures pushes { searches.new ≤ searches.old + 30 * length basin.now.rights }
 {
     begin_spilled(basin, layout, room, circ, month, supply, want, plan);
@@ -195,11 +191,11 @@ pub fn solve_by_tree<L: Ledger>(
             cuts,
             &mut left,
             searches,
-        )?;
+        );
         if turn == Turn::GaveUp {
-            return Ok(Sweep::GaveUp);
+            return Sweep::GaveUp;
         }
     }
     settle_plan(basin, layout, room, circ, plan);
-    Ok(Sweep::Solved)
+    Sweep::Solved
 }

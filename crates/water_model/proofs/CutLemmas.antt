@@ -1,151 +1,359 @@
--- What a write to one slot leaves.
-use Rattle.std.proofs.Common.{◌≡◌, ◌==◌, ◌+◌, ℕ, suc, ◌<◌, Bool, true, false, List, [], ◌∷◌, ◌++◌, length, get_or, take, drop, map, refl, ap, sym, subst, ◌∙◌, arith}
-use Rattle.std.specs.Prelude.{◌≤◌, All, Option, Some, None, IfSome, IsSome, slice_get, slice_set, if◌then◌else◌}
-use Rattle.std.proofs.Common.{add-zero}
-use Rattle.std.proofs.lemmas.List.{map-set, map-append, get_or-drop, drop-set-lt, take_more, take_more_set}
+-- What a change of a region leaves of the sets that a list of cuts keeps there.
+use Rattle.std.proofs.Common.{◌≡◌, ◌≢◌, ℕ, zero, suc, ◌+◌, ◌*◌, ◌<◌, ◌≤◌, Bool, List, length, get_or, take, drop, replicate, map, refl, ap, sym, ◌∙◌, inl, inr, zero-add, arith}
+use Rattle.std.specs.Prelude.{◌⊎◌, Option, Some, None, slice_set, nat_lt, if◌then◌else◌, unwrap_or, option_map}
+use Rattle.std.specs.List.{range_with_len}
+use Rattle.std.proofs.lemmas.Bool.{cases_eq, lt-ltb}
+use Rattle.std.proofs.lemmas.List.{length-set, length-replicate, get_or-set_same, get_or-set_other, get_or-replicate, get_or_append_left, take_all}
+use Rattle.std.proofs.lemmas.List.FromFn.{length-map-range_with_len, get_or-map-range_with_len}
+use Rattle.std.proofs.lemmas.Option.{slice_get-get_or}
 use Rattle.std.proofs.lemmas.Simd.{map-map}
-use Rattle.std.proofs.lemmas.Grind.{common_steps}
-use Rattle.std.proofs.lemmas.List.Elements.{All-map}
-use Rattle.std.proofs.Math.Seq.{map-set_same, take-suc, take-suc-set, drop-cons}
-use Rattle.std.proofs.lemmas.Option.{slice_get-map, get_or_from_slice_get}
-use Rattle.water_model.specs.CutSets.{CutSets, set_of, with_set, with_room, without_sets}
-use Rattle.water_model.specs.CutInside.{set_in, cut_sets, emptied, IsSizedSlot}
-use Rattle.water_model.specs.declared.cut_list.Slot.{Slot}
+use Rattle.std.proofs.Math.Nat.{mul-le-mul_left, mul-add, mul_comm}
+use Rattle.place_sums.specs.Sums.{count_where}
+use Rattle.place_sums.proofs.Totals.{total_same, total_change, total_zero, count_at_most}
+use Rattle.bit_words.specs.Marks.{words_for, marks}
+use Rattle.bit_words.proofs.Lists.{one_changed, all_one}
+use Rattle.word_region.specs.Words.{Words, words_at, with_words, zeroed}
+use Rattle.word_region.specs.declared.Place.{Place}
+use Rattle.word_region.proofs.Words.{LiesOutside, words_at-set_other, words_at-with_words, words_at-with_words_other, length-with_words, length-zeroed, get_or-with_words_before}
+use Rattle.water_model.specs.CutInside.{has_set, set_place, set_at, set_in, cut_sets, KeepsSets}
+use Rattle.water_model.specs.CutSets.{set_of, with_set, without_sets}
 
-abbrev room_in : Slot → Bool
-room_in s = s.has_room
+-- ---- the sets by the words of rights
 
--- the sets and the room of slots
-abbrev seen : ℕ → List (Option (List Bool)) → List Bool → CutSets
-seen n sets room = record { nodes = n; sets = sets; room = room }
-
-seen_same : (n : ℕ) (sets sets' : List (Option (List Bool))) (room room' : List Bool) → sets ≡ sets' → room ≡ room' →
-    seen n sets room ≡ seen n sets' room'
-seen_same n sets sets' room room' e f = ap (λ s. seen n s room) e ∙ ap (seen n sets') f
-
-pub set_of_slot : (n : ℕ) (slots : List Slot) (right : ℕ) (s : Slot) → slice_get slots right ≡ Some s →
-    set_of (cut_sets n slots) right ≡ set_in s
-set_of_slot n slots right s h = rw (slice_get-map set_in slots right, h) refl
-
--- a slot keeps its room
-room_stays : (slots : List Slot) (right : ℕ) (s t : Slot) → slice_get slots right ≡ Some s → t.has_room ≡ s.has_room →
-    map room_in (slice_set slots right t) ≡ map room_in slots
-room_stays slots right s t at same =
-    map-set_same room_in slots right t s (same ∙ sym (ap room_in (get_or_from_slice_get slots right s s at)))
-
-pub added : (n : ℕ) (slots : List Slot) (right node : ℕ) (s t : Slot) → slice_get slots right ≡ Some s →
-    t.held ≡ s.held → t.has_room ≡ s.has_room → t.members.items ≡ slice_set s.members.items node true →
-    IfSome (set_of (cut_sets n slots) right) (λ set.
-    cut_sets n (slice_set slots right t) ≡ with_set (cut_sets n slots) right (Some (slice_set set node true)))
-added n slots right node s t h held roomy items =
-    rw (set_of_slot n slots right s h) (by_held s.held refl)
+-- a set stays where its right's word stays and the words of its place do
+set_stays : (nodes : ℕ) (before now : List ℕ) (begin begin_now : ℕ) → begin_now ≡ begin →
+    (0 < begin → words_at now (set_place nodes begin) ≡ words_at before (set_place nodes begin)) →
+    set_at nodes now begin_now ≡ set_at nodes before begin
+set_stays nodes before now begin begin_now same stay = ap (set_at nodes now) same ∙ by_word begin stay
   where
-    same : s.held ≡ true → set_in t ≡ Some (slice_set s.members.items node true)
-    same e = rw (held, e, items) refl
+    by_word : (w : ℕ) → (0 < w → words_at now (set_place nodes w) ≡ words_at before (set_place nodes w)) →
+        set_at nodes now w ≡ set_at nodes before w
+    by_word zero h = refl
+    by_word (suc w) h = ap (λ (part : List ℕ). Some (marks nodes part)) (h (omega arith))
 
-    by_held : (x : Bool) → s.held ≡ x → IfSome (if x then Some s.members.items else None) (λ set.
-        cut_sets n (slice_set slots right t) ≡ with_set (cut_sets n slots) right (Some (slice_set set node true)))
-    by_held false e = tt
-    by_held true e =
-        seen_same n (map set_in (slice_set slots right t)) (slice_set (map set_in slots) right (Some (slice_set s.members.items node true)))
-        (map room_in (slice_set slots right t)) (map room_in slots)
-        (map-set set_in slots right t ∙ ap (slice_set (map set_in slots) right) (same e)) (room_stays slots right s t h roomy)
+-- a set that there is
+pub set_is : (nodes : ℕ) (words : List ℕ) (begin : ℕ) (part : List ℕ) → 0 < begin →
+    words_at words (set_place nodes begin) ≡ part →
+    set_at nodes words begin ≡ Some (marks nodes part)
+set_is nodes words zero part some is = absurd (omega arith)
+set_is nodes words (suc w) part some is = ap (λ (xs : List ℕ). Some (marks nodes xs)) is
 
--- a slot that holds no set may change its members
-pub unchanged : (n : ℕ) (slots : List Slot) (right : ℕ) (s t : Slot) → slice_get slots right ≡ Some s → t.held ≡ s.held →
-    t.has_room ≡ s.has_room → set_of (cut_sets n slots) right ≡ None → cut_sets n (slice_set slots right t) ≡ cut_sets n slots
-unchanged n slots right s t at held roomy none =
-    seen_same n (map set_in (slice_set slots right t)) (map set_in slots) (map room_in (slice_set slots right t)) (map room_in slots)
-    (map-set_same set_in slots right t s (by_held s.held refl ∙ sym here ∙ sym (ap set_in (get_or_from_slice_get slots right s s at))))
-    (room_stays slots right s t at roomy)
+-- the sets of two, where all stay but that of one right
+pub one_set : (rights nodes : ℕ) (before now : List ℕ) (right : ℕ) (set : Option (List Bool)) →
+    set_in nodes now right ≡ set →
+    ((s : ℕ) → s < rights → s ≢ right → set_in nodes now s ≡ set_in nodes before s) →
+    cut_sets rights nodes now ≡ with_set (cut_sets rights nodes before) right set
+one_set rights nodes before now right set is stay =
+    ap (λ (sets : List (Option (List Bool))). record { nodes = nodes; sets = sets })
+    (one_changed rights (set_in nodes before) (set_in nodes now) right stay
+    ∙ ap (slice_set (map (set_in nodes before) (range_with_len 0 rights)) right) is)
+
+-- ---- how much is used
+
+used_within : (rights each count all used : ℕ) → count ≤ rights → all ≡ rights * (1 + each) →
+    used ≡ rights + each * count → used ≤ all
+used_within rights each count all used few size is =
+    omega (arith, size, is, mul-le-mul_left each few, mul-add rights 1 each, mul_comm rights each)
+
+one_more_within : (rights each count all used : ℕ) → count + 1 ≤ rights → all ≡ rights * (1 + each) →
+    used ≡ rights + each * count → used + each ≤ all
+one_more_within rights each count all used few size is =
+    omega (arith, size, is, mul-le-mul_left each few, mul-add rights 1 each, mul_comm rights each, mul-add each count 1)
+
+pub used_fits : (rights nodes : ℕ) (r : Words) → KeepsSets rights nodes r → r.used ≤ length r.words
+used_fits rights nodes r k =
+    used_within rights (words_for nodes) (count_where rights (has_set r.words)) (length r.words) r.used
+    (count_at_most rights (has_set r.words)) k.size k.used
+
+-- what a right's word counts
+abbrev counted : ℕ → ℕ
+counted begin = if nat_lt 0 begin then 1 else 0
+
+-- one more of the rights has a set
+counted_more : (rights : ℕ) (before now : List ℕ) (right : ℕ) → right < rights → get_or before right 0 ≡ 0 →
+    0 < get_or now right 0 →
+    ((s : ℕ) → s < rights → s ≢ right → get_or now s 0 ≡ get_or before s 0) →
+    count_where rights (has_set now) ≡ count_where rights (has_set before) + 1
+counted_more rights before now right b none some stay =
+    omega (
+      arith,
+      total_change rights right (λ s. counted (get_or before s 0)) (λ s. counted (get_or now s 0)) b
+          (λ s c differ. ap counted (sym (stay s c differ))),
+      ap counted none,
+      ap {B = ℕ} (λ (t : Bool). if t then 1 else 0) (lt-ltb 0 (get_or now right 0) some),
+    )
+
+-- a right without a set has room for one
+pub next_fits : (rights nodes : ℕ) (r : Words) (right : ℕ) → KeepsSets rights nodes r → right < rights →
+    get_or r.words right 0 ≡ 0 →
+    r.used + words_for nodes ≤ length r.words
+next_fits rights nodes r right k b none =
+    one_more_within rights (words_for nodes) (count_where rights (has_set r.words)) (length r.words) r.used
+    (omega (arith, more, count_at_most rights (has_set (slice_set r.words right 1)))) k.size k.used
   where
-    here : set_in s ≡ None
-    here = sym (set_of_slot n slots right s at) ∙ none
+    there : right < length r.words
+    there = omega (arith, used_fits rights nodes r k, k.used)
 
-    by_held : (x : Bool) → s.held ≡ x → set_in t ≡ None
-    by_held true e = let some : set_in s ≡ Some s.members.items = ap (λ (h : Bool). if h then Some s.members.items else None) e in absurd (cc (some, here))
-    by_held false e = ap (λ (h : Bool). if h then Some t.members.items else None) (held ∙ e)
+    more : count_where rights (has_set (slice_set r.words right 1)) ≡ count_where rights (has_set r.words) + 1
+    more = counted_more rights r.words (slice_set r.words right 1) right b none
+        (omega (arith, get_or-set_same r.words right 1 0 there))
+        (λ s c differ. get_or-set_other r.words right s 1 0 differ)
 
--- a slot that begins to hold a set
-pub begun : (n : ℕ) (slots : List Slot) (right : ℕ) (t : Slot) (set : List Bool) → t.held ≡ true → t.has_room ≡ true →
-    t.members.items ≡ set → cut_sets n (slice_set slots right t) ≡ with_room (with_set (cut_sets n slots) right (Some set)) right
-begun n slots right t set held roomy items =
-    seen_same n (map set_in (slice_set slots right t)) (slice_set (map set_in slots) right (Some set))
-    (map room_in (slice_set slots right t)) (slice_set (map room_in slots) right true)
-    (map-set set_in slots right t ∙ ap (slice_set (map set_in slots) right) same)
-    (map-set room_in slots right t ∙ ap (slice_set (map room_in slots) right) roomy)
+-- ---- a set that is written over
+
+-- where the rights' words stay, the region is kept
+rights_stay : (rights nodes : ℕ) (r : Words) (now : List ℕ) → KeepsSets rights nodes r → length now ≡ length r.words →
+    ((s : ℕ) → s < rights → get_or now s 0 ≡ get_or r.words s 0) → KeepsSets rights nodes (record r { words = now })
+rights_stay rights nodes r now k same stay = record {
+  size = same ∙ k.size;
+  used = k.used ∙ ap (λ (n : ℕ). rights + words_for nodes * n)
+      (total_same rights (λ s. if has_set r.words s then 1 else 0) (λ s. if has_set now s then 1 else 0)
+      (λ s b. ap counted (sym (stay s b))));
+  behind = λ s b some. let e = stay s b in omega (arith, e, k.behind s b (omega arith));
+  within = λ s b some. let e = stay s b in omega (arith, e, k.within s b (omega arith));
+  apart = λ s o b c differ some held.
+      let e : get_or now s 0 ≡ get_or r.words s 0 = stay s b in
+      let f : get_or now o 0 ≡ get_or r.words o 0 = stay o c in
+      elim (k.apart s o b c differ (omega arith) (omega arith))
+      [ inl before ↦ inl (omega arith) | inr after ↦ inr (omega arith) ];
+}
+
+-- the words of a right's set
+pub record Rewrites (rights nodes : ℕ) (r : Words) (right : ℕ) (part : List ℕ) : Type 0 where
+  pub keeps : KeepsSets rights nodes r
+  pub is_right : right < rights
+  pub held : 0 < get_or r.words right 0
+  pub size : length part ≡ words_for nodes
+
+part_fits : (rights nodes : ℕ) (r : Words) (right : ℕ) (part : List ℕ) → Rewrites rights nodes r right part →
+    get_or r.words right 0 + length part ≤ length r.words
+part_fits rights nodes r right part h =
+    omega (arith, h.keeps.within right h.is_right h.held, used_fits rights nodes r h.keeps, h.size, h.held)
+
+rewritten_right : (rights nodes : ℕ) (r : Words) (right : ℕ) (part : List ℕ) → Rewrites rights nodes r right part →
+    (s : ℕ) → s < rights →
+    get_or (with_words r.words (get_or r.words right 0) part) s 0 ≡ get_or r.words s 0
+rewritten_right rights nodes r right part h s b =
+    get_or-with_words_before r.words (get_or r.words right 0) part s
+    (omega (arith, h.keeps.behind right h.is_right h.held)) (omega (arith, part_fits rights nodes r right part h))
+
+pub rewritten_keeps : (rights nodes : ℕ) (r : Words) (right : ℕ) (part : List ℕ) → Rewrites rights nodes r right part →
+    KeepsSets rights nodes (record r { words = with_words r.words (get_or r.words right 0) part })
+rewritten_keeps rights nodes r right part h =
+    rights_stay rights nodes r (with_words r.words (get_or r.words right 0) part) h.keeps
+    (length-with_words r.words (get_or r.words right 0) part (part_fits rights nodes r right part h))
+    (rewritten_right rights nodes r right part h)
+
+pub rewritten_sets : (rights nodes : ℕ) (r : Words) (right : ℕ) (part : List ℕ) → Rewrites rights nodes r right part →
+    cut_sets rights nodes (with_words r.words (get_or r.words right 0) part)
+    ≡ with_set (cut_sets rights nodes r.words) right (Some (marks nodes part))
+rewritten_sets rights nodes r right part h =
+    let begin : ℕ = get_or r.words right 0 in
+    let now : List ℕ = with_words r.words begin part in
+    let fits = part_fits rights nodes r right part h in
+    let stay = rewritten_right rights nodes r right part h in
+    one_set rights nodes r.words now right (Some (marks nodes part))
+    (ap (set_at nodes now) (stay right h.is_right)
+    ∙ set_is nodes now begin part h.held
+    (words_at-with_words r.words part (set_place nodes begin) (omega (arith, fits)) h.size))
+    (λ s b differ. set_stays nodes r.words now (get_or r.words s 0) (get_or now s 0) (stay s b) (λ held.
+    words_at-with_words_other r.words begin part (set_place nodes (get_or r.words s 0)) fits (outside s b differ held)))
   where
-    same : set_in t ≡ Some set
-    same = ap (λ (h : Bool). if h then Some t.members.items else None) held ∙ ap Some items
+    outside : (s : ℕ) → s < rights → s ≢ right → 0 < get_or r.words s 0 →
+        LiesOutside (set_place nodes (get_or r.words s 0)) (get_or r.words right 0)
+        (get_or r.words right 0 + length part)
+    outside s b differ held = elim (h.keeps.apart s right b h.is_right differ held h.held) [
+      | inl before ↦ inl (omega (arith, before, held))
+      | inr after ↦ inr (omega (arith, after, h.size, h.held))
+    ]
 
--- one more element is changed by f
-pub one_more : {X : Type 0} (f : X → X) (now before : List X) (i : ℕ) (d : X) → i < length now → i < length before →
-    take i now ≡ map f (take i before) → drop i now ≡ drop i before →
-    take (suc i) (slice_set now i (f (get_or now i d))) ≡ map f (take (suc i) before)
-one_more f now before i d l k done rest =
-    take-suc-set now i (f (get_or now i d)) l ∙ ap (λ t. t ++ f (get_or now i d) ∷ []) done ∙ ap (λ x. map f (take i before) ++ f x ∷ []) same
-    ∙ sym (map-append f (take i before) (get_or before i d ∷ [])) ∙ sym (ap (map f) (take-suc before i d k))
+-- what a list that is written through a `&mut` leaves
+pub rewritten_is : (rights nodes : ℕ) (r : Words) (right : ℕ) (part : List ℕ) (from : ℕ) →
+    Rewrites rights nodes r right part →
+    from ≡ get_or r.words right 0 →
+    take (length r.words) (with_words r.words from part) ≡ with_words r.words (get_or r.words right 0) part
+rewritten_is rights nodes r right part from h at =
+    ap (λ (k : ℕ). take (length r.words) (with_words r.words k part)) at
+    ∙ take_all (length r.words) (with_words r.words (get_or r.words right 0) part)
+    (omega (arith, length-with_words r.words (get_or r.words right 0) part (part_fits rights nodes r right part h)))
+
+-- ---- a set that begins
+
+-- a right without a set, and the words of its set
+pub record Begins (rights nodes : ℕ) (r : Words) (right : ℕ) (part : List ℕ) : Type 0 where
+  pub keeps : KeepsSets rights nodes r
+  pub is_right : right < rights
+  pub free : get_or r.words right 0 ≡ 0
+  pub size : length part ≡ words_for nodes
+
+abbrev pub begun : Words → ℕ → List ℕ → List ℕ
+begun r right part = slice_set (with_words r.words r.used part) right r.used
+
+begun_length : (rights nodes : ℕ) (r : Words) (right : ℕ) (part : List ℕ) → Begins rights nodes r right part →
+    length (with_words r.words r.used part) ≡ length r.words
+begun_length rights nodes r right part h =
+    length-with_words r.words r.used part
+    (omega (arith, h.size, next_fits rights nodes r right h.keeps h.is_right h.free))
+
+begun_right : (rights nodes : ℕ) (r : Words) (right : ℕ) (part : List ℕ) → Begins rights nodes r right part →
+    get_or (begun r right part) right 0 ≡ r.used
+begun_right rights nodes r right part h =
+    get_or-set_same (with_words r.words r.used part) right r.used 0
+    (omega (
+      arith,
+      begun_length rights nodes r right part h,
+      used_fits rights nodes r h.keeps,
+      h.keeps.used,
+      h.is_right,
+    ))
+
+begun_other : (rights nodes : ℕ) (r : Words) (right : ℕ) (part : List ℕ) → Begins rights nodes r right part → (s : ℕ) →
+    s < rights → s ≢ right →
+    get_or (begun r right part) s 0 ≡ get_or r.words s 0
+begun_other rights nodes r right part h s b differ =
+    get_or-set_other (with_words r.words r.used part) right s r.used 0 differ
+    ∙ get_or-with_words_before r.words r.used part s (omega (arith, h.keeps.used)) (used_fits rights nodes r h.keeps)
+
+pub begun_keeps : (rights nodes : ℕ) (r : Words) (right : ℕ) (part : List ℕ) (now_used : ℕ) →
+    Begins rights nodes r right part →
+    now_used ≡ r.used + words_for nodes →
+    KeepsSets rights nodes (record { words = begun r right part; used = now_used })
+begun_keeps rights nodes r right part now_used h more =
+    let now : List ℕ = begun r right part in
+    record {
+      size =
+          length-set (with_words r.words r.used part) right r.used
+          ∙ (begun_length rights nodes r right part h ∙ h.keeps.size);
+      used = used;
+      behind = λ s b some. elim (cases_eq s right) [
+        | inl e ↦ (let n : get_or now s 0 ≡ r.used = here s e in omega (arith, h.keeps.used))
+        | inr e ↦ (let n : get_or now s 0 ≡ get_or r.words s 0 = other s b e in
+            omega (arith, h.keeps.behind s b (omega arith)))
+      ];
+      within = λ s b some. elim (cases_eq s right) [
+        | inl e ↦ (let n : get_or now s 0 ≡ r.used = here s e in omega arith)
+        | inr e ↦ (let n : get_or now s 0 ≡ get_or r.words s 0 = other s b e in
+            omega (arith, h.keeps.within s b (omega arith)))
+      ];
+      apart = apart;
+    }
   where
-    same : get_or now i d ≡ get_or before i d
-    same = sym (ap (λ n. get_or now n d) (add-zero i)) ∙ sym (get_or-drop i now 0 d) ∙ ap (λ t. get_or t 0 d) rest ∙ get_or-drop i before 0 d ∙ ap (λ n. get_or before n d) (add-zero i)
+    here : (s : ℕ) → s ≡ right → get_or (begun r right part) s 0 ≡ r.used
+    here s e = ap (λ (k : ℕ). get_or (begun r right part) k 0) e ∙ begun_right rights nodes r right part h
 
--- and the others stay
-pub one_less : {X : Type 0} (now before : List X) (i : ℕ) (x d e : X) → i < length now → i < length before →
-    drop i now ≡ drop i before → drop (suc i) (slice_set now i x) ≡ drop (suc i) before
-one_less {X = X} now before i x d e l k rest =
-    drop-set-lt (suc i) now i x (omega arith) ∙ tail
+    other : (s : ℕ) → s < rights → s ≢ right → get_or (begun r right part) s 0 ≡ get_or r.words s 0
+    other = begun_other rights nodes r right part h
+
+    count : count_where rights (has_set (begun r right part)) ≡ count_where rights (has_set r.words) + 1
+    count =
+        counted_more rights r.words (begun r right part) right h.is_right h.free
+        (omega (arith, here right refl)) other
+
+    used : now_used ≡ rights + words_for nodes * count_where rights (has_set (begun r right part))
+    used = omega (
+      arith,
+      more,
+      h.keeps.used,
+      ap (λ (n : ℕ). words_for nodes * n) count,
+      mul-add (words_for nodes) (count_where rights (has_set r.words)) 1,
+    )
+
+    apart : (s o : ℕ) → s < rights → o < rights → s ≢ o → 0 < get_or (begun r right part) s 0 →
+        0 < get_or (begun r right part) o 0 →
+        (get_or (begun r right part) s 0 + words_for nodes ≤ get_or (begun r right part) o 0)
+        ⊎ (get_or (begun r right part) o 0 + words_for nodes ≤ get_or (begun r right part) s 0)
+    apart s o b c differ some held = elim (cases_eq s right) [
+      | inl e ↦
+          let stays : get_or (begun r right part) o 0 ≡ get_or r.words o 0 = other o c (λ f. differ (e ∙ sym f)) in
+          inr (omega (arith, here s e, h.keeps.within o c (omega arith)))
+      | inr e ↦ elim (cases_eq o right) [
+        | inl f ↦ inl (omega (arith, here o f, other s b e, h.keeps.within s b (omega (arith, other s b e))))
+        | inr f ↦ elim (h.keeps.apart s o b c differ (omega (arith, other s b e)) (omega (arith, other o c f))) [
+          | inl before ↦ inl (omega (arith, before, other s b e, other o c f))
+          | inr after ↦ inr (omega (arith, after, other s b e, other o c f))
+        ]
+      ]
+    ]
+
+pub begun_sets : (rights nodes : ℕ) (r : Words) (right : ℕ) (part : List ℕ) → Begins rights nodes r right part →
+    cut_sets rights nodes (begun r right part)
+    ≡ with_set (cut_sets rights nodes r.words) right (Some (marks nodes part))
+begun_sets rights nodes r right part h =
+    let now : List ℕ = begun r right part in
+    let some : 0 < r.used = omega (arith, h.keeps.used, h.is_right) in
+    one_set rights nodes r.words now right (Some (marks nodes part))
+    (ap (set_at nodes now) (begun_right rights nodes r right part h) ∙ set_is nodes now r.used part some here)
+    (λ s b differ. set_stays nodes r.words now (get_or r.words s 0) (get_or now s 0)
+    (begun_other rights nodes r right part h s b differ) (λ held.
+    before_rights s b held
+    ∙ words_at-with_words_other r.words r.used part (set_place nodes (get_or r.words s 0))
+    (omega (arith, fits, h.size)) (inl (omega (arith, h.keeps.within s b held)))))
   where
-    rest_of : List X → List X
-    rest_of [] = []
-    rest_of (y ∷ ys) = ys
+    fits : r.used + words_for nodes ≤ length r.words
+    fits = next_fits rights nodes r right h.keeps h.is_right h.free
 
-    tail : drop (suc i) now ≡ drop (suc i) before
-    tail = sym (ap rest_of (drop-cons now i d l)) ∙ ap rest_of rest ∙ ap rest_of (drop-cons before i e k)
+    -- the word of a right lies before the sets
+    before : (place : Place) → rights ≤ place.from →
+        words_at (begun r right part) place ≡ words_at (with_words r.words r.used part) place
+    before place far =
+        words_at-set_other (with_words r.words r.used part) place right r.used (inr (omega (arith, h.is_right)))
 
--- once all are
-pub all_changed : {X : Type 0} (f : X → X) (now before : List X) (i : ℕ) → length now ≡ length before → length before ≤ i →
-    take i now ≡ map f (take i before) → now ≡ map f before
-all_changed {X = X} f now before i same far done =
-    sym (whole now i (omega arith)) ∙ done ∙ ap (map f) (whole before i far)
+    before_rights : (s : ℕ) → s < rights → 0 < get_or r.words s 0 →
+        words_at (begun r right part) (set_place nodes (get_or r.words s 0))
+        ≡ words_at (with_words r.words r.used part) (set_place nodes (get_or r.words s 0))
+    before_rights s b held = before (set_place nodes (get_or r.words s 0)) (omega (arith, h.keeps.behind s b held))
+
+    here : words_at (begun r right part) (set_place nodes r.used) ≡ part
+    here =
+        before (set_place nodes r.used) (omega (arith, h.keeps.used))
+        ∙ words_at-with_words r.words part (set_place nodes r.used) (used_fits rights nodes r h.keeps) h.size
+
+-- ---- no set at all
+
+-- the words of rights are 0
+cleared_right : (rights : ℕ) (words : List ℕ) (s : ℕ) → s < rights → get_or (zeroed words 0 rights) s 0 ≡ 0
+cleared_right rights words s b =
+    get_or_append_left (replicate rights 0) (drop (0 + length (replicate rights 0)) words) 0 s
+    (omega (arith, length-replicate {A = ℕ} rights 0))
+    ∙ get_or-replicate rights s 0 0 b
+
+pub cleared_keeps : (rights nodes : ℕ) (words : List ℕ) (used : ℕ) → length words ≡ rights * (1 + words_for nodes) →
+    used ≡ rights →
+    KeepsSets rights nodes (record { words = zeroed words 0 rights; used = used })
+cleared_keeps rights nodes words used size is = record {
+  size = length-zeroed words 0 rights (omega (arith, size, mul-add rights 1 (words_for nodes))) ∙ size;
+  used = is ∙ sym (ap (λ (n : ℕ). rights + words_for nodes * n) none ∙ omega arith);
+  behind = λ s b some. absurd (omega (arith, some, cleared_right rights words s b));
+  within = λ s b some. absurd (omega (arith, some, cleared_right rights words s b));
+  apart = λ s o b c differ some held. absurd (omega (arith, some, cleared_right rights words s b));
+}
   where
-    whole : (xs : List X) (i : ℕ) → length xs ≤ i → take i xs ≡ xs
-    whole xs i h = grind (arith, common_steps)
+    none : count_where rights (has_set (zeroed words 0 rights)) ≡ 0
+    none = total_zero rights (λ s. if has_set (zeroed words 0 rights) s then 1 else 0)
+        (λ s b. ap counted (cleared_right rights words s b))
 
--- emptied slots hold no set and keep their room
-pub emptied_seen : (n : ℕ) (slots : List Slot) → cut_sets n (map emptied slots) ≡ without_sets (cut_sets n slots)
-emptied_seen n slots =
-    seen_same n (map set_in (map emptied slots)) (map (λ _. None) (map set_in slots)) (map room_in (map emptied slots)) (map room_in slots)
-    (map-map set_in emptied slots ∙ sym (map-map (λ _. None) set_in slots)) (map-map room_in emptied slots)
+pub cleared_sets : (rights nodes : ℕ) (words : List ℕ) →
+    cut_sets rights nodes (zeroed words 0 rights) ≡ record { nodes = nodes; sets = replicate rights None }
+cleared_sets rights nodes words =
+    ap (λ (sets : List (Option (List Bool))). record { nodes = nodes; sets = sets })
+    (all_one rights (set_in nodes (zeroed words 0 rights)) None
+    (λ s b. ap (set_at nodes (zeroed words 0 rights)) (cleared_right rights words s b)))
 
-pub emptied_sized : (n : ℕ) (slots : List Slot) → All (IsSizedSlot n) slots → All (IsSizedSlot n) (map emptied slots)
-emptied_sized n slots all = All-map (IsSizedSlot n) emptied slots (λ k d h. let was = all k d h in record { members = λ e. cc e; capacity = was.capacity })
+pub without_is : (rights nodes : ℕ) (words : List ℕ) →
+    without_sets (cut_sets rights nodes words) ≡ record { nodes = nodes; sets = replicate rights None }
+without_is rights nodes words =
+    ap (λ (sets : List (Option (List Bool))). record { nodes = nodes; sets = sets })
+    (map-map (λ _. None) (set_in nodes words) (range_with_len 0 rights) ∙ all_one rights (λ _. None) None (λ s b. refl))
 
--- one more word is told to be 0 or not
-pub zeros_more : (words : List ℕ) (members : List Bool) (i : ℕ) → i < length words → i < length members →
-    take i members ≡ map (λ w. w == 0) (take i words) →
-    take (i + 1) (slice_set members i (get_or words i 0 == 0)) ≡ map (λ w. w == 0) (take (i + 1) words)
-zeros_more words members i k l done =
-    take_more_set members i (get_or words i 0 == 0) l ∙ ap (λ t. t ++ (get_or words i 0 == 0) ∷ []) done
-    ∙ sym (map-append (λ w. w == 0) (take i words) (get_or words i 0 ∷ [])) ∙ sym (ap (map (λ w. w == 0)) (take_more words i 0 k))
+-- ---- the set of a right
 
--- a slot that holds a set gets another
-pub replaced : (n : ℕ) (slots : List Slot) (right : ℕ) (s t : Slot) (set : List Bool) → slice_get slots right ≡ Some s →
-    t.held ≡ true → t.has_room ≡ s.has_room → t.members.items ≡ set →
-    cut_sets n (slice_set slots right t) ≡ with_set (cut_sets n slots) right (Some set)
-replaced n slots right s t set h held roomy items =
-    seen_same n (map set_in (slice_set slots right t)) (slice_set (map set_in slots) right (Some set))
-    (map room_in (slice_set slots right t)) (map room_in slots)
-    (map-set set_in slots right t ∙ ap (slice_set (map set_in slots) right) same) (room_stays slots right s t h roomy)
-  where
-    same : set_in t ≡ Some set
-    same = ap (λ (h : Bool). if h then Some t.members.items else None) held ∙ ap Some items
+pub rights_counted : (rights nodes : ℕ) (words : List ℕ) → length (cut_sets rights nodes words).sets ≡ rights
+rights_counted rights nodes words = length-map-range_with_len (set_in nodes words) 0 rights
 
--- a slot whose set is there holds one
-pub holds_one : (n : ℕ) (slots : List Slot) (right : ℕ) (s : Slot) → slice_get slots right ≡ Some s →
-    IsSome (set_of (cut_sets n slots) right) → s.held ≡ true
-holds_one n slots right s at some = by_held s.held refl (subst IsSome (set_of_slot n slots right s at) some)
-  where
-    by_held : (x : Bool) → s.held ≡ x → IsSome (set_in s) → s.held ≡ true
-    by_held true e h = e
-    by_held false e h =
-        let none : set_in s ≡ None = ap (λ (h : Bool). if h then Some s.members.items else None) e in absurd (cc (subst IsSome none h))
+pub set_of_right : (rights nodes : ℕ) (words : List ℕ) (right : ℕ) → right < rights →
+    set_of (cut_sets rights nodes words) right ≡ set_in nodes words right
+set_of_right rights nodes words right b =
+    ap (λ (o : Option (Option (List Bool))). unwrap_or (option_map (λ set. set) o) None)
+    (slice_get-get_or (map (set_in nodes words) (range_with_len 0 rights)) right None
+    (omega (arith, length-map-range_with_len (set_in nodes words) 0 rights))
+    ∙ ap Some (get_or-map-range_with_len (set_in nodes words) 0 rights right right None b (zero-add right)))

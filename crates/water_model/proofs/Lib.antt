@@ -8,6 +8,7 @@ pub mod Quantities
 pub mod Greatest
 pub mod Sheltered
 pub mod CutLemmas
+pub mod CutSteps
 pub mod Balance
 pub mod Gauges
 pub mod Histories

@@ -58,7 +58,7 @@ river_month b i =
         out = map (outflow_at b supply) (range_with_len 0 (length b.nodes));
       };
       delivered = [];
-      cuts = record { nodes = length b.nodes; sets = []; room = [] };
+      cuts = record { nodes = length b.nodes; sets = [] };
       closing = [];
     }
 

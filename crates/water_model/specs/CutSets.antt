@@ -1,12 +1,11 @@
 -- What a list of cuts holds.
-use Rattle.std.specs.Prelude.{ℕ, Bool, true, List, Option, None, slice_set, map}
-use Rattle.water_model.specs.Lookups.{of_entry, has}
+use Rattle.std.specs.Prelude.{ℕ, Bool, List, Option, None, slice_set, map}
+use Rattle.water_model.specs.Lookups.{of_entry}
 
--- for each right none or a set of the nodes, one truth value for each node; and for which rights memory for a set is there
+-- for each right none or a set of the nodes, one truth value for each node
 pub record CutSets : Type 0 where
   pub nodes : ℕ
   pub sets : List (Option (List Bool))
-  pub room : List Bool
 
 -- the set of a right, if it has one
 abbrev pub set_of : CutSets → ℕ → Option (List Bool)
@@ -16,14 +15,6 @@ set_of c right = of_entry c.sets right (λ set. set) None
 abbrev pub with_set : CutSets → ℕ → Option (List Bool) → CutSets
 with_set c right set = record c { sets = slice_set c.sets right set }
 
--- the same with room for a right's set
-abbrev pub with_room : CutSets → ℕ → CutSets
-with_room c right = record c { room = slice_set c.room right true }
-
 -- the same with no set
 abbrev pub without_sets : CutSets → CutSets
 without_sets c = record c { sets = map (λ _. None) c.sets }
-
--- whether a right has room for a set
-abbrev pub has_room : CutSets → ℕ → Bool
-has_room c right = has c.room right

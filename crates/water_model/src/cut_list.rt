@@ -1,87 +1,67 @@
 //! For each right none or a set of nodes.
-ghost use Rattle.std.specs.Prelude.{All, ◌≡◌, ◌<◌, ◌≤◌, None, Some, length, replicate, slice_set, false, true, IfOk, OnOk, OnErr, IfSome, IfNone, IsSome, IsNone, IsTrue, ◌↔◌, map, ◌==◌};
+ghost use Rattle.std.specs.Prelude.{◌≡◌, ◌+◌, ◌<◌, ◌≤◌, None, Some, length, replicate, slice_set, false, true, IfOk, IfSome, IsSome, IsNone, ◌↔◌};
+ghost use Rattle.bit_words.specs.Marks.{words_for, marks};
+ghost use Rattle.word_region.specs.Words.{zeroed};
 ghost use Rattle.water_model.specs.Lookups.{has};
-ghost use Rattle.water_model.specs.CutInside.{emptied, set_in, IsSizedSlot};
-ghost use Rattle.water_model.specs.CutSets.{set_of, with_set, with_room, without_sets, has_room, CutSets};
+ghost use Rattle.water_model.specs.CutInside.{set_place};
+ghost use Rattle.water_model.specs.CutSets.{set_of, with_set, without_sets, CutSets};
 
+use bit_words::words_for;
 use std::alloc::{AllocError, Global};
 use std::marker::Model;
-
-/// The memory for one right's set, and whether it holds one.
-#[derive(Drop)]
-pub struct Slot {
-    held: bool,
-    has_room: bool,
-    members: Vec<bool>,
-}
-
-impl Slot {
-    /// An equal slot, with its own memory for its set.
-    fn copy(&self, alloc: Global, nodes: usize) -> Result<Slot, AllocError>
-        requires { IsSizedSlot nodes self.now }
-        ensures set { IfOk result (λ copied. set_in copied ≡ set_in self.now) }
-        ensures room { IfOk result (λ copied. copied.has_room ≡ self.now.has_room) }
-        ensures sized { IfOk result (IsSizedSlot nodes) }
-    {
-        let room = if self.has_room { nodes } else { 0 };
-        let mut members = Vec::with_capacity(alloc, room)?;
-        members.extend_from_slice(self.members.as_slice())?;
-        Ok(Slot {
-            held: self.held,
-            has_room: self.has_room,
-            members,
-        })
-    }
-}
+use word_region::{Full, Mark, Place, Region};
 
 /// For each right none or a set of nodes: the cuts of a month, which show why rights are short.
 ///
-/// Contracts see the sets, indexed by right, as lists of truth values, indexed by node.
+/// Contracts see the sets, indexed by right, as lists of truth values, indexed by node. Memory is taken where a list is
+/// opened or copied, and by nothing else.
 #[derive(Drop)]
 pub struct CutList {
-    slots: Vec<Slot>,
-    nodes: usize,
+    region: Region,
+    rights: u32,
+    nodes: u32,
 }
 
 impl Model for CutList {
-    ghost use Rattle.std.specs.Prelude.{All};
     ghost use Rattle.water_model.specs.CutSets.{CutSets};
 
     ghost Value = { CutSets };
 
-    ghost use Rattle.water_model.specs.CutInside.{cut_sets, IsSizedSlot};
+    ghost use Rattle.water_model.specs.CutInside.{cut_sets, KeepsSets};
 
-    ghost view = { λ c. cut_sets c.nodes c.slots.items };
+    ghost view = { λ c. cut_sets c.rights c.nodes c.region.words };
 
-    ghost invariant = { λ c. All (IsSizedSlot c.nodes) c.slots.items };
+    ghost invariant = { λ c. KeepsSets c.rights c.nodes c.region };
 }
 
 impl CutList {
-    /// Holds none for each of the rights, over so many nodes.
+    /// Holds none for each of the rights, over so many nodes. AllocError comes where memory for a set of each right is
+    /// lacking.
     pub fn open(alloc: Global, rights: u32, nodes: u32) -> Result<CutList, AllocError>
-        ensures { IfOk result (λ c. c ≡ record { nodes = nodes; sets = replicate rights None; room = replicate rights false }) }
+        ensures { IfOk result (λ c. c ≡ record { nodes = nodes; sets = replicate rights None }) }
     {
-        let mut slots = Vec::new(alloc);
-        for _right in 0..rights {
-            slots.push(Slot {
-                held: false,
-                has_room: false,
-                members: Vec::new(alloc),
-            })?;
-        }
+        let words = rights as usize * (1 + words_for(nodes));
+        let mut region = Region::open(alloc, words)?;
+        next_place(&mut region, rights as usize);
         Ok(CutList {
-            slots,
-            nodes: nodes as usize,
+            region,
+            rights,
+            nodes,
         })
     }
 
-    /// An equal list, with room for the same sets. AllocError comes where memory is lacking.
+    /// An equal list, with memory of its own. AllocError comes where memory is lacking.
     pub fn copy(&self, alloc: Global) -> Result<CutList, AllocError>
         ensures { IfOk result (λ copied. copied ≡ self.now) }
     {
+        let rights = self.rights;
         let nodes = self.nodes;
-        let slots = copy_each(alloc, nodes, &self.slots)?;
-        Ok(CutList { slots, nodes })
+        let region = self.region.copy(alloc)?;
+        Ok(CutList {
+            region,
+            rights,
+            nodes,
+        })
     }
 
     /// Whether a right's set holds a node, or none exactly where it has no set.
@@ -92,11 +72,12 @@ impl CutList {
         ensures some { IfSome result (λ held. IfSome (set_of self.now right) (λ set. held ≡ has set node)) }
         ensures sized { IfSome (set_of self.now right) (λ set. length set ≡ self.now.nodes) }
     {
-        let slot = &self.slots[right as usize];
-        if slot.held {
-            Some(slot.members[node as usize])
-        } else {
+        let begin = self.region.get(rights_place(self.rights), right as usize);
+        if begin == 0 {
             None
+        } else {
+            let words = self.region.words(set_place(self.nodes, begin));
+            Some(bit_words::is_marked(words, node))
         }
     }
 
@@ -105,79 +86,76 @@ impl CutList {
         requires right { right < length self.old.sets }
         requires node { node < self.old.nodes }
         requires held { IsSome (set_of self.old right) }
-        ensures { IfSome (set_of self.old right) (λ set. self.new ≡ with_set self.old right (Some (slice_set set node true))) }
+        ensures { IfSome (set_of self.old right) (λ set.
+            self.new ≡ with_set self.old right (Some (slice_set set node true))) }
     {
-        let slot = &mut self.slots[right as usize];
-        slot.members[node as usize] = true;
+        let begin = self.region.get(rights_place(self.rights), right as usize);
+        let words = self.region.words_mut(set_place(self.nodes, begin));
+        bit_words::mark(words, node);
     }
 
-    /// Gives a right's set the nodes whose words are 0, and no other. The words are indexed by node. The other rights' sets
-    /// stay.
-    pub fn put_zeros(&mut self, right: u32, words: &[u64])
-        requires right { right < length self.old.sets }
-        requires words { length words.now ≡ self.old.nodes }
-        requires held { IsSome (set_of self.old right) }
-        ensures { self.new ≡ with_set self.old right (Some (map (λ w. w == 0) words.now)) }
-    {
-        let slot = &mut self.slots[right as usize];
-        mark_zeros(words, slot.members.as_mut_slice());
-    }
-
-    /// Gives a right the empty set, and room from now on. Memory can run out only for a right that never had a set;
-    /// nothing is changed then.
-    pub fn begin(&mut self, right: u32) -> Result<(), AllocError>
+    /// Gives a right the empty set. The other rights' sets stay.
+    pub fn begin(&mut self, right: u32)
         requires right { right < length self.old.sets }
         requires free { set_of self.old right ≡ None }
-        ensures ok { OnOk result (self.new ≡ with_room (with_set self.old right (Some (replicate self.old.nodes false))) right) }
-        ensures err { OnErr result (self.new ≡ self.old) }
-        ensures room { OnErr result (has_room self.old right ≡ false) }
+        ensures { self.new ≡ with_set self.old right (Some (replicate self.old.nodes false)) }
     {
-        let nodes = self.nodes;
-        let slot = &mut self.slots[right as usize];
-        slot.members.clear();
-        slot.members.resize(nodes, false)?;
-        slot.held = true;
-        slot.has_room = true;
-        Ok(())
+        let place = next_place(&mut self.region, words_for(self.nodes));
+        self.region.set(rights_place(self.rights), right as usize, place.from as u64);
     }
 
-    /// Gives up all sets, and keeps their room.
+    /// Gives a right the set of the nodes that the words mark, 64 to a word. The other rights' sets stay.
+    pub fn begin_with(&mut self, right: u32, words: &[u64])
+        requires right { right < length self.old.sets }
+        requires free { set_of self.old right ≡ None }
+        requires words { length words.now ≡ words_for self.old.nodes }
+        ensures { self.new ≡ with_set self.old right (Some (marks self.old.nodes words.now)) }
+    {
+        let place = next_place(&mut self.region, words.len());
+        self.region.put(place, words);
+        self.region.set(rights_place(self.rights), right as usize, place.from as u64);
+    }
+
+    /// Gives up all sets.
     pub fn clear(&mut self)
         ensures { self.new ≡ without_sets self.old }
     {
-        give_up(&mut self.slots);
+        self.region.release(Mark { used: 0 });
+        next_place(&mut self.region, self.rights as usize);
     }
 }
 
-/// Equal slots over so many nodes.
-fn copy_each(alloc: Global, nodes: usize, slots: &[Slot]) -> Result<Vec<Slot>, AllocError>
-    requires { All (IsSizedSlot nodes) slots.now }
-    ensures sets { IfOk result (λ copied. map set_in copied.items ≡ map set_in slots.now) }
-    ensures room { IfOk result (λ copied. map (λ s. s.has_room) copied.items ≡ map (λ s. s.has_room) slots.now) }
-    ensures sized { IfOk result (λ copied. All (IsSizedSlot nodes) copied.items) }
+/// The first place, which has a word for each right.
+fn rights_place(rights: u32) -> Place
+    ensures { result ≡ record { from = 0; len = rights } }
 {
-    let mut copied = Vec::with_capacity(alloc, slots.len())?;
-    for slot in slots {
-        copied.push(slot.copy(alloc, nodes)?)?;
-    }
-    Ok(copied)
-}
-
-/// Gives up each slot's set, and keeps its room.
-fn give_up(slots: &mut [Slot])
-    ensures { slots.new ≡ map emptied slots.old }
-{
-    for slot in slots.iter_mut() {
-        slot.held = false;
+    Place {
+        from: 0,
+        len: rights as usize,
     }
 }
 
-/// Tells of each word whether it is 0.
-fn mark_zeros(words: &[u64], members: &mut [bool])
-    requires { length words.now ≡ length members.old }
-    ensures { members.new ≡ map (λ w. w == 0) words.now }
+/// The place of the set that begins at a word.
+fn set_place(nodes: u32, begin: u64) -> Place
+    ensures { result ≡ set_place nodes begin }
 {
-    for at in 0..members.len() {
-        members[at] = words[at] == 0;
+    Place {
+        from: begin as usize,
+        len: words_for(nodes),
+    }
+}
+
+/// Takes the next words, which are there.
+fn next_place(region: &mut Region, len: usize) -> Place
+    requires { region.old.used + len ≤ length region.old.words }
+    ensures place { result ≡ record { from = region.old.used; len = len } }
+    ensures taken { region.new ≡ record {
+      words = zeroed region.old.words region.old.used len;
+      used = region.old.used + len;
+    } }
+{
+    match region.take(len) {
+        Ok(place) => place,
+        Err(Full) => unreachable!(),
     }
 }

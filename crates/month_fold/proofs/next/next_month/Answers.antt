@@ -22,15 +22,15 @@ solve_month-requires-clause-given g c =
 pub conclude-requires-clause-small : goal.conclude-requires-clause-small
 conclude-requires-clause-small g c =
     let solved : IsSolved c.args.basin.now c.settle.new.month.month c.settle.new.month.supply c.settle.new.month.want c.solve_month.new.plan c.solve_month.new.cuts =
-    rw (c.requires.solver, c.as_slice.ensures, c.as_slice-2.ensures) at c.in_ok-solve_month.ensures.solved in
+    rw (c.requires.solver, c.as_slice.ensures, c.as_slice-2.ensures) at c.solve_month.ensures.solved in
     planned_small c.args.basin.now c.args.series.now c.args.index c.bring_back.new.month c.settle.new.month c.solve_month.new.plan c.solve_month.new.cuts
     c.requires.basin c.settle.ensures solved
 
 pub returns-clause-next : goal.returns-clause-next
 returns-clause-next g c = λ records stands.
     let solved : IsSolved c.args.basin.now c.settle.new.month.month c.settle.new.month.supply c.settle.new.month.want c.solve_month.new.plan c.solve_month.new.cuts =
-    rw (c.requires.solver, c.as_slice.ensures, c.as_slice-2.ensures) at c.in_ok-solve_month.ensures.solved in
-    let cuts : FitsCuts c.args.basin.now c.solve_month.new.cuts = rw c.requires.solver at c.in_ok-solve_month.ensures.cuts in
+    rw (c.requires.solver, c.as_slice.ensures, c.as_slice-2.ensures) at c.solve_month.ensures.solved in
+    let cuts : FitsCuts c.args.basin.now c.solve_month.new.cuts = rw c.requires.solver at c.solve_month.ensures.cuts in
     made_follows c.args.basin.now c.args.series.now records c.args.index c.bring_back.new.month c.settle.new.month
     (record c.settle.new.month { plan = c.solve_month.new.plan; cuts = c.solve_month.new.cuts }) c.conclude.new.month c.requires.basin c.requires.series
     (run_begun _ records c.bring_back.new.month stands c.bring_back.ensures.rest (c.bring_back.ensures.each _ stands.lags) c.requires.used) stands.done (record {

@@ -8,8 +8,8 @@ add-requires-clause-next g c =
     let before = c.requires.tally in
     record {
       records = before.records;
-      partial = next_partial c.args.basin.now c.args.series.now c.step.new.self before.records c.month.result.now (c.in_ok-step.ensures.basin ∙ before.basin)
-          (c.in_ok-step.ensures.series ∙ before.fits) c.month.ensures (c.in_ok-step.ensures.month before.records before.stands);
+      partial = next_partial c.args.basin.now c.args.series.now c.step.new.self before.records c.month.result.now (c.step.ensures.basin ∙ before.basin)
+          (c.step.ensures.series ∙ before.fits) c.month.ensures (c.step.ensures.month before.records before.stands);
       tally = before.tally;
     }
 
@@ -17,9 +17,9 @@ pub returns-clause-tally : goal.returns-clause-tally
 returns-clause-tally g c =
     let before = c.requires.tally in
     record {
-      basin = c.in_ok-step.ensures.basin ∙ before.basin;
-      fits = c.in_ok-step.ensures.series ∙ before.fits;
+      basin = c.step.ensures.basin ∙ before.basin;
+      fits = c.step.ensures.series ∙ before.fits;
       records = before.records ++ c.step.new.self.last ∷ [];
-      stands = c.in_ok-step.ensures.month before.records before.stands;
+      stands = c.step.ensures.month before.records before.stands;
       tally = subst (λ m. IsTally c.args.basin.now c.args.series.now (before.records ++ m ∷ []) c.add.new.self) c.month.ensures (c.add.ensures before.records before.tally);
     }

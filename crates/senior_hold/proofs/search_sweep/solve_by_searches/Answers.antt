@@ -4,8 +4,6 @@ use Rattle.senior_hold.proofs.Solves.{IsStanding, standing_next}
 use Rattle.senior_hold.proofs.SpilledArcs.{spilled_kinds}
 use Rattle.senior_hold.proofs.Spilled.{spilled_turn, spilled_wants}
 use Rattle.senior_hold.proofs.SearchedPlans.{standing_start, open_few, searched_solved}
-use Rattle.std.proofs.lemmas.Result.{err_from_is_err_and}
-use Rattle.senior_hold.proofs.Marks.{room_lacked}
 use Rattle.circulation.specs.Contents.{Contents, network}
 use Rattle.augment.specs.Raised.{open_arcs}
 use Rattle.senior_hold.specs.MonthNetwork.{arc_count, spill_arc}
@@ -18,7 +16,6 @@ loop-turn-init g c = record {
   standing = standing_start c.args.basin.now c.args.month c.args.supply.now c.args.want.now c.args.layout.now.roll.order c.begin_river.new.circ c.args.cuts.now c.begin_river.new.plan c.args.plan.now c.begin_river.ensures.begun c.requires.given;
   outlets = c.begin_river.ensures.begun.outlets;
   first = λ e. refl;
-  room = λ r h. h;
   cost = omega arith;
 }
 
@@ -59,11 +56,10 @@ loop-turn-preserved g c =
     let t = spilled_turn c.args.basin.now c.args.layout.now.roll.order c.loop-turn.turn _ c.index.result.now own in
     record {
       standing = standing_next (spilled c.args.basin.now) c.args.month c.args.supply.now c.args.want.now c.args.layout.now.roll.order c.loop-turn.turn _ c.index.result.now _ c.loop-turn.circ c.serve.new.circ c.loop-turn.cuts c.serve.new.cuts
-          (spilled_kinds c.args.basin.now (right_kind c.args.basin.now c.requires.valid)) t.below t.is o c.loop-turn.invariant.standing t.arc_is refl c.in_ok-serve.ensures.served c.in_ok-serve.ensures.kept;
-      outlets = λ n l. ap (λ (x : Contents). slice_index x.upper (spill_arc c.args.basin.now n)) c.in_ok-serve.ensures.served.held
+          (spilled_kinds c.args.basin.now (right_kind c.args.basin.now c.requires.valid)) t.below t.is o c.loop-turn.invariant.standing t.arc_is refl c.serve.ensures.served c.serve.ensures.kept;
+      outlets = λ n l. ap (λ (x : Contents). slice_index x.upper (spill_arc c.args.basin.now n)) c.serve.ensures.served.held
           ∙ c.loop-turn.invariant.outlets n l;
       first = λ e. absurd (omega arith);
-      room = λ r h. c.serve.ensures.shape.room r (c.loop-turn.invariant.room r h);
       cost = one_more (arc_count c.args.basin.now) (open_arcs (network c.loop-turn.circ)) c.loop-turn.turn _ _ _
           (open_few c.args.basin.now c.loop-turn.circ c.loop-turn.invariant.standing.net.ends c.loop-turn.invariant.outlets)
           c.loop-turn.invariant.cost c.serve.ensures.cost;
@@ -95,23 +91,6 @@ serve-requires-clause-right g c =
     let o = order_of_roll c.args.basin.now c.args.layout.now.roll c.requires.valid c.requires.layout.is_roll in
     let inside = turn_in_range c.args.basin.now c.args.layout.now.roll.order c.by_seniority-order.result.now c.loop-turn.turn o c.by_seniority-order.ensures c.loop-turn-test.true in
     omega (arith, inside, c.loop-turn.invariant.standing.cut_rights)
-
-pub returns-in_err-serve-clause-room : goal.returns-in_err-serve-clause-room
-returns-in_err-serve-clause-room g c =
-    let o = order_of_roll c.args.basin.now c.args.layout.now.roll c.requires.valid c.requires.layout.is_roll in
-    let inside = turn_in_range c.args.basin.now c.args.layout.now.roll.order c.by_seniority-order.result.now c.loop-turn.turn o c.by_seniority-order.ensures c.loop-turn-test.true in
-    let p = err_from_is_err_and c.from_residual.result c.from_residual.ensures.1 in
-    rw p.1 (record { right = _; in_range = inside; no_room = room_lacked c.args.cuts.now c.loop-turn.cuts _ c.loop-turn.invariant.room c.in_err-serve.ensures.room })
-
-pub returns-in_err-serve-clause-pushes : goal.returns-in_err-serve-clause-pushes
-returns-in_err-serve-clause-pushes g c =
-    let o = order_of_roll c.args.basin.now c.args.layout.now.roll c.requires.valid c.requires.layout.is_roll in
-    let below : c.loop-turn.turn + 1 ≤ length c.args.basin.now.rights = omega (arith, c.loop-turn-test.true, ap length c.by_seniority-order.ensures, o.count) in
-    within_all (c.loop-turn.turn + 1) (length c.args.basin.now.rights) (30 * (2 * arc_count c.args.basin.now + 1)) c.args.searches.now c.serve.new.searches below
-    (one_more (arc_count c.args.basin.now) (open_arcs (network c.loop-turn.circ)) c.loop-turn.turn c.args.searches.now
-    c.loop-turn.searches c.serve.new.searches
-    (open_few c.args.basin.now c.loop-turn.circ c.loop-turn.invariant.standing.net.ends c.loop-turn.invariant.outlets)
-    c.loop-turn.invariant.cost c.serve.ensures.cost)
 
 pub returns-clause-pushes : goal.returns-clause-pushes
 returns-clause-pushes g c =

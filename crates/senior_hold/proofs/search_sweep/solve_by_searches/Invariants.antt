@@ -1,5 +1,4 @@
-use Rattle.std.proofs.Common.{◌≡◌, ◌≤◌, ◌+◌, ◌*◌, ℕ, true}
-use Rattle.water_model.specs.CutSets.{has_room}
+use Rattle.std.proofs.Common.{◌≡◌, ◌≤◌, ◌+◌, ◌*◌}
 use Rattle.senior_hold.specs.MonthNetwork.{arc_count}
 use Rattle.senior_hold.specs.Layouts.{OutletsAlone}
 use Rattle.senior_hold.specs.Spilled.{spilled}
@@ -11,6 +10,5 @@ invariant-loop-turn g l = record {
   standing : IsStanding (spilled l.basin) l.fn.month l.fn.supply l.want l.fn.layout.roll.order l.turn l.circ l.cuts;
   outlets : OutletsAlone l.basin l.circ;
   first : l.turn ≡ 0 → l.circ ≡ l.initial.circ;
-  room : (r : ℕ) → has_room l.fn.cuts r ≡ true → has_room l.cuts r ≡ true;
   cost : l.searches ≤ l.fn.searches + l.turn * (30 * (2 * arc_count l.basin + 1));
 }

@@ -6,7 +6,7 @@ use Rattle.augment.specs.contracts.Raised.{the_type}
 use denote.Enum.Bare.{sameb}
 use Rattle.senior_hold.proofs.Serves.{served_met, served_short, raise_met}
 use Rattle.senior_hold.proofs.serving.serve.Goals as goal
-use Rattle.senior_hold.proofs.serving.serve.Goals.{then-eq+in_ok-begin, else-eq}
+use Rattle.senior_hold.proofs.serving.serve.Goals.{then-eq, else-eq}
 
 stopped : (r : Raised) → sameb the_type r Raised.Stopped ≡ true → r ≡ Raised.Stopped
 stopped Raised.Met h = cc
@@ -18,10 +18,10 @@ met Raised.Stopped h = cc
 
 pub returns-clause-served : goal.returns-clause-served
 returns-clause-served g c = elim c.if-eq.branch [
-  | then-eq+in_ok-begin w ↦ (let is = stopped c.raise-raised.result (sym c.eq.ensures ∙ w.if-eq.true) in
+  | then-eq w ↦ (let is = stopped c.raise-raised.result (sym c.eq.ensures ∙ w.if-eq.true) in
       served_short c.args.circ.now c.raise-raised.new.circ c.hold.new.self c.args.arc c.args.want c.min-got.result c.args.cuts.now w.begin.new.self c.if-eq.cuts c.args.right _
       c.raise-raised.ensures.rest c.hold.ensures.held (c.min-got.ensures ∙ ap (min c.args.want) c.flow.ensures.amount) (c.raise-raised.ensures.less is)
-      w.in_ok-begin.ensures.ok (w.cuts-is ∙ w.mark.ensures) (c.raise-raised.ensures.cut is))
+      w.begin.ensures (w.cuts-is ∙ w.mark.ensures) (c.raise-raised.ensures.cut is))
   | else-eq w ↦ (let is = met c.raise-raised.result (sym c.eq.ensures ∙ w.if-eq.false) in
       served_met c.args.circ.now c.raise-raised.new.circ c.hold.new.self c.args.arc c.args.want c.min-got.result c.args.cuts.now c.if-eq.cuts c.args.right
       c.raise-raised.ensures.rest c.hold.ensures.held (c.min-got.ensures ∙ ap (min c.args.want) c.flow.ensures.amount)

@@ -1,12 +1,10 @@
 use Rattle.std.proofs.Common.{◌≡◌, ◌∙◌, false, length, arith, refl, sym, ap, subst}
 use denote.Enum.Bare.{sameb}
-use Rattle.std.proofs.lemmas.Result.{err_from_is_err_and}
 use Rattle.senior_hold.specs.declared.pulls.Turn.{Turn}
 use Rattle.senior_hold.specs.contracts.pulls.Turn.{the_type}
 use Rattle.circulation.specs.Contents.{network, flow_of}
 use Rattle.senior_hold.specs.Spilled.{spilled}
 use Rattle.senior_hold.proofs.MonthArcs.{right_kind}
-use Rattle.senior_hold.proofs.Marks.{room_lacked}
 use Rattle.senior_hold.proofs.Solves.{IsStanding, standing_next}
 use Rattle.senior_hold.proofs.SpilledArcs.{spilled_count, spilled_kinds}
 use Rattle.senior_hold.proofs.Spilled.{spilled_turn, spilled_wants, spilled_standing, has_spills}
@@ -36,7 +34,6 @@ loop-turn-init g c =
           c.begin_spilled.ensures.start c.requires.given;
       tree = c.plant.ensures;
       first = λ e. refl;
-      room = λ r h. h;
       cost = omega (arith, ap length c.by_seniority-order.ensures, o.count);
     }
 
@@ -61,58 +58,46 @@ bounds-want-place g c =
     let inside = turn_in_range c.args.basin.now c.args.layout.now.roll.order c.by_seniority-order.result.now c.loop-turn.turn o c.by_seniority-order.ensures c.loop-turn-test.true in
     omega (arith, inside, c.requires.given.wants.count)
 
-pub serve_by_tree-requires-clause-arc : goal.serve_by_tree-requires-clause-arc
-serve_by_tree-requires-clause-arc g c =
+pub serve_by_tree-turn-requires-clause-arc : goal.serve_by_tree-turn-requires-clause-arc
+serve_by_tree-turn-requires-clause-arc g c =
     let o = order_of_roll c.args.basin.now c.args.layout.now.roll c.requires.valid c.requires.layout.is_roll in
     let t = spilled_turn c.args.basin.now c.args.layout.now.roll.order c.loop-turn.turn _ c.index-arc.result.now (turn c.args.basin.now c.args.layout.now.roll.order c.by_seniority-order.result.now c.args.layout.now.arcs o c.loop-turn.turn c.index-arc.result.now c.requires.layout.are_arcs c.by_seniority-order.ensures c.loop-turn-test.true c.index-arc.ensures) in
     turn_arc (spilled c.args.basin.now) c.args.month c.args.supply.now c.args.want.now _ c.loop-turn.turn _ c.index-arc.result.now c.loop-turn.circ c.loop-turn.cuts (spilled_kinds c.args.basin.now (right_kind c.args.basin.now c.requires.valid)) t c.loop-turn.invariant.standing
 
-pub serve_by_tree-requires-clause-want : goal.serve_by_tree-requires-clause-want
-serve_by_tree-requires-clause-want g c =
+pub serve_by_tree-turn-requires-clause-want : goal.serve_by_tree-turn-requires-clause-want
+serve_by_tree-turn-requires-clause-want g c =
     let o = order_of_roll c.args.basin.now c.args.layout.now.roll c.requires.valid c.requires.layout.is_roll in
     let t = spilled_turn c.args.basin.now c.args.layout.now.roll.order c.loop-turn.turn _ c.index-arc.result.now (turn c.args.basin.now c.args.layout.now.roll.order c.by_seniority-order.result.now c.args.layout.now.arcs o c.loop-turn.turn c.index-arc.result.now c.requires.layout.are_arcs c.by_seniority-order.ensures c.loop-turn-test.true c.index-arc.ensures) in
     turn_want (spilled c.args.basin.now) c.args.month c.args.supply.now c.args.want.now _ c.loop-turn.turn _ c.index-arc.result.now c.loop-turn.circ c.loop-turn.cuts (spilled_kinds c.args.basin.now (right_kind c.args.basin.now c.requires.valid)) t
     (spilled_wants c.args.basin.now c.args.month c.args.want.now c.requires.given.wants) c.loop-turn.invariant.standing
 
-pub serve_by_tree-requires-clause-right : goal.serve_by_tree-requires-clause-right
-serve_by_tree-requires-clause-right g c =
+pub serve_by_tree-turn-requires-clause-right : goal.serve_by_tree-turn-requires-clause-right
+serve_by_tree-turn-requires-clause-right g c =
     let o = order_of_roll c.args.basin.now c.args.layout.now.roll c.requires.valid c.requires.layout.is_roll in
     let inside = turn_in_range c.args.basin.now c.args.layout.now.roll.order c.by_seniority-order.result.now c.loop-turn.turn o c.by_seniority-order.ensures c.loop-turn-test.true in
     omega (arith, inside, c.loop-turn.invariant.standing.cut_rights)
 
-pub serve_by_tree-requires-clause-free : goal.serve_by_tree-requires-clause-free
-serve_by_tree-requires-clause-free g c =
+pub serve_by_tree-turn-requires-clause-free : goal.serve_by_tree-turn-requires-clause-free
+serve_by_tree-turn-requires-clause-free g c =
     let o = order_of_roll c.args.basin.now c.args.layout.now.roll c.requires.valid c.requires.layout.is_roll in
     let t = spilled_turn c.args.basin.now c.args.layout.now.roll.order c.loop-turn.turn _ c.index-arc.result.now (turn c.args.basin.now c.args.layout.now.roll.order c.by_seniority-order.result.now c.args.layout.now.arcs o c.loop-turn.turn c.index-arc.result.now c.requires.layout.are_arcs c.by_seniority-order.ensures c.loop-turn-test.true c.index-arc.ensures) in
     turn_free (spilled c.args.basin.now) c.args.month c.args.supply.now c.args.want.now _ o c.loop-turn.turn _ c.index-arc.result.now c.loop-turn.circ c.loop-turn.cuts t c.loop-turn.invariant.standing
 
-pub returns-in_err-turn-clause-tree : goal.returns-in_err-turn-clause-tree
-returns-in_err-turn-clause-tree g c =
-    omega (arith, c.serve_by_tree.ensures.words, c.loop-turn.invariant.standing.net.ends.nodes, spilled_count c.args.basin.now)
-
-pub returns-in_err-turn-clause-room : goal.returns-in_err-turn-clause-room
-returns-in_err-turn-clause-room g c =
-    let o = order_of_roll c.args.basin.now c.args.layout.now.roll c.requires.valid c.requires.layout.is_roll in
-    let inside = turn_in_range c.args.basin.now c.args.layout.now.roll.order c.by_seniority-order.result.now c.loop-turn.turn o c.by_seniority-order.ensures c.loop-turn-test.true in
-    let p = err_from_is_err_and c.from_residual.result c.from_residual.ensures.1 in
-    rw p.1 (record { right = _; in_range = inside; no_room = room_lacked c.args.cuts.now c.loop-turn.cuts _ c.loop-turn.invariant.room c.in_err-turn.ensures.room })
-
 pub returns-then-eq-clause-tree : goal.returns-then-eq-clause-tree
 returns-then-eq-clause-tree g c =
-    omega (arith, c.serve_by_tree.ensures.words, c.loop-turn.invariant.standing.net.ends.nodes, spilled_count c.args.basin.now)
+    omega (arith, c.serve_by_tree-turn.ensures.words, c.loop-turn.invariant.standing.net.ends.nodes, spilled_count c.args.basin.now)
 
 pub loop-turn-preserved : goal.loop-turn-preserved
 loop-turn-preserved g c =
     let o = order_of_roll c.args.basin.now c.args.layout.now.roll c.requires.valid c.requires.layout.is_roll in
     let t = spilled_turn c.args.basin.now c.args.layout.now.roll.order c.loop-turn.turn _ c.index-arc.result.now (turn c.args.basin.now c.args.layout.now.roll.order c.by_seniority-order.result.now c.args.layout.now.arcs o c.loop-turn.turn c.index-arc.result.now c.requires.layout.are_arcs c.by_seniority-order.ensures c.loop-turn-test.true c.index-arc.ensures) in
-    let is = served c.in_ok-turn.turn (sym c.eq.ensures ∙ c.if-eq.false) in
+    let is = served c.serve_by_tree-turn.result (sym c.eq.ensures ∙ c.if-eq.false) in
     record {
-      standing = standing_next (spilled c.args.basin.now) c.args.month c.args.supply.now c.args.want.now c.args.layout.now.roll.order c.loop-turn.turn _ c.index-arc.result.now _ c.loop-turn.circ c.serve_by_tree.new.circ c.loop-turn.cuts c.serve_by_tree.new.cuts
-          (spilled_kinds c.args.basin.now (right_kind c.args.basin.now c.requires.valid)) t.below t.is o c.loop-turn.invariant.standing t.arc_is refl (c.in_ok-turn.ensures.served is) c.serve_by_tree.ensures.kept;
-      tree = c.in_ok-turn.ensures.tree is;
+      standing = standing_next (spilled c.args.basin.now) c.args.month c.args.supply.now c.args.want.now c.args.layout.now.roll.order c.loop-turn.turn _ c.index-arc.result.now _ c.loop-turn.circ c.serve_by_tree-turn.new.circ c.loop-turn.cuts c.serve_by_tree-turn.new.cuts
+          (spilled_kinds c.args.basin.now (right_kind c.args.basin.now c.requires.valid)) t.below t.is o c.loop-turn.invariant.standing t.arc_is refl (c.serve_by_tree-turn.ensures.served is) c.serve_by_tree-turn.ensures.kept;
+      tree = c.serve_by_tree-turn.ensures.tree is;
       first = λ e. absurd (omega arith);
-      room = λ r h. c.serve_by_tree.ensures.shape.room r (c.loop-turn.invariant.room r h);
-      cost = omega (arith, c.loop-turn.invariant.cost, c.serve_by_tree.ensures.cost);
+      cost = omega (arith, c.loop-turn.invariant.cost, c.serve_by_tree-turn.ensures.cost);
     }
 
 pub settle_plan-requires-clause-small : goal.settle_plan-requires-clause-small

@@ -1,5 +1,4 @@
-use Rattle.std.proofs.Common.{◌≡◌, ◌≤◌, ◌+◌, ◌*◌, ℕ, true, length}
-use Rattle.water_model.specs.CutSets.{has_room}
+use Rattle.std.proofs.Common.{◌≡◌, ◌≤◌, ◌+◌, ◌*◌, length}
 use Rattle.residual_tree.specs.Tree.{IsResidualTree}
 use Rattle.senior_hold.specs.Spilled.{spilled}
 use Rattle.senior_hold.proofs.Solves.{IsStanding}
@@ -10,6 +9,5 @@ invariant-loop-turn g l = record {
   standing : IsStanding (spilled l.basin) l.fn.month l.fn.supply l.want l.fn.layout.roll.order l.turn l.circ l.cuts;
   tree : IsResidualTree l.circ l.tree;
   first : l.turn ≡ 0 → l.circ ≡ l.initial.circ;
-  room : (r : ℕ) → has_room l.fn.cuts r ≡ true → has_room l.cuts r ≡ true;
   cost : l.searches + l.left ≤ l.fn.searches + 30 * length l.basin.rights;
 }

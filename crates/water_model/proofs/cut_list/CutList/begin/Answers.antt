@@ -1,27 +1,66 @@
-use Rattle.std.proofs.lemmas.Result.{err_from_is_err_and}
-use Rattle.std.proofs.Common.{◌≡◌, ◌∙◌, ℕ, false, refl, arith, ap, length, take, replicate, ◌++◌, ◌-◌, []}
-use Rattle.std.proofs.lemmas.List.{length-map}
-use Rattle.std.proofs.lemmas.Grind.{common_steps}
-use Rattle.std.specs.Prelude.{slice_get, Some}
-use Rattle.std.proofs.lemmas.Option.{slice_get_read}
-use Rattle.water_model.specs.CutInside.{set_in}
-use Rattle.water_model.proofs.CutLemmas.{unchanged, begun}
+use Rattle.std.proofs.Common.{◌≡◌, ℕ, ◌+◌, Bool, false, List, replicate, ap, sym, subst, ◌∙◌, arith}
+use Rattle.std.specs.Prelude.{Some}
+use Rattle.std.proofs.lemmas.List.{length-replicate}
+use Rattle.bit_words.proofs.Marks.{marks-zero}
+use Rattle.word_region.specs.Words.{Words}
+use Rattle.word_region.specs.declared.Place.{Place}
+use Rattle.water_model.specs.CutInside.{cut_sets, KeepsSets}
+use Rattle.water_model.specs.CutSets.{CutSets, with_set}
+use Rattle.water_model.proofs.CutLemmas.{Begins, next_fits, begun, begun_keeps, begun_sets}
+use Rattle.water_model.proofs.CutSteps.{is_right, is_free, began}
 use Rattle.water_model.proofs.cut_list.CutList.begin.Goals as goal
 
-from_empty : (n : ℕ) → take n [] ++ replicate (n - 0) false ≡ replicate n false
-from_empty n = grind (arith, common_steps)
+pub next_place-place-requires : goal.next_place-place-requires
+next_place-place-requires c =
+    let i = c.self.inside in
+    let b = is_right i.rights i.nodes i.region.words c.args.self.now c.args.right c.self.view_is c.requires.right in
+    let none =
+    is_free i.rights i.nodes i.region.words c.args.self.now c.args.right c.self.view_is c.requires.right
+    c.requires.free in
+    omega (arith, c.words_for.ensures, next_fits i.rights i.nodes i.region c.args.right c.self.invariant b none)
 
-pub returns-in_err-resize-clause-err : goal.returns-in_err-resize-clause-err
-returns-in_err-resize-clause-err c =
-    let p = err_from_is_err_and c.from_residual.result c.from_residual.ensures.1 in
-    rw (p.1, ← c.self.view_is) (unchanged c.self.inside.nodes c.self.inside.slots.items c.args.right c.index_mut-slot.result.now _ found refl refl (rw (← c.self.view_is) at c.requires.free))
-  where
-    found : slice_get c.self.inside.slots.items c.args.right ≡ Some c.index_mut-slot.result.now
-    found = slice_get_read c.self.inside.slots.items _ c.args.right c.index_mut-slot.result.now refl
-        (omega (arith, ap (λ v. length v.sets) c.self.view_is, length-map c.self.inside.slots.items set_in, c.requires.right)) c.index_mut-slot.ensures.value
+pub set-requires-clause-at : goal.set-requires-clause-at
+set-requires-clause-at c =
+    let i = c.self.inside in
+    let b = is_right i.rights i.nodes i.region.words c.args.self.now c.args.right c.self.view_is c.requires.right in
+    omega (arith, b, ap (λ (p : Place). p.len) c.rights_place.ensures)
 
-pub returns-clause-ok : goal.returns-clause-ok
-returns-clause-ok c = rw (← c.self.view_is) (begun c.self.inside.nodes c.self.inside.slots.items c.args.right _ _ refl refl items)
-  where
-    items : c.resize.new.self.items ≡ replicate c.self.inside.nodes false
-    items = let a = c.in_ok-resize.ensures.items in let b = rw (c.clear.ensures.items, c.clear.ensures.len) at a in b ∙ from_empty c.self.inside.nodes
+begins : (c : goal.After-set) →
+    Begins c.self.inside.rights c.self.inside.nodes c.self.inside.region c.args.right (replicate c.words_for.result 0)
+begins c =
+    let i = c.self.inside in
+    let seen = c.args.self.now in
+    record {
+      keeps = c.self.invariant;
+      is_right = is_right i.rights i.nodes i.region.words seen c.args.right c.self.view_is c.requires.right;
+      free = is_free i.rights i.nodes i.region.words seen c.args.right c.self.view_is c.requires.right c.requires.free;
+      size = length-replicate {A = ℕ} c.words_for.result 0 ∙ c.words_for.ensures;
+    }
+
+ends : (c : goal.After-set) → c.set.new.self ≡ record {
+  words = begun c.self.inside.region c.args.right (replicate c.words_for.result 0);
+  used = c.self.inside.region.used + c.words_for.result;
+}
+ends c =
+    began c.self.inside.region c.next_place-place.new.region c.set.new.self c.next_place-place.result
+    c.rights_place.result
+    c.args.right c.words_for.result c.self.inside.rights c.next_place-place.ensures.taken
+    c.next_place-place.ensures.place
+    c.rights_place.ensures c.set.ensures
+
+pub invariant_of-self : goal.invariant_of-self
+invariant_of-self c =
+    let i = c.self.inside in
+    subst (KeepsSets i.rights i.nodes) (sym (ends c))
+    (begun_keeps i.rights i.nodes i.region c.args.right (replicate c.words_for.result 0)
+    (i.region.used + c.words_for.result)
+    (begins c) (ap (λ (n : ℕ). i.region.used + n) c.words_for.ensures))
+
+pub returns : goal.returns
+returns c =
+    let i = c.self.inside in
+    ap (λ (r : Words). cut_sets i.rights i.nodes r.words) (ends c)
+    ∙ begun_sets i.rights i.nodes i.region c.args.right (replicate c.words_for.result 0) (begins c)
+    ∙ ap (λ (set : List Bool). with_set (cut_sets i.rights i.nodes i.region.words) c.args.right (Some set))
+    (marks-zero i.nodes c.words_for.result)
+    ∙ ap (λ (v : CutSets). with_set v c.args.right (Some (replicate v.nodes false))) c.self.view_is

@@ -1,0 +1,36 @@
+-- What is written to the words of the nodes, and to the marks beside them.
+use Rattle.std.proofs.Common.{ℕ, true, ◌≡◌, ◌==◌, ◌+◌, ◌-◌, ◌/◌, ◌%◌, ◌^◌, ◌<◌, List, length, replicate, arith, ap, sym, subst, ◌∙◌}
+use Rattle.std.specs.Int.{bit_at}
+use Rattle.std.proofs.lemmas.List.{get_or-replicate, length-replicate}
+use Rattle.std.proofs.lemmas.Nat.Bits.{bit_at_ones}
+use Rattle.bit_words.specs.Marks.{words_for, is_marked}
+use Rattle.residual_tree.specs.Tree.{word_of}
+use Rattle.residual_tree.specs.DryMarks.{HasDryMarks}
+
+-- where all bits are 1, all places are marked
+full : (m v : ℕ) → v / 64 < m → is_marked (replicate m (2 ^ 64 - 1)) v ≡ true
+full m v b =
+    let bit : v % 64 < 64 = omega arith in
+    ap (λ (w : ℕ). bit_at w (v % 64) == 1) (get_or-replicate m (v / 64) (2 ^ 64 - 1) 0 b) ∙
+    ap (λ (b : ℕ). b == 1) (bit_at_ones 64 (v % 64) bit)
+
+-- all nodes are dry
+all_marked : (n nodes : ℕ) → n ≡ nodes + 1 → HasDryMarks (replicate n 0) (replicate (words_for nodes) (2 ^ 64 - 1))
+all_marked n nodes is =
+    let long : length {A = ℕ} (replicate n 0) ≡ n = length-replicate n 0 in
+    let short : length {A = ℕ} (replicate n 0) - 1 ≡ nodes = omega (arith, long, is) in
+    record {
+      outside = omega (arith, long, is);
+      count = length-replicate (words_for nodes) (2 ^ 64 - 1) ∙ ap words_for (sym short);
+      marks = λ v b.
+          let zero : word_of (replicate n 0) v ≡ 0 = get_or-replicate n v 0 0 (omega (arith, b, long)) in
+          full (words_for nodes) v (omega (arith, b, long, is)) ∙ ap (λ (w : ℕ). w == 0) (sym zero);
+    }
+
+-- the words of all nodes are 0, and all bits are 1
+pub marked_all : (way dry : List ℕ) (n m nodes : ℕ) → n ≡ nodes + 1 → m ≡ words_for nodes → way ≡ replicate n 0 →
+    dry ≡ replicate m (2 ^ 64 - 1) → HasDryMarks way dry
+marked_all way dry n m nodes is count none full =
+    subst (λ (x : List ℕ). HasDryMarks x dry) (sym none)
+    (subst (λ (x : List ℕ). HasDryMarks (replicate n 0) x) (sym full)
+    (subst (λ (k : ℕ). HasDryMarks (replicate n 0) (replicate k (2 ^ 64 - 1))) (sym count) (all_marked n nodes is)))
