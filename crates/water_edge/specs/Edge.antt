@@ -1,5 +1,5 @@
 -- What a call of a shelf or a sink answers, and what it leaves behind.
-use Rattle.std.specs.Prelude.{◌≡◌, ℕ, ◌+◌, ◌-◌, ◌^◌, ◌<◌, ◌≤◌, min, List, length, take, ⊤, Option, None, Some, Result, Ok, Err, Vec}
+use Rattle.std.specs.Prelude.{◌≡◌, ℕ, ◌+◌, ◌-◌, ◌^◌, ◌<◌, ◌≤◌, min, List, length, take, drop, ⊤, Option, None, Some, IfSome, Result, Ok, Err, Vec}
 use Rattle.std.specs.declared.alloc.Global.{Global}
 use Rattle.std.specs.Io.KnownBytes.{Appends}
 use Rattle.water_edge.specs.declared.shelf.ShelfRefused.{ShelfRefused}
@@ -31,12 +31,20 @@ ReadsWhole (Some whole) limit (Err TooLong) = limit < length whole
 ReadsWhole (Some whole) limit (Err Failed) = ⊤
 ReadsWhole (Some whole) limit (Err OutOfMemory) = ⊤
 
+-- the first `count` bytes of a buffer are those of a file from a place on, and the others stay; there are none only
+-- where the buffer is empty or the file has no byte from there on
+pub record IsPart (whole : List ℕ) (from : ℕ) (old new : List ℕ) (count : ℕ) : Type 0 where
+  pub there : 0 < count → from + count ≤ length whole
+  pub front : take count new ≡ take count (drop from whole)
+  pub behind : drop count new ≡ drop count old
+  pub ended : count ≡ 0 → 0 < length old → length whole ≤ from
+
+-- a part fits into the buffer, and where the file is told it is a part of that
+abbrev pub ReadsPart : Option (List ℕ) → ℕ → List ℕ → List ℕ → Result ℕ ShelfRefused → Type 0
+ReadsPart told from old new (Ok count) = (count ≤ length old) × IfSome told (λ whole. IsPart whole from old new count)
+ReadsPart told from old new (Err _) = ⊤
+
 -- the told bytes grow by the whole piece, or after a failure by a front of it
 abbrev pub Puts : {E : Type 0} → Option (List ℕ) → Option (List ℕ) → Result (Unit {0}) E → List ℕ → Type 0
 Puts old new (Ok _) piece = Appends old new piece
 Puts old new (Err _) piece = (count : ℕ) × (count ≤ length piece) × Appends old new (take count piece)
-
--- a sink over a writer: the bytes that the writer holds, where it tells them, and how many calls failed
-pub record WriterState : Type 0 where
-  pub bytes : Option (List ℕ)
-  pub faults : ℕ

@@ -1,5 +1,5 @@
 -- A shelf and a sink in memory, as contracts see them.
-use Rattle.std.specs.Prelude.{ℕ, ◌+◌, ◌<◌, List, [], ◌∷◌, ◌++◌, length, Contains, ◌⊎◌, Option, None, Some, IsNone, Result, Ok, Err, Vec, String, string_bytes, if◌then◌else◌}
+use Rattle.std.specs.Prelude.{ℕ, ◌+◌, ◌-◌, ◌<◌, min, List, [], ◌∷◌, ◌++◌, length, Contains, ◌⊎◌, Option, None, Some, IsNone, Result, Ok, Err, Vec, String, string_bytes, if◌then◌else◌}
 use Rattle.std.specs.Str.{bytes_eq}
 use Rattle.std.specs.declared.alloc.Global.{Global}
 use Rattle.water_edge.specs.declared.shelf.ShelfRefused.{ShelfRefused}
@@ -20,9 +20,11 @@ abbrev pub file_of : List NamedFile → List ℕ → Option (List ℕ)
 file_of [] name = None
 file_of (file ∷ files) name = if bytes_eq file.name name then Some file.bytes else file_of files name
 
--- a shelf: its files, the numbers of the calls that are to fail, and how many calls there were and failed
+-- a shelf: its files, how many bytes a part may have, the numbers of the calls that are to fail, and how many calls
+-- there were and failed
 pub record ShelfState : Type 0 where
   pub files : List NamedFile
+  pub most : ℕ
   pub failing : List ℕ
   pub calls : ℕ
   pub faults : ℕ
@@ -32,9 +34,13 @@ abbrev pub FailsToRead : ShelfState → List ℕ → Type 0
 FailsToRead shelf name = Contains shelf.failing shelf.calls ⊎ IsNone (file_of shelf.files name)
 
 -- the shelf after a call: one call more, and one fault more where it failed
-abbrev pub after_read : ShelfState → Result (Vec ℕ Global) ShelfRefused → ShelfState
+abbrev pub after_read : {T : Type 0} → ShelfState → Result T ShelfRefused → ShelfState
 after_read shelf (Err Failed) = record shelf { calls = next_count shelf.calls; faults = next_count shelf.faults }
 after_read shelf _ = record shelf { calls = next_count shelf.calls }
+
+-- how many bytes a part has: those that there are from a place on, as far as they fit and a part may have them
+abbrev pub part_length : ShelfState → List ℕ → ℕ → ℕ → ℕ
+part_length shelf whole from room = min (min room shelf.most) (length whole - from)
 
 -- a sink: the bytes taken, how many there may be, the numbers of the calls that are to fail, and how many there were and failed
 pub record SinkState : Type 0 where

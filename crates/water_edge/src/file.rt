@@ -1,16 +1,25 @@
-//! The edge to the system: a shelf over its files, and a sink over a writer of std.
-ghost use Rattle.std.specs.Prelude.{◌≡◌, ◌≤◌, None, ⊤, IfOk, vec_len};
-ghost use Rattle.water_edge.specs.Edge.{ReadsWhole, Puts};
+//! The edge to the system's files: a shelf over them.
+ghost use Rattle.std.specs.Prelude.{◌≡◌, ◌≤◌, None, ⊤, IfOk, IfSome, length, vec_len};
+ghost use Rattle.water_edge.specs.Edge.{ReadsWhole};
 
-use crate::{Shelf, ShelfRefused, Sink, SinkFailed};
+use crate::{Shelf, ShelfRefused};
+use arrayvec::ArrayString;
 use std::alloc::Global;
 use std::fs::File;
-use std::io::{Read, Write};
+use std::io::{Read, Seek, SeekFrom};
 use std::marker::Model;
 use std::rt::Files;
 
+<<<<<<< ours
 /// How many bytes one read asks for.
 const PIECE: usize = 65_536;
+=======
+/// How many bytes one read of a whole file asks for.
+const PIECE: usize = 4096;
+>>>>>>> theirs
+
+/// How many bytes the name of a file that is read in parts may have, which is the system's limit for a path.
+const LONGEST_NAME: usize = 4096;
 
 /// All that a reader has left, if that is at most `limit` bytes.
 fn read_within<F: Read>(reader: &mut F, alloc: Global, limit: u64) -> Result<Vec<u8>, ShelfRefused>
@@ -35,19 +44,73 @@ fn read_within<F: Read>(reader: &mut F, alloc: Global, limit: u64) -> Result<Vec
     }
 }
 
-/// Writes a whole piece and flushes it, or a front of it.
-fn write_whole<W: Write>(writer: &mut W, piece: &[u8]) -> Result<(), SinkFailed>
-    ensures { Puts (W.contents writer.old) (W.contents writer.new) result piece.now }
-{
-    let mut rest = piece;
-    while !rest.is_empty() {
-        match writer.write(rest) {
-            Ok(0) => return Err(SinkFailed),
-            Ok(count) => rest = &rest[count..],
-            Err(_) => return Err(SinkFailed),
-        }
+/// A file that is open to be read in parts, its name, and the place where it stands.
+#[derive(Drop)]
+struct Opened<F> {
+    name: ArrayString<LONGEST_NAME>,
+    file: F,
+    place: u64,
+}
+
+impl<F> Opened<F> {
+    /// Whether a read of the named file from a place on can go on with this one. From 0 on it begins anew, unless
+    /// nothing was read yet.
+    fn serves(&self, name: &str, from: u64) -> bool {
+        self.name.as_str() == name && (from > 0 || self.place == 0)
     }
-    writer.flush().map_err(|_| SinkFailed)
+}
+
+impl<F: Read + Seek> Opened<F> {
+    /// One read from a place on, with a seek where the file stands elsewhere. None where one of them fails.
+    fn read_from(&mut self, from: u64, into: &mut [u8]) -> Option<usize>
+        ensures { IfSome result (λ count. count ≤ length into.old) }
+    {
+        if self.place != from {
+            self.file.seek(SeekFrom::Start(from)).ok()?;
+        }
+        let count = self.file.read(into).ok()?;
+        self.place = from.saturating_add(count as u64);
+        Some(count)
+    }
+}
+
+/// Opens a file, which stands at its beginning. None where its name is too long or std's `open` fails.
+fn open<R: Files>(rt: &R, name: &str) -> Option<Opened<R::File>> {
+    let kept = ArrayString::from(name).ok()?;
+    let file = File::open(rt, name).ok()?;
+    Some(Opened {
+        name: kept,
+        file,
+        place: 0,
+    })
+}
+
+/// One read of a part, by the file that is open where it serves. After a failure, None, no file is open, since
+/// nobody knows where it stands.
+fn read_on<R: Files>(
+    rt: &R,
+    opened: &mut Option<Opened<R::File>>,
+    name: &str,
+    from: u64,
+    into: &mut [u8],
+) -> Option<usize>
+    ensures { IfSome result (λ count. count ≤ length into.old) }
+{
+    let is_open = match opened {
+        Some(file) => file.serves(name, from),
+        None => false,
+    };
+    if !is_open {
+        *opened = open(rt, name);
+    }
+    let count = match opened {
+        Some(file) => file.read_from(from, into),
+        None => None,
+    };
+    if count.is_none() {
+        *opened = None;
+    }
+    count
 }
 
 /// The files of a runtime. It serves every name, as a path, and tells no bytes. Contracts see it as how many calls
@@ -55,6 +118,7 @@ fn write_whole<W: Write>(writer: &mut W, piece: &[u8]) -> Result<(), SinkFailed>
 #[derive(Drop)]
 pub struct FileShelf<'a, R: Files> {
     rt: &'a R,
+    opened: Option<Opened<R::File>>,
     faults: u64,
 }
 
@@ -71,7 +135,11 @@ impl<'a, R: Files> FileShelf<'a, R> {
     pub fn new(rt: &'a R) -> FileShelf<'a, R>
         ensures { result ≡ 0 }
     {
-        FileShelf { rt, faults: 0 }
+        FileShelf {
+            rt,
+            opened: None,
+            faults: 0,
+        }
     }
 }
 
@@ -98,48 +166,20 @@ impl<'a, R: Files> Shelf for FileShelf<'a, R> {
         }
         answer
     }
-}
 
-/// A writer of std, as a file or a standard stream. It tells what the writer tells. Contracts see it as these bytes and
-/// how many calls failed.
-#[derive(Drop)]
-pub struct StdSink<W: Write + Drop> {
-    writer: W,
-    faults: u64,
-}
-
-impl<W: Write + Drop> Model for StdSink<W> {
-    ghost use Rattle.water_edge.specs.Edge.{WriterState};
-
-    ghost Value = { WriterState };
-
-    ghost view = { λ s. record { bytes = W.contents s.writer; faults = s.faults } };
-}
-
-impl<W: Write + Drop> StdSink<W> {
-    /// A sink over this writer. No call failed yet.
-    pub fn new(writer: W) -> StdSink<W>
-        ensures { result ≡ record { bytes = W.contents writer; faults = 0 } }
-    {
-        StdSink { writer, faults: 0 }
-    }
-}
-
-impl<W: Write + Drop> Sink for StdSink<W> {
-    ghost taken = { λ s. s.bytes };
-
-    ghost faults = { λ s. s.faults };
-
-    /// Fails where std's `write` or `flush` does, or `write` takes nothing of a rest.
+    /// One read of std, so that a part may be shorter than the buffer though more follows. Fails where std's `open`,
+    /// `seek` or `read` does, and where the name has more than 4,096 bytes.
     ///
-    /// std's files and standard streams hand each write to the system at once, so a piece costs one call of it, and
-    /// their `flush` does nothing. A writer with a buffer is flushed here, since what it kept could fail later with
-    /// nobody to tell.
-    fn put(&mut self, bytes: &[u8]) -> Result<(), SinkFailed> {
-        let answer = write_whole(&mut self.writer, bytes);
-        if answer.is_err() {
-            self.faults = self.faults.saturating_add(1);
+    /// The file stays open, and where a call asks for what follows the last part it is only read on: so a pipe can be
+    /// read. From 0 on the file is opened anew, unless nothing of it was read yet. From any other place on it seeks,
+    /// which fails for a pipe.
+    fn read_part(&mut self, name: &str, from: u64, into: &mut [u8]) -> Result<usize, ShelfRefused> {
+        match read_on(self.rt, &mut self.opened, name, from, into) {
+            Some(count) => Ok(count),
+            None => {
+                self.faults = self.faults.saturating_add(1);
+                Err(ShelfRefused::Failed)
+            }
         }
-        answer
     }
 }

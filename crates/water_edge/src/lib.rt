@@ -8,8 +8,12 @@ mod file;
 mod memory;
 mod shelf;
 mod sink;
+mod stream;
+#[cfg(test)]
+mod tests;
 
-pub use file::{FileShelf, StdSink};
+pub use file::FileShelf;
 pub use memory::{MemoryShelf, MemorySink};
 pub use shelf::{Shelf, ShelfRefused};
 pub use sink::{Sink, SinkFailed};
+pub use stream::StdSink;

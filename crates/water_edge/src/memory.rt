@@ -1,8 +1,9 @@
 //! A shelf and a sink in memory, which fail where they are told to.
-ghost use Rattle.std.specs.Prelude.{◌≡◌, ◌+◌, ◌≤◌, ◌↔◌, [], None, Some, ⊤, Contains, IfOk, IfSome, IsErr, IsErrOf, IsTrue, option_map, map, length, vec_len};
+ghost use Rattle.std.specs.Prelude.{◌≡◌, ◌+◌, ◌-◌, ◌^◌, ◌<◌, ◌≤◌, ◌↔◌, min, [], None, Some, ⊤, Contains, IfOk, IfSome, IsErr, IsErrOf, IsOk, IsTrue, OnOk, option_map, map, length, vec_len};
+ghost use Rattle.std.specs.Io.KnownBytes.{Keeps};
 ghost use Rattle.water_edge.specs.declared.shelf.ShelfRefused.TheVariants.{Failed, OutOfMemory};
-ghost use Rattle.water_edge.specs.Edge.{next_count, HasCause, SameShelf, ReadsWhole, Puts};
-ghost use Rattle.water_edge.specs.Memory.{plain_file, file_of, after_read, after_put, FailsToRead, FailsToPut};
+ghost use Rattle.water_edge.specs.Edge.{next_count, HasCause, IsPart, SameShelf, ReadsPart, ReadsWhole, Puts};
+ghost use Rattle.water_edge.specs.Memory.{plain_file, file_of, part_length, after_read, after_put, FailsToRead, FailsToPut};
 
 use crate::{Shelf, ShelfRefused, Sink, SinkFailed};
 use std::alloc::{AllocError, Global};
@@ -59,36 +60,55 @@ fn find<'a>(files: &'a [(String, Vec<u8>)], name: &str) -> Option<&'a [u8]>
     None
 }
 
+/// Copies bytes of a file from a place on to the front of a buffer, at most `most` of them, and answers how many.
+fn copy_part(whole: &[u8], from: u64, most: usize, into: &mut [u8]) -> usize
+    requires { 0 < most }
+    ensures part { IsPart whole.now from into.old into.new result }
+    ensures count { result ≡ min (min (length into.old) most) (length whole.now - from) }
+{
+    let start = whole.len().min(from as usize);
+    let rest = &whole[start..];
+    let count = into.len().min(most).min(rest.len());
+    into[..count].copy_from_slice(&rest[..count]);
+    count
+}
+
 /// Files in memory. It serves every name and tells the bytes of each file; of two files of one name the first counts.
 ///
-/// Its calls are numbered from 0. Contracts see it as its files, the numbers of the calls that are to fail, how many
-/// calls there were, which is the number of the next, and how many failed. Both counts begin at 0 and stand still at
-/// 2^64 - 1.
+/// Its calls are numbered from 0. Contracts see it as its files, how many bytes a part may have, the numbers of the
+/// calls that are to fail, how many calls there were, which is the number of the next, and how many failed. Both counts
+/// begin at 0 and stand still at 2^64 - 1.
 #[derive(Drop)]
 pub struct MemoryShelf {
     files: Vec<(String, Vec<u8>)>,
+    most: usize,
     calls: Calls,
 }
 
 impl Model for MemoryShelf {
-    ghost use Rattle.std.specs.Prelude.{map};
+    ghost use Rattle.std.specs.Prelude.{◌<◌, map};
     ghost use Rattle.water_edge.specs.Memory.{ShelfState, plain_file};
 
     ghost Value = { ShelfState };
 
     ghost view = { λ s. record {
       files = map plain_file s.files.items;
+      most = s.most;
       failing = s.calls.failing.items;
       calls = s.calls.made;
       faults = s.calls.faults;
     } };
+
+    ghost invariant = { λ s. 0 < s.most };
 }
 
 impl MemoryShelf {
-    /// A shelf of these names and files, whose calls of the numbers in `failing` fail. It had no call yet.
+    /// A shelf of these names and files, whose calls of the numbers in `failing` fail. It had no call yet, and a part
+    /// has all the bytes that fit.
     pub fn new(files: Vec<(String, Vec<u8>)>, failing: Vec<u64>) -> MemoryShelf
         ensures { result ≡ record {
           files = map plain_file files.items;
+          most = 2 ^ 64 - 1;
           failing = failing.items;
           calls = 0;
           faults = 0;
@@ -96,7 +116,20 @@ impl MemoryShelf {
     {
         MemoryShelf {
             files,
+            most: usize::MAX,
             calls: Calls::new(failing),
+        }
+    }
+
+    /// The same shelf, of which a part has at most so many bytes, as a pipe gives them.
+    pub fn in_pieces(self, most: usize) -> MemoryShelf
+        requires { 0 < most }
+        ensures { result ≡ record self { most = most } }
+    {
+        MemoryShelf {
+            files: self.files,
+            most,
+            calls: self.calls,
         }
     }
 }
@@ -138,6 +171,35 @@ impl Shelf for MemoryShelf {
             return Err(ShelfRefused::TooLong);
         }
         Vec::from_slice(alloc, bytes).map_err(|_| ShelfRefused::OutOfMemory)
+    }
+
+    /// Fails exactly where the number of the call is listed or there is no file of the name. A part has all the bytes
+    /// that there are from the place on and that fit, or as many as a part may have.
+    fn read_part(&mut self, name: &str, from: u64, into: &mut [u8]) -> Result<usize, ShelfRefused>
+        ensures part { ReadsPart (file_of self.old.files name.now) from into.old into.new result }
+        ensures length { length into.new ≡ length into.old }
+        ensures same { SameShelf (file_of self.old.files) (file_of self.new.files)
+            (λ _. ⊤) (λ _. ⊤) }
+        ensures only { IsErr result → IsErrOf result Failed }
+        ensures cause { HasCause self.old.faults self.new.faults (IsErrOf result Failed) }
+
+        // Beyond what each shelf promises.
+        ensures fails { IsErrOf result Failed ↔ FailsToRead self.old name.now }
+        ensures count { IfOk result (λ count. IfSome (file_of self.old.files name.now)
+            (λ whole. count ≡ part_length self.old whole from (length into.old))) }
+        ensures after { self.new ≡ after_read self.old result }
+    {
+        if self.calls.begin() {
+            self.calls.fail();
+            return Err(ShelfRefused::Failed);
+        }
+        match find(&self.files, name) {
+            Some(whole) => Ok(copy_part(whole, from, self.most, into)),
+            None => {
+                self.calls.fail();
+                Err(ShelfRefused::Failed)
+            }
+        }
     }
 }
 
@@ -202,6 +264,8 @@ impl MemorySink {
 impl Sink for MemorySink {
     ghost taken = { λ sink. Some sink.bytes };
 
+    ghost handed = { λ sink. Some sink.bytes };
+
     ghost faults = { λ sink. sink.faults };
 
     /// Fails exactly where the number of the call is listed or the piece is longer than the free room, and then
@@ -223,6 +287,19 @@ impl Sink for MemorySink {
             return Err(SinkFailed);
         }
         self.bytes.extend_from_slice(bytes).unwrap();
+        Ok(())
+    }
+
+    /// Never fails, and is no call of the count, since nothing is kept back.
+    fn flush(&mut self) -> Result<(), SinkFailed>
+        ensures bytes { Keeps (Some self.old.bytes) (Some self.new.bytes) }
+        ensures all { OnOk result (Some self.new.bytes ≡ Some self.new.bytes) }
+        ensures cause { HasCause self.old.faults self.new.faults (IsErr result) }
+
+        // Beyond what each sink promises.
+        ensures fine { IsOk result }
+        ensures same { self.new ≡ self.old }
+    {
         Ok(())
     }
 }

@@ -1,7 +1,7 @@
 //! A shelf serves files by name.
-ghost use Rattle.std.specs.Prelude.{◌≤◌, List, ℕ, Option, IfOk, IsErrOf, vec_len};
+ghost use Rattle.std.specs.Prelude.{◌≡◌, ◌≤◌, List, ℕ, Option, IfOk, IsErr, IsErrOf, length, vec_len};
 ghost use Rattle.water_edge.specs.declared.shelf.ShelfRefused.TheVariants.{Failed};
-ghost use Rattle.water_edge.specs.Edge.{HasCause, SameShelf, ReadsWhole};
+ghost use Rattle.water_edge.specs.Edge.{HasCause, SameShelf, ReadsPart, ReadsWhole};
 
 use std::alloc::Global;
 
@@ -43,5 +43,23 @@ pub trait Shelf {
         ensures within { IfOk result (λ bytes. vec_len bytes ≤ limit) }
         ensures bytes { ReadsWhole (told self.old name.now) limit result }
         ensures same { SameShelf (told self.old) (told self.new) (serves self.old) (serves self.new) }
+        ensures cause { HasCause (faults self.old) (faults self.new) (IsErrOf result Failed) };
+
+    /// A part of the file under a served name: bytes from place `from` on are written to the front of `into`, and the
+    /// answer is how many. It takes no memory.
+    ///
+    /// - `Ok(0)` comes only where `into` is empty or the file has no byte at or behind `from`. Where bytes are told,
+    ///   the part has the told ones, and what is behind it in `into` stays.
+    /// - `Failed` comes only where this call counted a fault. A name without a file is a fault. What `into` holds then
+    ///   is not said.
+    /// - `TooLong` and `OutOfMemory` never come.
+    ///
+    /// Each answer leaves the told bytes as they were, and serves the names that were served.
+    fn read_part(&mut self, name: &str, from: u64, into: &mut [u8]) -> Result<usize, ShelfRefused>
+        requires { serves self.old name.now }
+        ensures part { ReadsPart (told self.old name.now) from into.old into.new result }
+        ensures length { length into.new ≡ length into.old }
+        ensures same { SameShelf (told self.old) (told self.new) (serves self.old) (serves self.new) }
+        ensures only { IsErr result → IsErrOf result Failed }
         ensures cause { HasCause (faults self.old) (faults self.new) (IsErrOf result Failed) };
 }

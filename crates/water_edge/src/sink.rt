@@ -1,5 +1,6 @@
 //! A sink takes bytes.
-ghost use Rattle.std.specs.Prelude.{List, ℕ, Option, IsErr};
+ghost use Rattle.std.specs.Prelude.{◌≡◌, List, ℕ, Option, IsErr, OnOk};
+ghost use Rattle.std.specs.Io.KnownBytes.{Keeps};
 ghost use Rattle.water_edge.specs.Edge.{HasCause, Puts};
 
 /// A piece could not be written whole. The sink has counted a fault.
@@ -9,19 +10,33 @@ pub struct SinkFailed;
 /// What takes bytes, piece after piece.
 ///
 /// A sink that knows what it took tells it. One that doesn't, as a sink over a stream of the system, tells none, and
-/// its answers say nothing of bytes.
+/// its answers say nothing of bytes. What it took it may keep back until it is flushed, and loses none of it by a
+/// later failure of its own.
 pub trait Sink {
     /// The bytes that it took so far, or None where the sink doesn't tell them.
     ghost taken: { Self → Option (List ℕ) };
 
+    /// The bytes that it handed on to whoever reads them, where it tells them: a front of those taken. The rest it
+    /// keeps back until it is full or flushed.
+    ghost handed: { Self → Option (List ℕ) };
+
     /// How many calls have failed. The count never falls, and stands still at 2^64 - 1.
     ghost faults: { Self → ℕ };
 
-    /// Appends a piece to what was taken.
+    /// Appends a piece to what was taken. It may be kept back.
     ///
     /// `Ok`: the whole piece was appended. `SinkFailed` comes only where this call counted a fault: a front of the
     /// piece was then appended, and maybe nothing. What was taken before stays in both cases.
     fn put(&mut self, bytes: &[u8]) -> Result<(), SinkFailed>
         ensures bytes { Puts (taken self.old) (taken self.new) result bytes.now }
+        ensures cause { HasCause (faults self.old) (faults self.new) (IsErr result) };
+
+    /// Hands on all that was taken.
+    ///
+    /// `SinkFailed` comes only where this call counted a fault: a front was handed on then, and the rest is kept. The
+    /// bytes taken stay in both cases.
+    fn flush(&mut self) -> Result<(), SinkFailed>
+        ensures bytes { Keeps (taken self.old) (taken self.new) }
+        ensures all { OnOk result (handed self.new ≡ taken self.new) }
         ensures cause { HasCause (faults self.old) (faults self.new) (IsErr result) };
 }

@@ -1,0 +1,20 @@
+-- A sink over a writer, as contracts see it.
+use Rattle.std.specs.Prelude.{◌≡◌, ℕ, ◌≤◌, List, length, take, drop, Option}
+use Rattle.std.specs.Io.KnownBytes.{Appends, append_known}
+
+-- a sink: the bytes that the writer holds, where it tells them, those kept back, and how many calls failed
+pub record WriterState : Type 0 where
+  pub bytes : Option (List ℕ)
+  pub kept : List ℕ
+  pub faults : ℕ
+
+-- the bytes that the sink took: those kept back come behind those that the writer holds
+abbrev pub taken_bytes : WriterState → Option (List ℕ)
+taken_bytes sink = append_known sink.bytes sink.kept
+
+-- the writer took a front of what was kept, and the rest is kept
+pub record HandsOn (old new : WriterState) : Type 0 where
+  pub count : ℕ
+  pub within : count ≤ length old.kept
+  pub written : Appends old.bytes new.bytes (take count old.kept)
+  pub left : new.kept ≡ drop count old.kept
