@@ -5,21 +5,20 @@
 #![tactic(auto)]
 
 ghost use Rattle.std.specs.Prelude.{◌≡◌, ◌+◌, ◌*◌, ◌<◌, ◌≤◌, ◌^◌, ◌&&◌, not, max, All, if◌then◌else◌, length, slice_index, IsTrue, ◌↔◌};
-ghost use Rattle.place_sums.specs.Sums.{total, total_where};
-ghost use Rattle.water_text.specs.Months.{IsMonth};
+ghost use Rattle.place_sums.specs.Sums.{total, total_where, when};
+ghost use Rattle.water_text.specs.Months.{IsMonth, days_of};
 ghost use Rattle.water_model.specs.Lookups.{has};
 ghost use Rattle.water_model.specs.Basin.{is_on_link, instream_link, is_senior, taking_node};
-ghost use Rattle.water_model.specs.Plans.{carry_of};
+ghost use Rattle.water_model.specs.Plans.{carry_of, carry_of_kind};
 ghost use Rattle.water_model.specs.Cuts.{enters, leaves, takes_within, kept_on, cut_bound, Separates, IsTight};
-ghost use Rattle.water_model.specs.Valid.{IsValidBasin};
+ghost use Rattle.water_model.specs.Valid.{IsValidBasin, IsValidCarry};
 ghost use Rattle.rights_roll.specs.Rolls.{IsRollOf};
 ghost use Rattle.cut_cert.specs.Sets.{cut_at, HasCut, AreAmounts};
 
 use rights_roll::priority::is_senior;
 use rights_roll::roll::Roll;
-use water_model::calls::carry_of;
 use water_model::cut_list::CutList;
-use water_model::types::{Basin, RightKind};
+use water_model::types::{Basin, Carry, RightKind};
 use water_text::month::Month;
 
 /// Whether a right's set holds a node.
@@ -109,24 +108,6 @@ fn supply_in(cuts: &CutList, right: u32, supply: &[u64]) -> u64
     sum
 }
 
-/// What the links that enter a right's set can bring in.
-#[tactic(auto, using(place_sums::proofs::Totals::sums))]
-fn carry_in(basin: &Basin, month: Month, right: u32, cuts: &CutList) -> u64
-    requires basin { IsValidBasin basin.now }
-    requires month { IsMonth month }
-    requires cut { HasCut basin.now cuts.now right }
-    ensures sum { result ≡ total_where (length basin.now.links) (λ e. enters basin.now (cut_at cuts.now right) e) (λ e. carry_of basin.now month e) }
-    ensures small { result ≤ 4000 * 10 ^ 15 }
-{
-    let mut sum = 0;
-    for link in 0..basin.links.len() as u32 {
-        if enters(basin, cuts, right, link) {
-            sum += carry_of(basin, link, month);
-        }
-    }
-    sum
-}
-
 /// What is kept so far, or what one right more keeps if it is senior.
 fn kept_with(basin: &Basin, delivered: &[u64], right: u32, holder: u32, kept: u64) -> u64
     requires delivered { length delivered.now ≡ length basin.now.rights }
@@ -157,24 +138,107 @@ pub fn kept_on(basin: &Basin, roll: &Roll, delivered: &[u64], right: u32, link: 
     kept
 }
 
-/// What seniors keep on the links that leave a right's set, other than the right's own link.
-#[tactic(auto, using(place_sums::proofs::Totals::sums))]
-fn kept_out(basin: &Basin, roll: &Roll, delivered: &[u64], right: u32, cuts: &CutList) -> u64
+/// What a link of this kind carries in a month of so many days.
+fn carry_in_days(carry: &Carry, month: Month, days: u64) -> u64
+    requires carry { IsValidCarry carry.now }
+    requires month { IsMonth month }
+    requires days { days ≡ days_of month }
+    ensures { result ≡ carry_of_kind carry.now month }
+{
+    match carry {
+        Carry::River => 1_000_000_000_000_000,
+        Carry::Canal { per_day, shut } => {
+            if shut[month.month as usize - 1] {
+                0
+            } else {
+                *per_day * days
+            }
+        }
+    }
+}
+
+/// Amounts of links by how they cross a right's set: what those that enter it can bring in, and what seniors keep on
+/// those that leave it, other than the right's own link.
+#[derive(Clone, Copy)]
+struct Crossing {
+    carry: u64,
+    kept: u64,
+}
+
+/// The amounts of one link, in a month of so many days.
+fn crossing_at(
+    basin: &Basin,
+    roll: &Roll,
+    month: Month,
+    days: u64,
+    delivered: &[u64],
+    right: u32,
+    cuts: &CutList,
+    link: u32,
+) -> Crossing
     requires basin { IsValidBasin basin.now }
     requires roll { IsRollOf basin.now.rights roll.now }
+    requires month { IsMonth month }
+    requires days { days ≡ days_of month }
+    requires delivered { length delivered.now ≡ length basin.now.rights }
+    requires cut { HasCut basin.now cuts.now right }
+    requires link { link < length basin.now.links }
+    ensures carry { let cut = cut_at cuts.now right in
+        result.carry ≡ when (enters basin.now cut link) (carry_of basin.now month link) }
+    ensures kept { let cut = cut_at cuts.now right in
+        result.kept ≡ when (leaves basin.now cut link && not (is_on_link basin.now right link))
+        (kept_on basin.now delivered.now right link) }
+{
+    let entry = &basin.links[link as usize];
+    let from_within = holds(cuts, right, entry.from);
+    let to_within = holds(cuts, right, entry.to);
+    if to_within && !from_within {
+        let carry = carry_in_days(&entry.carry, month, days);
+        Crossing { carry, kept: 0 }
+    } else if from_within && !to_within && !is_on_link(basin, right, link) {
+        let kept = kept_on(basin, roll, delivered, right, link);
+        Crossing { carry: 0, kept }
+    } else {
+        Crossing { carry: 0, kept: 0 }
+    }
+}
+
+/// The sums over all links. It goes over them once.
+#[tactic(auto, using(place_sums::proofs::Totals::sums))]
+fn crossings(
+    basin: &Basin,
+    roll: &Roll,
+    month: Month,
+    delivered: &[u64],
+    right: u32,
+    cuts: &CutList,
+) -> Crossing
+    requires basin { IsValidBasin basin.now }
+    requires roll { IsRollOf basin.now.rights roll.now }
+    requires month { IsMonth month }
     requires delivered { length delivered.now ≡ length basin.now.rights }
     requires most { All (λ d. d ≤ 10 ^ 9) delivered.now }
     requires cut { HasCut basin.now cuts.now right }
-    ensures sum { result ≡ total_where (length basin.now.links) (λ e. leaves basin.now (cut_at cuts.now right) e && not (is_on_link basin.now right e)) (λ e. kept_on basin.now delivered.now right e) }
-    ensures small { result ≤ 4000 * 10 ^ 9 }
+    ensures carry { let cut = cut_at cuts.now right in
+        result.carry
+        ≡ total_where (length basin.now.links) (λ e. enters basin.now cut e) (λ e. carry_of basin.now month e) }
+    ensures kept { let cut = cut_at cuts.now right in
+        result.kept
+        ≡ total_where (length basin.now.links)
+        (λ e. leaves basin.now cut e && not (is_on_link basin.now right e))
+        (λ e. kept_on basin.now delivered.now right e) }
+    ensures small_carry { result.carry ≤ 4000 * 10 ^ 15 }
+    ensures small_kept { result.kept ≤ 4000 * 10 ^ 9 }
 {
-    let mut sum = 0;
+    let days = u64::from(month.days());
+    let mut carry = 0;
+    let mut kept = 0;
     for link in 0..basin.links.len() as u32 {
-        if leaves(basin, cuts, right, link) && !is_on_link(basin, right, link) {
-            sum += kept_on(basin, roll, delivered, right, link);
-        }
+        let one = crossing_at(basin, roll, month, days, delivered, right, cuts, link);
+        carry += one.carry;
+        kept += one.kept;
     }
-    sum
+    Crossing { carry, kept }
 }
 
 /// What seniors take in a right's set.
@@ -200,7 +264,7 @@ fn kept_by_takes(basin: &Basin, delivered: &[u64], right: u32, cuts: &CutList) -
 /// bring in, less what the rights senior to this one keep on the links that leave it, other than its own, and by takes
 /// in it. No plan that serves these seniors as well gives the right more, if the set is a cut of it.
 ///
-/// The cost is linear in nodes, links and rights, and no memory is taken.
+/// The cost is linear in nodes, links and rights, and the links are gone over once. No memory is taken.
 pub fn bound(
     basin: &Basin,
     roll: &Roll,
@@ -217,9 +281,9 @@ pub fn bound(
     requires cut { HasCut basin.now cuts.now right }
     ensures value { result ≡ cut_bound basin.now month supply.now delivered.now right (cut_at cuts.now right) }
 {
-    let capacity = supply_in(cuts, right, supply) + carry_in(basin, month, right, cuts);
-    let kept = kept_out(basin, roll, delivered, right, cuts)
-        + kept_by_takes(basin, delivered, right, cuts);
+    let Crossing { carry, kept } = crossings(basin, roll, month, delivered, right, cuts);
+    let capacity = supply_in(cuts, right, supply) + carry;
+    let kept = kept + kept_by_takes(basin, delivered, right, cuts);
     capacity as i64 - kept as i64
 }
 

@@ -1,6 +1,5 @@
 //! The lines of a section, entry by entry.
-ghost use Rattle.std.specs.Prelude.{◌≡◌, ◌≢◌, ◌<◌, ◌==◌, false, length, slice_index, IfSome};
-ghost use Rattle.std.specs.List.{list_any};
+ghost use Rattle.std.specs.Prelude.{◌≡◌, ◌≢◌, ◌<◌, false, length, slice_index, IfSome};
 ghost use Rattle.std.specs.Option.{option_map_or, option_to_list};
 ghost use Rattle.rights_roll.specs.Rolls.{IsRollOf};
 ghost use Rattle.water_model.specs.Entries.{count_in};
@@ -11,6 +10,7 @@ ghost use Rattle.water_model.specs.Quantities.{amounts_of, has_line, space_of};
 ghost use Rattle.water_model.specs.Text.{calling_right, lines_at, section_space};
 ghost use Rattle.water_model.specs.Valid.{IsValidBasin};
 ghost use Rattle.result_text.specs.Range.{FitsText};
+ghost use Rattle.result_text.specs.Returned.{AreReturnedTo};
 
 use calls::calling_right;
 use rights_roll::roll::Roll;
@@ -18,21 +18,30 @@ use water_model::item::{Item, Section};
 use water_model::quantity::Quantity;
 use water_model::types::{Basin, MonthRecord};
 
-/// Whether some return row names a node.
-fn is_returned_to(basin: &Basin, node: u32) -> bool
-    ensures { result ≡ list_any (λ row. row.node == node) basin.now.returns }
+/// The most nodes that a valid basin has.
+const MOST_NODES: usize = 2000;
+
+/// For each node, whether some return row names it. It goes over the rows once, and takes no memory.
+pub fn returned_to(basin: &Basin) -> [bool; MOST_NODES]
+    requires { IsValidBasin basin.now }
+    ensures { AreReturnedTo basin.now result }
 {
-    basin.returns.as_slice().iter().any(|row| row.node == node)
+    let mut marks = [false; MOST_NODES];
+    for row in basin.returns.as_slice() {
+        marks[row.node as usize] = true;
+    }
+    marks
 }
 
-/// Whether a month has a line for an entry of a quantity.
-fn has_line(basin: &Basin, quantity: Quantity, entry: u32) -> bool
+/// Whether a month has a line for an entry of a quantity. `returned` has the nodes that return rows name.
+fn has_line(basin: &Basin, returned: &[bool], quantity: Quantity, entry: u32) -> bool
     requires basin { IsValidBasin basin.now }
+    requires returned { AreReturnedTo basin.now returned.now }
     requires entry { entry < count_in (space_of quantity) basin.now }
     ensures { result ≡ has_line basin.now quantity entry }
 {
     match quantity {
-        Quantity::Returned => is_returned_to(basin, entry),
+        Quantity::Returned => returned[entry as usize],
         Quantity::Used => basin.rights[entry as usize].volume.is_some(),
         Quantity::Outflow => basin.nodes[entry as usize].outlet,
         Quantity::Opening | Quantity::Evaporated | Quantity::Flow | Quantity::Closing => true,
@@ -70,16 +79,19 @@ pub fn is_member(month: &MonthRecord, right: u32, node: u32) -> bool
 }
 
 /// The line of an entry of a section, if it has one. Only the section of calls has several lines for an entry.
+/// `returned` has the nodes that return rows name.
 pub fn line_at(
     section: Section,
     basin: &Basin,
     roll: &Roll,
     month: &MonthRecord,
+    returned: &[bool],
     entry: u32,
 ) -> Option<Item>
     requires basin { IsValidBasin basin.now }
     requires roll { IsRollOf basin.now.rights roll.now }
     requires month { FitsText basin.now month.now }
+    requires returned { AreReturnedTo basin.now returned.now }
     requires single { section ≢ Section.Calls }
     requires entry { entry < count_in (section_space section) basin.now }
     ensures value { option_to_list result
@@ -88,7 +100,7 @@ pub fn line_at(
 {
     match section {
         Section::Amounts(quantity) => {
-            if !has_line(basin, quantity, entry) {
+            if !has_line(basin, returned, quantity, entry) {
                 return None;
             }
             let amount = amount_at(basin, month, quantity, entry);

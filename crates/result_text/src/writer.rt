@@ -12,8 +12,9 @@ ghost use Rattle.water_model.specs.Valid.{IsValidBasin};
 ghost use Rattle.water_model.specs.declared.item.TheConstants.{SECTIONS};
 ghost use Rattle.result_text.specs.Members.{member_at, members_of};
 ghost use Rattle.result_text.specs.Range.{FitsText};
+ghost use Rattle.result_text.specs.Returned.{AreReturnedTo};
 
-use crate::section::{is_member, line_at};
+use crate::section::{is_member, line_at, returned_to};
 use crate::spelling::spell;
 use rights_roll::roll::Roll;
 use water_edge::{Sink, SinkFailed};
@@ -41,12 +42,14 @@ fn put_line<K: Sink>(
     basin: &Basin,
     roll: &Roll,
     month: &MonthRecord,
+    returned: &[bool],
     section: Section,
     entry: u32,
 ) -> Result<(), SinkFailed>
     requires basin { IsValidBasin basin.now }
     requires roll { IsRollOf basin.now.rights roll.now }
     requires month { FitsText basin.now month.now }
+    requires returned { AreReturnedTo basin.now returned.now }
     requires single { section ≢ Section.Calls }
     requires entry { entry < count_in (section_space section) basin.now }
     ensures text { Puts (K.taken sink.old) (K.taken sink.new) result
@@ -54,7 +57,7 @@ fn put_line<K: Sink>(
         (lines_at section basin.now month.now (calling_right basin.now month.now) entry)) }
     ensures cause { HasCause (K.faults sink.old) (K.faults sink.new) (IsErr result) }
 {
-    match line_at(section, basin, roll, month, entry) {
+    match line_at(section, basin, roll, month, returned, entry) {
         Some(item) => put_item(sink, basin, item),
         None => Ok(()),
     }
@@ -139,12 +142,14 @@ fn put_entry<K: Sink>(
     basin: &Basin,
     roll: &Roll,
     month: &MonthRecord,
+    returned: &[bool],
     section: Section,
     entry: u32,
 ) -> Result<(), SinkFailed>
     requires basin { IsValidBasin basin.now }
     requires roll { IsRollOf basin.now.rights roll.now }
     requires month { FitsText basin.now month.now }
+    requires returned { AreReturnedTo basin.now returned.now }
     requires entry { entry < count_in (section_space section) basin.now }
     ensures text { Puts (K.taken sink.old) (K.taken sink.new) result
         (flat_map (whole_line basin.now)
@@ -153,7 +158,7 @@ fn put_entry<K: Sink>(
 {
     match section {
         Section::Calls => put_call(sink, basin, month, entry),
-        _ => put_line(sink, basin, roll, month, section, entry),
+        _ => put_line(sink, basin, roll, month, returned, section, entry),
     }
 }
 
@@ -163,11 +168,13 @@ fn put_section<K: Sink>(
     basin: &Basin,
     roll: &Roll,
     month: &MonthRecord,
+    returned: &[bool],
     section: Section,
 ) -> Result<(), SinkFailed>
     requires basin { IsValidBasin basin.now }
     requires roll { IsRollOf basin.now.rights roll.now }
     requires month { FitsText basin.now month.now }
+    requires returned { AreReturnedTo basin.now returned.now }
     ensures text { Puts (K.taken sink.old) (K.taken sink.new) result
         (flat_map (whole_line basin.now)
         (lines_in section basin.now month.now (calling_right basin.now month.now))) }
@@ -177,7 +184,7 @@ fn put_section<K: Sink>(
     let count = count_in(space, basin);
     for place in 0..count {
         let entry = entry_at(space, basin, roll.by_seniority(), place);
-        put_entry(sink, basin, roll, month, section, entry)?;
+        put_entry(sink, basin, roll, month, returned, section, entry)?;
     }
     Ok(())
 }
@@ -197,8 +204,9 @@ fn put_sections<K: Sink>(
         (flat_map (λ section. lines_in section basin.now month.now (calling_right basin.now month.now)) SECTIONS)) }
     ensures cause { HasCause (K.faults sink.old) (K.faults sink.new) (IsErr result) }
 {
+    let returned = returned_to(basin);
     for section in SECTIONS.iter() {
-        put_section(sink, basin, roll, month, *section)?;
+        put_section(sink, basin, roll, month, &returned, *section)?;
     }
     Ok(())
 }
@@ -206,6 +214,8 @@ fn put_sections<K: Sink>(
 /// Puts the lines of a month, from its `month` line to its `end` line: what the record holds, section by section, and
 /// for each right that answers to a calling right a `called` line. Rights come seniors first, all other entries in the
 /// order of the basin.
+///
+/// Return rows are gone over once.
 ///
 /// Each line is one `put`. `SinkFailed` comes only where the sink counted a fault; a front of the lines was then put.
 pub fn put_month<K: Sink>(
