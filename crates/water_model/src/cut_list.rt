@@ -74,11 +74,10 @@ impl CutList {
     {
         let begin = self.region.get(rights_place(self.rights), right as usize);
         if begin == 0 {
-            None
-        } else {
-            let words = self.region.words(set_place(self.nodes, begin));
-            Some(bit_words::is_marked(words, node))
+            return None;
         }
+        let words = self.region.words(set_place(self.nodes, begin));
+        Some(bit_words::is_marked(words, node))
     }
 
     /// Adds a node to a right's set. The other rights' sets stay.

@@ -9,6 +9,7 @@ use Rattle.water_model.specs.CutSets.{CutSets, set_of}
 use Rattle.water_model.proofs.CutLemmas.{set_is}
 use Rattle.water_model.proofs.CutSteps.{is_right, set_seen, word_read}
 use Rattle.water_model.proofs.cut_list.CutList.holds.Goals as goal
+use Rattle.water_model.proofs.cut_list.CutList.holds.Goals.{After-is_marked}
 
 pub get-begin-requires-clause-at : goal.get-begin-requires-clause-at
 get-begin-requires-clause-at c =
@@ -40,7 +41,7 @@ no_set c =
     ∙ ap (set_at i.nodes i.region.words) (sym word ∙ c.if-begin-eq0.true)
 
 -- and another has the set that begins there
-the_set : (c : goal.After-is_marked) →
+the_set : (c : After-is_marked) →
     set_of c.args.self.now c.args.right ≡ Some (marks c.self.inside.nodes c.words-words.result.now)
 the_set c =
     let i = c.self.inside in
@@ -58,17 +59,17 @@ returns-then-begin-eq0-clause-none c = (λ _. no_set c, λ _. refl)
 pub returns-then-begin-eq0-clause-sized : goal.returns-then-begin-eq0-clause-sized
 returns-then-begin-eq0-clause-sized c = rw (no_set c) tt
 
-pub returns-else-begin-eq0-clause-none : goal.returns-else-begin-eq0-clause-none
-returns-else-begin-eq0-clause-none c = (λ e. absurd (cc (e)), λ e. absurd (cc (e, the_set c)))
+pub returns-clause-none : goal.returns-clause-none
+returns-clause-none c = (λ e. absurd (cc (e)), λ e. absurd (cc (e, the_set c)))
 
-pub returns-else-begin-eq0-clause-some : goal.returns-else-begin-eq0-clause-some
-returns-else-begin-eq0-clause-some c =
+pub returns-clause-some : goal.returns-clause-some
+returns-clause-some c =
     let nodes = ap (λ (v : CutSets). v.nodes) c.self.view_is in
     rw (the_set c)
     (c.is_marked.ensures ∙ sym (get_or-marks c.self.inside.nodes c.words-words.result.now c.args.node false
     (omega (arith, nodes, c.requires.node))))
 
-pub returns-else-begin-eq0-clause-sized : goal.returns-else-begin-eq0-clause-sized
-returns-else-begin-eq0-clause-sized c =
+pub returns-clause-sized : goal.returns-clause-sized
+returns-clause-sized c =
     rw (the_set c)
     (length-marks c.self.inside.nodes c.words-words.result.now ∙ ap (λ (v : CutSets). v.nodes) c.self.view_is)
