@@ -22,7 +22,7 @@ use Rattle.cert_check.specs.Whole.{pieces_of, behind_last, lines_of_pieces, rest
 use Rattle.cert_check.specs.declared.refuted.Refuted.{Refuted}
 use Rattle.cert_check.proofs.Amounts.{history_texts}
 use Rattle.cert_check.proofs.HistoriesGiveYes.{histories_give_yes}
-use Rattle.cert_check.proofs.Pieces.{behind_last-end, long_rest, short_rest}
+use Rattle.cert_check.proofs.TextVerdicts.{behind_last-end, long_rest, short_rest}
 use Rattle.cert_check.proofs.RunSound.{yes_gives_history}
 
 -- the bytes are those of the text of a history

@@ -11,7 +11,8 @@ pub mod MonthGood
 pub mod GoodMonth
 pub mod Follows
 pub mod Verdicts
-pub mod Pieces
+pub mod TextVerdicts
+pub mod Feeding
 pub mod RunGood
 pub mod Amounts
 pub mod HistoriesGiveYes

@@ -7,6 +7,7 @@ pub mod Keeping
 pub mod KindNames
 pub mod Laws
 pub mod Means
+pub mod Pieces
 pub mod Ready
 pub mod Shows
 pub mod Standing

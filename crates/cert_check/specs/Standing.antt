@@ -34,6 +34,10 @@ pub record CheckerSeen : Type 0 where
   pub book : Book
   pub refused : Option Refuted
 
+-- how many lines may still be accepted, at most
+abbrev pub lines_left : CheckerSeen → ℕ
+lines_left c = c.book.reader.left
+
 -- The checker was given these lines: none of them is at fault and it keeps what they say and tell, or it keeps the refusal
 -- that the verdict on them is.
 abbrev pub Stands : Option Refuted → CheckerSeen → List (List ℕ) → Type 0

@@ -1,5 +1,5 @@
 //! What a checker keeps of lines that are good, and how it takes the next.
-ghost use Rattle.std.specs.Prelude.{ℕ, ◌≡◌, ◌+◌, ◌^◌, ◌<◌, ◌++◌, ◌∷◌, [], List};
+ghost use Rattle.std.specs.Prelude.{ℕ, ◌≡◌, ◌+◌, ◌^◌, ◌<◌, ◌++◌, ◌∷◌, [], List, OnOk};
 ghost use Rattle.water_model.specs.OfBasin.{IsOfBasin};
 ghost use Rattle.water_model.specs.declared.item.Item.{Item};
 ghost use Rattle.cert_check.specs.Checking.{named_line};
@@ -86,8 +86,9 @@ fn take_item(means: &Means, book: &mut Book, item: &Item) -> Result<(), Refuted>
 pub fn take_line(means: &Means, book: &mut Book, text: &[u8]) -> Result<(), Refuted>
     requires means { AreMeans means.now }
     requires lines { HasLines means.now.basin.now means.now.series.now book.old }
-    ensures { (lines : List (List ℕ)) → IsBookOf means.now.basin.now means.now.series.now book.old lines →
+    ensures takes { (lines : List (List ℕ)) → IsBookOf means.now.basin.now means.now.series.now book.old lines →
         TakesLine means.now.basin.now means.now.series.now book.new (lines ++ text.now ∷ []) result }
+    ensures left { OnOk result (book.new.reader.left + 1 ≡ book.old.reader.left) }
 {
     let next = book.read + 1;
     if book.ended {

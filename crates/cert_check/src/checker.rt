@@ -1,7 +1,7 @@
 //! A checker of result texts, line by line.
-ghost use Rattle.std.specs.Prelude.{ℕ, List, [], ◌≡◌, ◌≤◌, ◌++◌, ◌∷◌, length, Some, Err, IfOk, IfErr, IfSome};
+ghost use Rattle.std.specs.Prelude.{ℕ, List, [], ◌≡◌, ◌+◌, ◌≤◌, ◌++◌, ◌∷◌, length, Some, None, Err, IfOk, IfErr, IfSome, OnOk};
 ghost use Rattle.cert_check.specs.Checking.{verdict, verdict_from};
-ghost use Rattle.cert_check.specs.Standing.{IsAnswer, IsLineAnswer, StandsFor};
+ghost use Rattle.cert_check.specs.Standing.{IsAnswer, IsLineAnswer, StandsFor, lines_left};
 ghost use Rattle.water_model.specs.Valid.{IsValidBasin, IsSeriesOf};
 
 use crate::account::Means;
@@ -49,6 +49,7 @@ impl<'b> Checker<'b> {
         ensures basin { IfOk result (λ checker. checker.basin ≡ basin.now) }
         ensures series { IfOk result (λ checker. checker.series ≡ series.now) }
         ensures none { IfOk result (λ checker. StandsFor checker []) }
+        ensures good { IfOk result (λ checker. checker.refused ≡ None) }
     {
         let roll = Roll::of_basin(alloc, basin)?;
         let tables = tables_of(alloc, basin)?;
@@ -82,6 +83,8 @@ impl<'b> Checker<'b> {
         ensures stands { (lines : List (List ℕ)) → StandsFor self.old lines → StandsFor self.new (lines ++ text.now ∷ []) }
         ensures basin { self.new.basin ≡ self.old.basin }
         ensures series { self.new.series ≡ self.old.series }
+        ensures good { OnOk result (self.new.refused ≡ None) }
+        ensures left { OnOk result (lines_left self.new + 1 ≡ lines_left self.old) }
         ensures refused { IfErr result (λ e. self.new.refused ≡ Some e) }
         ensures stays { IfSome self.old.refused (λ e. (result ≡ Err e) × (self.new ≡ self.old)) }
     {

@@ -14,6 +14,7 @@ mod entering;
 pub mod laws;
 mod opening;
 mod passing;
+pub mod pieces;
 mod ready;
 mod refusing;
 mod refuted;
@@ -22,5 +23,6 @@ pub mod told;
 pub mod whole;
 
 pub use checker::Checker;
+pub use pieces::PieceChecker;
 pub use refuted::{Refuted, RefutedKind};
 pub use whole::check_text;

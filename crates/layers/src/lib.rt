@@ -16,6 +16,8 @@ mod nets;
 #[cfg(test)]
 mod networks;
 #[cfg(test)]
+mod pieced;
+#[cfg(test)]
 mod pulls;
 #[cfg(test)]
 mod raises;

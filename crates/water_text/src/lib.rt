@@ -5,6 +5,7 @@ pub mod amount;
 pub mod day;
 mod digits;
 pub mod line;
+pub mod line_in;
 pub mod month;
 pub mod name;
 mod shape;

@@ -7,8 +7,8 @@ use Rattle.cert_check.proofs.book.take_line.Goals as goal
 pub overflow_add-next : goal.overflow_add-next
 overflow_add-next c = omega (arith, few_lines c.args.means.now.basin.now c.args.means.now.series.now c.args.book.now c.requires.lines.lines c.requires.means.valid c.requires.lines.stands)
 
-pub returns-then-book : goal.returns-then-book
-returns-then-book c = λ lines s.
+pub returns-then-book-clause-takes : goal.returns-then-book-clause-takes
+returns-then-book-clause-takes c = λ lines s.
     rw s.counts.read (line_judged c.args.means.now.basin.now c.args.means.now.series.now lines c.args.text.now s.items _ s.verdict (judged_ended c.args.means.now.basin.now c.args.means.now.series.now s.items c.args.text.now (sym s.counts.ended ∙ c.if-book.true)))
 
 pub take_item-requires-clause-told : goal.take_item-requires-clause-told
@@ -27,8 +27,8 @@ take_item-requires-clause-told c =
 pub take_item-requires-clause-room : goal.take_item-requires-clause-room
 take_item-requires-clause-room c = few_lines c.args.means.now.basin.now c.args.means.now.series.now c.args.book.now c.requires.lines.lines c.requires.means.valid c.requires.lines.stands
 
-pub returns-in-Ok : goal.returns-in-Ok
-returns-in-Ok c = λ lines s.
+pub returns-in-Ok-clause-takes : goal.returns-in-Ok-clause-takes
+returns-in-Ok-clause-takes c = λ lines s.
     let read : read_line c.args.means.now.basin.now s.items c.args.text.now ≡ Ok c.in-Ok.item = ap (λ x. read_line x s.items c.args.text.now) (sym s.basin) ∙ sym (c.in-Ok.ensures.answer s.items s.reader) in
     took c.args.means.now.basin.now c.args.means.now.series.now c.take_item.new.book lines c.args.text.now s.items c.in-Ok.item c.take_item.result s.verdict
     (judged_item c.args.means.now.basin.now c.args.means.now.series.now s.items c.args.text.now c.in-Ok.item (sym s.counts.ended ∙ c.if-book.false) read)
@@ -40,8 +40,8 @@ returns-in-Ok c = λ lines s.
       comes = line_comes c.args.means.now.basin.now c.args.means.now.series.now lines c.args.text.now s.items c.in-Ok.item c.requires.means.valid s.verdict read;
     }))
 
-pub returns-in-Err : goal.returns-in-Err
-returns-in-Err c = λ lines s.
+pub returns-in-Err-clause-takes : goal.returns-in-Err-clause-takes
+returns-in-Err-clause-takes c = λ lines s.
     rw s.counts.read (line_judged c.args.means.now.basin.now c.args.means.now.series.now lines c.args.text.now s.items _ s.verdict
     (judged_bad c.args.means.now.basin.now c.args.means.now.series.now s.items c.args.text.now c.in-Err.field-0 (sym s.counts.ended ∙ c.if-book.false)
     (ap (λ x. read_line x s.items c.args.text.now) (sym s.basin) ∙ sym (c.in-Err.ensures.answer s.items s.reader))))

@@ -21,6 +21,6 @@ invariant_of-self c =
       lines = record {
         lines = lines.lines ++ c.args.text.now ∷ [];
         stands = good_stands (record (seen_of c.self.inside) { book = c.take_line.new.book }) (lines.lines ++ c.args.text.now ∷ []) c.in-None.is
-            (c.in-Ok.ensures lines.lines (good_is (seen_of c.self.inside) lines.lines c.in-None.is lines.stands));
+            (c.in-Ok.ensures.takes lines.lines (good_is (seen_of c.self.inside) lines.lines c.in-None.is lines.stands));
       };
     }

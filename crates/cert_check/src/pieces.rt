@@ -1,0 +1,154 @@
+//! A checker of a result text that comes in pieces of any size.
+ghost use Rattle.std.specs.Prelude.{ℕ, List, [], ◌∷◌, ◌++◌, ◌≡◌, ◌+◌, ◌<◌, ◌≤◌, None, Err, false, length, take, IfOk, IfErr, OnOk};
+ghost use Rattle.water_model.specs.Valid.{IsValidBasin, IsSeriesOf};
+ghost use Rattle.water_text.specs.LinesIn.{nothing_held};
+ghost use Rattle.cert_check.specs.Checking.{verdict_from};
+ghost use Rattle.cert_check.specs.Pieces.{AreGiven, IsUnderWay, StandsForText, bytes_left, room_left};
+ghost use Rattle.cert_check.specs.Standing.{IsAnswer, IsLineAnswer, StandsFor, lines_left};
+ghost use Rattle.cert_check.specs.Whole.{text_verdict};
+
+use crate::checker::Checker;
+use crate::refuted::Refuted;
+use std::alloc::{AllocError, Global};
+use std::marker::Model;
+use water_model::types::{Basin, Inflows};
+use water_text::line_in::LineIn;
+
+/// Gives a checker the line that is held, and clears it.
+fn end_line(checker: &mut Checker, line: &mut LineIn) -> Result<(), Refuted>
+    ensures answer { (lines : List (List ℕ)) → StandsFor checker.old lines →
+        IsLineAnswer result (verdict_from checker.old.basin checker.old.series [] (lines ++ line.old.bytes ∷ [])) }
+    ensures stands { (lines : List (List ℕ)) → StandsFor checker.old lines →
+        StandsFor checker.new (lines ++ line.old.bytes ∷ []) }
+    ensures good { OnOk result (checker.new.refused ≡ None) }
+    ensures left { OnOk result (lines_left checker.new + 1 ≡ lines_left checker.old) }
+    ensures cleared { line.new ≡ nothing_held }
+    ensures basin { checker.new.basin ≡ checker.old.basin }
+    ensures series { checker.new.series ≡ checker.old.series }
+{
+    let answer = checker.line(line.bytes());
+    line.clear();
+    answer
+}
+
+/// Gives a checker the front of some bytes, up to the end of a line if there is one, and answers how many they are.
+fn give_front(checker: &mut Checker, line: &mut LineIn, rest: &[u8]) -> Result<usize, Refuted>
+    requires line { IsUnderWay line.old }
+    requires good { checker.old.refused ≡ None }
+    requires some { 0 < length rest.now }
+    ensures some { IfOk result (λ taken. 0 < taken) }
+    ensures within { IfOk result (λ taken. taken ≤ length rest.now) }
+    ensures given { IfOk result (λ taken. (text : List ℕ) → AreGiven checker.old line.old text →
+        AreGiven checker.new line.new (text ++ take taken rest.now)) }
+    ensures good { OnOk result (checker.new.refused ≡ None) }
+    ensures refused { IfErr result (λ e. (text : List ℕ) → AreGiven checker.old line.old text → (more : List ℕ) →
+        text_verdict checker.old.basin checker.old.series (text ++ rest.now ++ more) ≡ Err e) }
+    ensures left { IfOk result (λ taken. room_left checker.new line.new + taken ≤ room_left checker.old line.old) }
+    ensures line { IsUnderWay line.new }
+    ensures basin { checker.new.basin ≡ checker.old.basin }
+    ensures series { checker.new.series ≡ checker.old.series }
+{
+    let fed = line.feed(rest);
+    if !fed.whole {
+        return Ok(fed.taken);
+    }
+    end_line(checker, line)?;
+    Ok(fed.taken)
+}
+
+/// Gives a checker the next bytes of a text. The line holds what stands behind the last line feed before them.
+pub fn give(checker: &mut Checker, line: &mut LineIn, piece: &[u8]) -> Result<(), Refuted>
+    requires line { IsUnderWay line.old }
+    requires good { checker.old.refused ≡ None }
+    ensures given { OnOk result ((text : List ℕ) → AreGiven checker.old line.old text →
+        AreGiven checker.new line.new (text ++ piece.now)) }
+    ensures good { OnOk result (checker.new.refused ≡ None) }
+    ensures refused { IfErr result (λ e. (text : List ℕ) → AreGiven checker.old line.old text → (rest : List ℕ) →
+        text_verdict checker.old.basin checker.old.series (text ++ piece.now ++ rest) ≡ Err e) }
+    ensures left { OnOk result (room_left checker.new line.new + length piece.now ≤ room_left checker.old line.old) }
+    ensures line { IsUnderWay line.new }
+    ensures basin { checker.new.basin ≡ checker.old.basin }
+    ensures series { checker.new.series ≡ checker.old.series }
+{
+    let mut at = 0;
+    while at < piece.len() {
+        let taken = give_front(checker, line, &piece[at..])?;
+        at += taken;
+    }
+    Ok(())
+}
+
+/// Checks a result text that is given in pieces, of any size each, up to the first line at fault. No more of the text
+/// is kept than the line under way.
+///
+/// It stands for the bytes that it was given, while none of their lines is at fault.
+#[derive(Drop)]
+pub struct PieceChecker<'b> {
+    checker: Checker<'b>,
+    line: LineIn,
+}
+
+impl<'b> Model for PieceChecker<'b> {
+    ghost use Rattle.cert_check.specs.Pieces.{IsUnderWay, PiecesSeen};
+
+    ghost Value = { PiecesSeen };
+
+    ghost view = { λ p. record {
+      basin = p.checker.basin;
+      series = p.checker.series;
+      book = p.checker.book;
+      refused = p.checker.refused;
+      line = p.line;
+    } };
+
+    ghost invariant = { λ p. IsUnderWay p.line };
+}
+
+impl<'b> PieceChecker<'b> {
+    /// A checker that was given no byte. AllocError comes where memory is lacking; no other call takes memory.
+    pub fn open(
+        alloc: Global,
+        basin: &'b Basin,
+        series: &'b Inflows,
+    ) -> Result<PieceChecker<'b>, AllocError>
+        requires basin { IsValidBasin basin.now }
+        requires series { IsSeriesOf basin.now series.now }
+        ensures basin { IfOk result (λ checker. checker.basin ≡ basin.now) }
+        ensures series { IfOk result (λ checker. checker.series ≡ series.now) }
+        ensures none { IfOk result (λ checker. StandsForText checker []) }
+    {
+        let checker = Checker::open(alloc, basin, series)?;
+        Ok(PieceChecker {
+            checker,
+            line: LineIn::new(),
+        })
+    }
+
+    /// Takes the next piece of the text. It is refused where a line that it ends is at fault, with the first such line
+    /// and the first kind that holds of it, and as soon as a line has more than 128 bytes. That is the verdict on the
+    /// text, whatever may follow. After a refusal nothing more may be fed.
+    ///
+    /// No memory is taken. The cost is that of its lines.
+    pub fn feed(&mut self, piece: &[u8]) -> Result<(), Refuted>
+        requires { self.old.refused ≡ None }
+        ensures stands { OnOk result ((text : List ℕ) → StandsForText self.old text →
+            StandsForText self.new (text ++ piece.now)) }
+        ensures good { OnOk result (self.new.refused ≡ None) }
+        ensures refused { IfErr result (λ e. (text : List ℕ) → StandsForText self.old text → (rest : List ℕ) →
+            text_verdict self.old.basin self.old.series (text ++ piece.now ++ rest) ≡ Err e) }
+        ensures left { OnOk result (bytes_left self.new + length piece.now ≤ bytes_left self.old) }
+        ensures basin { self.new.basin ≡ self.old.basin }
+        ensures series { self.new.series ≡ self.old.series }
+    {
+        give(&mut self.checker, &mut self.line, piece)
+    }
+
+    /// What the bytes so far are as a whole text: the number of months where they are the text of a history, or why
+    /// not. After a refusal the answer says nothing. It changes nothing, and takes no memory.
+    pub fn finish(&self) -> Result<u32, Refuted>
+        ensures { (text : List ℕ) → StandsForText self.now text →
+            IsAnswer self.now.basin result (text_verdict self.now.basin self.now.series text) }
+    {
+        self.checker.finish(self.line.bytes())
+    }
+}

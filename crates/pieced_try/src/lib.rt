@@ -1,0 +1,7 @@
+//! Trial.
+#![tactic(auto)]
+
+#[cfg(test)]
+mod basins;
+#[cfg(test)]
+mod pieced;
