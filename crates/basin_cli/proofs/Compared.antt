@@ -13,7 +13,7 @@ use Rattle.injury.specs.Injuries.{injuries, injuries_of, injured_row, compared_r
 use Rattle.injury.proofs.Growing.{common_few, injuries_more, injuries_few}
 use Rattle.injury.proofs.Put.{injuries-count}
 use Rattle.basin_cli.specs.Compared.{AreCompared, IsTextOfComparison}
-use Rattle.basin_cli.proofs.Drafting.{whole_run}
+use Rattle.basin_cli.proofs.Written.{whole_run}
 use Rattle.senior_hold.specs.MonthNetwork.{month_pushes}
 
 -- one month more of both runs

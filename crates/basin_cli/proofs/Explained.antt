@@ -26,7 +26,7 @@ use Rattle.water_model.specs.declared.types.MonthRecord.{MonthRecord}
 use Rattle.water_model.proofs.Outcome.{one_outcome}
 use Rattle.basin_cli.specs.Explained.{Explains, HasLast, IsAbout, IsRecordOf, met_line}
 use Rattle.basin_cli.proofs.Asked.{one_index, one_right}
-use Rattle.basin_cli.proofs.Drafting.{last_is}
+use Rattle.basin_cli.proofs.Written.{last_is}
 
 -- the last record of a partial history follows those before it
 pub last_of : (b : Basin) (series : Inflows) (before : List MonthRecord) (m : MonthRecord) → IsPartialHistory b series (before ++ m ∷ []) → Follows b series before m

@@ -1,4 +1,4 @@
-pub mod Drafting
+pub mod Written
 pub mod Missing
 pub mod Names
 pub mod Reading
@@ -16,3 +16,5 @@ pub mod Accounts
 pub mod Gathering
 pub mod Edited
 pub mod FoundBytes
+pub mod Idle
+pub mod Handed

@@ -10,6 +10,7 @@ pub mod Comparison
 pub mod Outcome
 pub mod Code
 pub mod Drafts
+pub mod Written
 pub mod Series
 pub mod Pairs
 pub mod Actions

@@ -3,7 +3,7 @@ use Rattle.std.specs.Prelude.{ℕ, List, take, Option, Some, ⊤}
 use Rattle.std.specs.Io.KnownBytes.{Appends}
 use Rattle.basin_cli.specs.declared.status.Status.{Status}
 use Rattle.basin_cli.specs.declared.status.Status.TheVariants.{Done, No, WriteFault, OutOfMemory}
-use Rattle.basin_cli.specs.Command.{Command, edit}
+use Rattle.basin_cli.specs.Command.{Command, edit, report, run, trial, why}
 
 -- only these statuses may leave bytes on out
 abbrev pub MayWrite : Status → Type 0
@@ -28,6 +28,19 @@ IsRefusal No = ⊥
 IsRefusal WriteFault = ⊥
 IsRefusal OutOfMemory = ⊥
 IsRefusal status = ⊤
+
+-- something was refused, or there was no memory
+abbrev pub IsStopped : Status → Type 0
+IsStopped OutOfMemory = ⊤
+IsStopped status = IsRefusal status
+
+-- nothing is solved: a run, a report, a trial and an account take memory before their first month, the others also later
+abbrev pub IsIdle : Option Command → Status → Type 0
+IsIdle (Some (run files)) status = IsStopped status
+IsIdle (Some (report files)) status = IsStopped status
+IsIdle (Some (trial number size)) status = IsStopped status
+IsIdle (Some (why files month name)) status = IsStopped status
+IsIdle command status = IsRefusal status
 
 -- the text is appended to out, or after a fault of out a front of it
 abbrev pub Leaves : Status → List ℕ → Option (List ℕ) → Option (List ℕ) → Type 0

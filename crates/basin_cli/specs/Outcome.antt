@@ -30,8 +30,9 @@ use Rattle.basin_cli.specs.Command.{Command, Files, run, check, report, trial, w
 use Rattle.basin_cli.specs.Ending.{status_of, line_of}
 use Rattle.basin_cli.specs.Explained.{Explains, HasMonth, HasRight, IsAbout, PushesUpTo}
 use Rattle.basin_cli.specs.Headline.{HasGreatestPlans}
-use Rattle.basin_cli.specs.Bytes.{AreSpelled, IsGoodBasin, IsRunOf, IsSeriesRefusedFor, IsTooLong, Told, file_limit}
+use Rattle.basin_cli.specs.Bytes.{AreSpelled, IsGoodBasin, IsSeriesRefusedFor, IsTooLong, Told, file_limit}
 use Rattle.basin_cli.specs.Out.{Leaves, MayWrite}
+use Rattle.basin_cli.specs.Written.{LeavesRun}
 use Rattle.basin_cli.specs.Reading.{AreAccepted, BehindBasin, BehindBoth, BehindSeries, CompletesBehind, IsDone, IsJudged, OfBoth, StopsReading}
 use Rattle.basin_cli.specs.Edited.{HasEditingCause, EditsBehind, EditWrites, EditPushes}
 use Rattle.basin_cli.specs.Comparison.{HasComparingCause, ComparesBehind, ComparisonWrites, ComparisonPushes}
@@ -201,12 +202,12 @@ Completes (Some (ensemble files)) status told read write =
     CompletesBehind told files (λ bytes _. IsOfYears bytes → (read → ⊥) → (write → ⊥) → IsDone status)
 Completes (Some (edit files script)) status told read write = EditsBehind told files script status read write
 
--- what `run` leaves on out: the text of a run of what the bytes spell
-pub record WritesRun (status : Status) (bytes series_bytes : List ℕ) (old new : Option (List ℕ)) : Type 0 where
+-- what `run` leaves on out: the text of a run of what the bytes spell, or after a fault of out as far as it was written
+pub record WritesRun (status : Status) (bytes series_bytes : List ℕ) (old new : Option (List ℕ)) (before after : ℕ) : Type 0 where
   pub basin : Basin
-  pub records : List MonthRecord
-  pub is_run : IsRunOf bytes series_bytes basin records
-  pub written : Leaves status (text_bytes basin records) old new
+  pub series : Inflows
+  pub spelled : AreSpelled bytes series_bytes basin series
+  pub written : LeavesRun basin series status old new before after
 
 -- the line that answers a verdict
 unfoldable pub answer_line : Basin → Result (List Item) Refuted → List ℕ
@@ -260,18 +261,20 @@ pub record WritesEnsemble (status : Status) (bytes series_bytes : List ℕ) (old
   pub are_traces : AreTraces basin series traces
   pub written : Leaves status (ensemble_text basin traces) old new
 
-abbrev pub WritesFor : Option Command → Status → Told → Option (List ℕ) → Option (List ℕ) → Type 0
-WritesFor None status told old new = ⊤
-WritesFor (Some (run files)) status told old new = OfBoth told files (λ bytes series. MayWrite status → WritesRun status bytes series old new)
-WritesFor (Some (check files result)) status told old new =
+-- `before` and `after` count the pushes
+abbrev pub WritesFor : Option Command → Status → Told → Option (List ℕ) → Option (List ℕ) → ℕ → ℕ → Type 0
+WritesFor None status told old new before after = ⊤
+WritesFor (Some (run files)) status told old new before after =
+    OfBoth told files (λ bytes series. MayWrite status → WritesRun status bytes series old new before after)
+WritesFor (Some (check files result)) status told old new before after =
     OfBoth told files (λ bytes series. IfSome (told result) (λ text. MayWrite status → WritesAnswer status bytes series text old new))
-WritesFor (Some (report files)) status told old new = OfBoth told files (λ bytes series. MayWrite status → WritesReport status bytes series old new)
-WritesFor (Some (trial number size)) status told old new = MayWrite status → WritesTrial status number size old new
-WritesFor (Some (compare files second)) status told old new = ComparisonWrites told files second status old new
-WritesFor (Some (why files month name)) status told old new =
+WritesFor (Some (report files)) status told old new before after = OfBoth told files (λ bytes series. MayWrite status → WritesReport status bytes series old new)
+WritesFor (Some (trial number size)) status told old new before after = MayWrite status → WritesTrial status number size old new
+WritesFor (Some (compare files second)) status told old new before after = ComparisonWrites told files second status old new
+WritesFor (Some (why files month name)) status told old new before after =
     OfBoth told files (λ bytes series. MayWrite status → WritesAccount status month name bytes series old new)
-WritesFor (Some (edit files script)) status told old new = EditWrites told files script status old new
-WritesFor (Some (ensemble files)) status told old new = OfBoth told files (λ bytes series. MayWrite status → WritesEnsemble status bytes series old new)
+WritesFor (Some (edit files script)) status told old new before after = EditWrites told files script status old new
+WritesFor (Some (ensemble files)) status told old new before after = OfBoth told files (λ bytes series. MayWrite status → WritesEnsemble status bytes series old new)
 
 -- searches push at most so often as the bound of a month allows, for each month of the basin that the bytes spell
 abbrev pub PushesOf : Told → Files → ℕ → ℕ → Type 0

@@ -9,22 +9,24 @@ ghost use Rattle.index_seq.specs.Traces.{HasWholeYears, years_of};
 ghost use Rattle.reports.specs.Ends.{IsRun};
 ghost use Rattle.reports.specs.Reports.{report_text, trial_text};
 ghost use Rattle.water_edge.specs.Edge.{Rose};
-ghost use Rattle.water_model.specs.Text.{text_bytes};
 ghost use Rattle.water_model.specs.Valid.{IsValidBasin, IsSeriesOf};
 ghost use Rattle.basin_cli.specs.Actions.{EndsChecking, LeavesRecords, LeavesTraces};
 ghost use Rattle.basin_cli.specs.Answer.{answered, ending_of, EndsAnswer};
 ghost use Rattle.basin_cli.specs.Ending.{status_of};
-ghost use Rattle.basin_cli.specs.Headline.{KeepsPriority};
 ghost use Rattle.basin_cli.specs.Out.{IsRefusal, Leaves, MayWrite};
 ghost use Rattle.basin_cli.specs.Outcome.{HasTrialCause, WritesTrial, answer_line};
+ghost use Rattle.basin_cli.specs.Written.{LeavesRun};
 ghost use Rattle.month_fold.specs.Runs.{run_pushes};
 
 use crate::ending::Ending;
-use crate::writing::text_of_run;
+use crate::handing::put_whole;
+use crate::writing::write_run;
 use basin_gen::make;
 use cert_check::{Checker, Refuted, check_text};
 use index_seq::{EnsembleStop, ensemble_report};
+use month_fold::run::Run;
 use reports::{ReportStop, period_report, trial_report};
+use rights_roll::roll::Roll;
 use std::alloc::{AllocError, Global};
 use std::sync::ledger::Ledger;
 use steps::Steps;
@@ -32,7 +34,8 @@ use water_edge::Sink;
 use water_model::types::{Basin, Inflows};
 use water_text::line::Line;
 
-/// Solves the months of a basin with a series and puts their text.
+/// Solves the months of a basin with a series and puts their text, each month's lines as soon as it is solved. Memory is taken
+/// before the first byte is put.
 pub fn run_basin<K: Sink, L: Ledger>(
     alloc: Global,
     basin: &Basin,
@@ -43,16 +46,21 @@ pub fn run_basin<K: Sink, L: Ledger>(
     requires basin { IsValidBasin basin.now }
     requires series { IsSeriesOf basin.now series.now }
     ensures ends { HasTrialCause result (Rose (K.faults out.old) (K.faults out.new)) }
-    ensures leaves { LeavesRecords (KeepsPriority basin.now series.now) (text_bytes basin.now) result (K.taken out.old) (K.taken out.new) }
+    ensures leaves { LeavesRun basin.now series.now (status_of result) (K.taken out.old) (K.taken out.new)
+        searches.old searches.new }
     ensures out_stays { (MayWrite (status_of result) → ⊥) → out.new ≡ out.old }
-    ensures idle { IsRefusal (status_of result) → ⊥ }
+    ensures idle { (MayWrite (status_of result) → ⊥) → searches.new ≡ searches.old }
     ensures pushes { searches.new ≤ searches.old + run_pushes basin.now }
 {
-    let text = match text_of_run(alloc, basin, series, searches) {
-        Ok(text) => text,
+    let roll = match Roll::of_basin(alloc, basin) {
+        Ok(roll) => roll,
         Err(_) => return Ending::OutOfMemory,
     };
-    match out.put(text.bytes()) {
+    let mut run = match Run::open(alloc, basin, series) {
+        Ok(run) => run,
+        Err(_) => return Ending::OutOfMemory,
+    };
+    match write_run(out, basin, &roll, &mut run, searches) {
         Ok(()) => Ending::Done,
         Err(_) => Ending::WriteFault,
     }
@@ -71,11 +79,14 @@ pub fn report_basin<K: Sink, L: Ledger>(
     ensures ends { HasTrialCause result (Rose (K.faults out.old) (K.faults out.new)) }
     ensures leaves { LeavesRecords (IsRun basin.now series.now) (report_text basin.now series.now) result (K.taken out.old) (K.taken out.new) }
     ensures out_stays { (MayWrite (status_of result) → ⊥) → out.new ≡ out.old }
-    ensures idle { IsRefusal (status_of result) → ⊥ }
+    ensures idle { (MayWrite (status_of result) → ⊥) → searches.new ≡ searches.old }
     ensures pushes { searches.new ≤ searches.old + run_pushes basin.now }
 {
     match period_report(alloc, basin, series, out, searches) {
-        Ok(()) => Ending::Done,
+        Ok(()) => match out.flush() {
+            Ok(()) => Ending::Done,
+            Err(_) => Ending::WriteFault,
+        },
         Err(ReportStop::SinkFailed) => Ending::WriteFault,
         Err(ReportStop::OutOfMemory) => Ending::OutOfMemory,
     }
@@ -99,7 +110,10 @@ pub fn gather_basin<K: Sink, L: Ledger>(
     ensures pushes { searches.new ≤ searches.old + years_of basin.now * run_pushes basin.now }
 {
     match ensemble_report(alloc, basin, series, out, searches) {
-        Ok(()) => Ending::Done,
+        Ok(()) => match out.flush() {
+            Ok(()) => Ending::Done,
+            Err(_) => Ending::WriteFault,
+        },
         Err(EnsembleStop::SinkFailed) => Ending::WriteFault,
         Err(EnsembleStop::OutOfMemory) => Ending::OutOfMemory,
     }
@@ -118,7 +132,7 @@ pub fn try_basin<K: Sink, L: Ledger>(
     ensures ends { HasTrialCause result (Rose (K.faults out.old) (K.faults out.new)) }
     ensures writes { MayWrite (status_of result) → WritesTrial (status_of result) number size (K.taken out.old) (K.taken out.new) }
     ensures out_stays { (MayWrite (status_of result) → ⊥) → out.new ≡ out.old }
-    ensures idle { IsRefusal (status_of result) → ⊥ }
+    ensures idle { (MayWrite (status_of result) → ⊥) → searches.new ≡ searches.old }
     ensures pushes { searches.new ≤ searches.old + run_pushes (generated number size) }
 {
     let (basin, series) = match make(alloc, number, size) {
@@ -126,7 +140,10 @@ pub fn try_basin<K: Sink, L: Ledger>(
         Err(_) => return Ending::OutOfMemory,
     };
     match trial_report(alloc, number, size, &basin, &series, out, searches) {
-        Ok(()) => Ending::Done,
+        Ok(()) => match out.flush() {
+            Ok(()) => Ending::Done,
+            Err(_) => Ending::WriteFault,
+        },
         Err(ReportStop::SinkFailed) => Ending::WriteFault,
         Err(ReportStop::OutOfMemory) => Ending::OutOfMemory,
     }
@@ -184,7 +201,7 @@ fn tell_answer<K: Sink>(answer: &Result<u32, Refuted>, out: &mut K) -> Ending
 {
     let mut line = Line::new();
     put_answer(&mut line, answer);
-    match out.put(line.bytes()) {
+    match put_whole(out, line.bytes()) {
         Ok(()) => judged(answer),
         Err(_) => Ending::WriteFault,
     }

@@ -14,6 +14,7 @@ ghost use Rattle.senior_hold.specs.MonthNetwork.{month_pushes};
 
 use crate::draft::Draft;
 use crate::ending::Ending;
+use crate::handing::put_whole;
 use injury::{Pairing, put_compared};
 use month_fold::run::Run;
 use std::alloc::{AllocError, Global};
@@ -221,7 +222,7 @@ pub fn compare_basins<K: Sink, L: Ledger>(
         Ok(drafted) => drafted,
         Err(_) => return Ending::OutOfMemory,
     };
-    match out.put(text.bytes()) {
+    match put_whole(out, text.bytes()) {
         Ok(()) => ending_with(injured),
         Err(_) => Ending::WriteFault,
     }

@@ -1,5 +1,6 @@
 //! A text that grows in memory before any of it is written.
-ghost use Rattle.std.specs.Prelude.{◌≡◌, [], Some, IsErr};
+ghost use Rattle.std.specs.Prelude.{◌≡◌, [], Some, IsErr, OnOk};
+ghost use Rattle.std.specs.Io.KnownBytes.{Keeps};
 ghost use Rattle.water_edge.specs.Edge.{HasCause, Puts};
 ghost use Rattle.basin_cli.specs.Drafts.{DraftState};
 
@@ -44,6 +45,8 @@ impl Draft {
 impl Sink for Draft {
     ghost taken = { λ d. Some d.bytes };
 
+    ghost handed = { λ d. Some d.bytes };
+
     ghost faults = { λ d. d.faults };
 
     fn put(&mut self, bytes: &[u8]) -> Result<(), SinkFailed>
@@ -57,5 +60,14 @@ impl Sink for Draft {
                 Err(SinkFailed)
             }
         }
+    }
+
+    /// Nothing is kept back.
+    fn flush(&mut self) -> Result<(), SinkFailed>
+        ensures bytes { Keeps (Some self.old.bytes) (Some self.new.bytes) }
+        ensures all { OnOk result (Some self.new.bytes ≡ Some self.new.bytes) }
+        ensures cause { HasCause self.old.faults self.new.faults (IsErr result) }
+    {
+        Ok(())
     }
 }

@@ -59,9 +59,16 @@ fn answer_edits<K: Sink, L: Ledger>(
     ensures pushes { searches.new ≤ searches.old + cost edits.now * month_pushes basin.now }
 {
     match put_shows(alloc, basin, series, edits, out, searches) {
-        Ok(()) => Ending::Done,
+        Ok(()) => match out.flush() {
+            Ok(()) => Ending::Done,
+            Err(_) => Ending::WriteFault,
+        },
         Err(EditStop::SinkFailed) => Ending::WriteFault,
-        Err(EditStop::OutOfMemory) => Ending::OutOfMemory,
+        Err(EditStop::OutOfMemory) => {
+            // The months that were shown are handed on as far as that goes.
+            let _ = out.flush();
+            Ending::OutOfMemory
+        }
     }
 }
 

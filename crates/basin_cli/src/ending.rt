@@ -6,6 +6,7 @@ ghost use Rattle.inflow_file.specs.FaultNames.{fault_name};
 ghost use Rattle.basin_cli.specs.Ending.{status_of, status_of_second, line_of, refusal_line, second_line, second_of, series_line, file_name, script_fault_name, script_line, CanBeTold, CanBeSpelled, CanBeSpelledOfSecond};
 ghost use Rattle.basin_cli.specs.Outcome.{IsQuiet, Tells};
 
+use crate::handing::put_whole;
 use crate::status::Status;
 use basin_tree::walk::Finding;
 use cert_check::Refuted;
@@ -282,5 +283,5 @@ pub fn tell<E: Sink>(ending: &Ending, err: &mut E)
 {
     let mut line = Line::new();
     put_line(&mut line, ending);
-    let _ = err.put(line.bytes());
+    let _ = put_whole(err, line.bytes());
 }

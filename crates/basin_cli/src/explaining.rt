@@ -64,7 +64,11 @@ fn right_named(basin: &Basin, name: &[u8]) -> Option<u32>
 }
 
 /// Solves so many months of a run that had none yet.
-fn solve_months<L: Ledger>(run: &mut Run, count: u32, searches: &mut Steps<L>)
+fn solve_months<L: Ledger>(
+    run: &mut Run,
+    count: u32,
+    searches: &mut Steps<L>,
+)
     requires first { StandsFor run.old [] }
     requires within { count ≤ run.old.basin.months }
     ensures basin { run.new.basin ≡ run.old.basin }
@@ -79,7 +83,11 @@ fn solve_months<L: Ledger>(run: &mut Run, count: u32, searches: &mut Steps<L>)
 }
 
 /// Solves the months of a run up to the one of this index, whose record `month` then gives.
-fn solve_up_to<L: Ledger>(run: &mut Run, index: u32, searches: &mut Steps<L>)
+fn solve_up_to<L: Ledger>(
+    run: &mut Run,
+    index: u32,
+    searches: &mut Steps<L>,
+)
     requires first { StandsFor run.old [] }
     requires within { index < run.old.basin.months }
     ensures basin { run.new.basin ≡ run.old.basin }
@@ -184,7 +192,10 @@ fn answer<K: Sink>(
     ensures idle { IsRefusal (status_of result) → ⊥ }
 {
     match put_answer(out, basin, roll, month, right) {
-        Ok(()) => ending_for(month, right),
+        Ok(()) => match out.flush() {
+            Ok(()) => ending_for(month, right),
+            Err(_) => Ending::WriteFault,
+        },
         Err(_) => Ending::WriteFault,
     }
 }
@@ -209,7 +220,7 @@ fn explain_in<K: Sink, L: Ledger>(
         AnswersAt basin.now run.old.series index right result (Rose (K.faults out.old) (K.faults out.new)) (K.taken out.old) (K.taken out.new) }
     ensures memory { (MayWrite (status_of result) → ⊥) → result ≡ OutOfMemory }
     ensures out_stays { (MayWrite (status_of result) → ⊥) → out.new ≡ out.old }
-    ensures idle { IsRefusal (status_of result) → ⊥ }
+    ensures idle { (MayWrite (status_of result) → ⊥) → searches.new ≡ searches.old }
     ensures pushes { searches.new ≤ searches.old + (index + 1) * month_pushes basin.now }
 {
     solve_up_to(run, index, searches);
@@ -234,7 +245,7 @@ fn explain_at<K: Sink, L: Ledger>(
         AnswersAt basin.now series.now index right result (Rose (K.faults out.old) (K.faults out.new)) (K.taken out.old) (K.taken out.new) }
     ensures memory { (MayWrite (status_of result) → ⊥) → result ≡ OutOfMemory }
     ensures out_stays { (MayWrite (status_of result) → ⊥) → out.new ≡ out.old }
-    ensures idle { IsRefusal (status_of result) → ⊥ }
+    ensures idle { (MayWrite (status_of result) → ⊥) → searches.new ≡ searches.old }
     ensures pushes { searches.new ≤ searches.old + (index + 1) * month_pushes basin.now }
 {
     let roll = match Roll::of_basin(alloc, basin) {
@@ -266,7 +277,7 @@ pub fn explain_right<K: Sink, L: Ledger>(
     ensures answers { MayWrite (status_of result) →
         IsAnswered basin.now series.now month name.now result (K.taken out.old) (K.taken out.new) }
     ensures out_stays { (MayWrite (status_of result) → ⊥) → out.new ≡ out.old }
-    ensures idle { IsRefusal (status_of result) → searches.new ≡ searches.old }
+    ensures idle { (MayWrite (status_of result) → ⊥) → searches.new ≡ searches.old }
     ensures pushes { PushesUpTo basin.now month searches.old searches.new }
 {
     let Some(index) = index_of(basin, month) else {

@@ -12,6 +12,7 @@ mod ending;
 mod explaining;
 mod files;
 mod found;
+mod handing;
 mod pairs;
 mod status;
 mod top;

@@ -4,7 +4,7 @@ ghost use Rattle.water_edge.specs.Edge.{Rose};
 ghost use Rattle.water_text.specs.Months.{IsMonth};
 ghost use Rattle.basin_cli.specs.Command.{IsInForm, ServesFiles, ServesSeries, check, command_named, command_of, edit, named, ensemble, report, run, why};
 ghost use Rattle.basin_cli.specs.Ending.{status_of, CanBeTold};
-ghost use Rattle.basin_cli.specs.Out.{IsRefusal, MayLeave};
+ghost use Rattle.basin_cli.specs.Out.{IsIdle, MayLeave};
 ghost use Rattle.basin_cli.specs.Outcome.{EndingHasCause, Ends, Completes, WritesFor, PushesFor, IsQuiet};
 
 use crate::actions::{check_bytes, gather_basin, report_basin, run_basin, try_basin};
@@ -32,9 +32,9 @@ fn do_run<S: Shelf, K: Sink, L: Ledger>(
     requires { ServesFiles (S.serves shelf.old) (Some (run (named inputs))) }
     ensures cause { EndingHasCause (Some (run (named inputs.entry))) result (S.told shelf.old)
         (Rose (S.faults shelf.old) (S.faults shelf.new)) (Rose (K.faults out.old) (K.faults out.new)) }
-    ensures writes { WritesFor (Some (run (named inputs.entry))) (status_of result) (S.told shelf.old) (K.taken out.old) (K.taken out.new) }
+    ensures writes { WritesFor (Some (run (named inputs.entry))) (status_of result) (S.told shelf.old) (K.taken out.old) (K.taken out.new) searches.old searches.new }
     ensures out_stays { (MayLeave (Some (run (named inputs.entry))) (status_of result) → ⊥) → out.new ≡ out.old }
-    ensures idle { IsRefusal (status_of result) → searches.new ≡ searches.old }
+    ensures idle { IsIdle (Some (run (named inputs.entry))) (status_of result) → searches.new ≡ searches.old }
     ensures pushes { PushesFor (Some (run (named inputs.entry))) (S.told shelf.old) searches.old searches.new }
     ensures told { CanBeTold result }
 {
@@ -56,9 +56,9 @@ fn do_report<S: Shelf, K: Sink, L: Ledger>(
     requires { ServesFiles (S.serves shelf.old) (Some (report (named inputs))) }
     ensures cause { EndingHasCause (Some (report (named inputs.entry))) result (S.told shelf.old)
         (Rose (S.faults shelf.old) (S.faults shelf.new)) (Rose (K.faults out.old) (K.faults out.new)) }
-    ensures writes { WritesFor (Some (report (named inputs.entry))) (status_of result) (S.told shelf.old) (K.taken out.old) (K.taken out.new) }
+    ensures writes { WritesFor (Some (report (named inputs.entry))) (status_of result) (S.told shelf.old) (K.taken out.old) (K.taken out.new) searches.old searches.new }
     ensures out_stays { (MayLeave (Some (report (named inputs.entry))) (status_of result) → ⊥) → out.new ≡ out.old }
-    ensures idle { IsRefusal (status_of result) → searches.new ≡ searches.old }
+    ensures idle { IsIdle (Some (report (named inputs.entry))) (status_of result) → searches.new ≡ searches.old }
     ensures pushes { PushesFor (Some (report (named inputs.entry))) (S.told shelf.old) searches.old searches.new }
     ensures told { CanBeTold result }
 {
@@ -80,7 +80,7 @@ fn do_check<S: Shelf, K: Sink>(
     requires { ServesFiles (S.serves shelf.old) (Some (check (named inputs) result_name.now)) }
     ensures cause { EndingHasCause (Some (check (named inputs.entry) result_name.now)) result (S.told shelf.old)
         (Rose (S.faults shelf.old) (S.faults shelf.new)) (Rose (K.faults out.old) (K.faults out.new)) }
-    ensures writes { WritesFor (Some (check (named inputs.entry) result_name.now)) (status_of result) (S.told shelf.old) (K.taken out.old) (K.taken out.new) }
+    ensures writes { WritesFor (Some (check (named inputs.entry) result_name.now)) (status_of result) (S.told shelf.old) (K.taken out.old) (K.taken out.new) 0 0 }
     ensures out_stays { (MayLeave (Some (check (named inputs.entry) result_name.now)) (status_of result) → ⊥) → out.new ≡ out.old }
     ensures told { CanBeTold result }
 {
@@ -109,9 +109,9 @@ fn do_why<S: Shelf, K: Sink, L: Ledger>(
     requires month { IsMonth month }
     ensures cause { EndingHasCause (Some (why (named inputs.entry) month right.now)) result (S.told shelf.old)
         (Rose (S.faults shelf.old) (S.faults shelf.new)) (Rose (K.faults out.old) (K.faults out.new)) }
-    ensures writes { WritesFor (Some (why (named inputs.entry) month right.now)) (status_of result) (S.told shelf.old) (K.taken out.old) (K.taken out.new) }
+    ensures writes { WritesFor (Some (why (named inputs.entry) month right.now)) (status_of result) (S.told shelf.old) (K.taken out.old) (K.taken out.new) searches.old searches.new }
     ensures out_stays { (MayLeave (Some (why (named inputs.entry) month right.now)) (status_of result) → ⊥) → out.new ≡ out.old }
-    ensures idle { IsRefusal (status_of result) → searches.new ≡ searches.old }
+    ensures idle { IsIdle (Some (why (named inputs.entry) month right.now)) (status_of result) → searches.new ≡ searches.old }
     ensures pushes { PushesFor (Some (why (named inputs.entry) month right.now)) (S.told shelf.old) searches.old searches.new }
     ensures told { CanBeTold result }
 {
@@ -141,9 +141,9 @@ fn do_ensemble<S: Shelf, K: Sink, L: Ledger>(
     requires { ServesFiles (S.serves shelf.old) (Some (ensemble (named inputs))) }
     ensures cause { EndingHasCause (Some (ensemble (named inputs.entry))) result (S.told shelf.old)
         (Rose (S.faults shelf.old) (S.faults shelf.new)) (Rose (K.faults out.old) (K.faults out.new)) }
-    ensures writes { WritesFor (Some (ensemble (named inputs.entry))) (status_of result) (S.told shelf.old) (K.taken out.old) (K.taken out.new) }
+    ensures writes { WritesFor (Some (ensemble (named inputs.entry))) (status_of result) (S.told shelf.old) (K.taken out.old) (K.taken out.new) searches.old searches.new }
     ensures out_stays { (MayLeave (Some (ensemble (named inputs.entry))) (status_of result) → ⊥) → out.new ≡ out.old }
-    ensures idle { IsRefusal (status_of result) → searches.new ≡ searches.old }
+    ensures idle { IsIdle (Some (ensemble (named inputs.entry))) (status_of result) → searches.new ≡ searches.old }
     ensures pushes { PushesFor (Some (ensemble (named inputs.entry))) (S.told shelf.old) searches.old searches.new }
     ensures told { CanBeTold result }
 {
@@ -166,9 +166,9 @@ fn do_edit<S: Shelf, K: Sink, L: Ledger>(
     requires { ServesFiles (S.serves shelf.old) (Some (edit (named inputs) script.now)) }
     ensures cause { EndingHasCause (Some (edit (named inputs.entry) script.now)) result (S.told shelf.old)
         (Rose (S.faults shelf.old) (S.faults shelf.new)) (Rose (K.faults out.old) (K.faults out.new)) }
-    ensures writes { WritesFor (Some (edit (named inputs.entry) script.now)) (status_of result) (S.told shelf.old) (K.taken out.old) (K.taken out.new) }
+    ensures writes { WritesFor (Some (edit (named inputs.entry) script.now)) (status_of result) (S.told shelf.old) (K.taken out.old) (K.taken out.new) searches.old searches.new }
     ensures out_stays { (MayLeave (Some (edit (named inputs.entry) script.now)) (status_of result) → ⊥) → out.new ≡ out.old }
-    ensures idle { IsRefusal (status_of result) → searches.new ≡ searches.old }
+    ensures idle { IsIdle (Some (edit (named inputs.entry) script.now)) (status_of result) → searches.new ≡ searches.old }
     ensures pushes { PushesFor (Some (edit (named inputs.entry) script.now)) (S.told shelf.old) searches.old searches.new }
     ensures told { CanBeTold result }
 {
@@ -194,9 +194,9 @@ fn decide<S: Shelf, K: Sink, L: Ledger>(
     requires { ServesFiles (S.serves shelf.old) (command_of (map string_bytes words.now)) }
     ensures cause { EndingHasCause (command_of (map string_bytes words.now)) result (S.told shelf.old)
         (Rose (S.faults shelf.old) (S.faults shelf.new)) (Rose (K.faults out.old) (K.faults out.new)) }
-    ensures writes { WritesFor (command_of (map string_bytes words.now)) (status_of result) (S.told shelf.old) (K.taken out.old) (K.taken out.new) }
+    ensures writes { WritesFor (command_of (map string_bytes words.now)) (status_of result) (S.told shelf.old) (K.taken out.old) (K.taken out.new) searches.old searches.new }
     ensures out_stays { (MayLeave (command_of (map string_bytes words.now)) (status_of result) → ⊥) → out.new ≡ out.old }
-    ensures idle { IsRefusal (status_of result) → searches.new ≡ searches.old }
+    ensures idle { IsIdle (command_of (map string_bytes words.now)) (status_of result) → searches.new ≡ searches.old }
     ensures pushes { PushesFor (command_of (map string_bytes words.now)) (S.told shelf.old) searches.old searches.new }
     ensures told { CanBeTold result }
 {
@@ -245,14 +245,16 @@ pub fn basin_main<S: Shelf, K: Sink, E: Sink, L: Ledger>(
         (Rose (S.faults shelf.old) (S.faults shelf.new)) (Rose (K.faults out.old) (K.faults out.new)) }
 
     // The text of records that keep the priority of rights, a report on them, the answer to a result, the comparison of two
-    // such lists of records, or the months that a script shows; or after a fault of out a front of it.
-    ensures writes { WritesFor (command_of (map string_bytes words.now)) result (S.told shelf.old) (K.taken out.old) (K.taken out.new) }
+    // such lists of records, or the months that a script shows; or after a fault of out a front of it. The months of a run
+    // are written as they are solved.
+    ensures writes { WritesFor (command_of (map string_bytes words.now)) result (S.told shelf.old) (K.taken out.old) (K.taken out.new) searches.old searches.new }
     ensures out_stays { (MayLeave (command_of (map string_bytes words.now)) result → ⊥) → out.new ≡ out.old }
     ensures err_stays { IsQuiet result → err.new ≡ err.old }
 
-    // Where words, a file or a script are refused or not read, nothing is solved. Each month that is solved has at most so many
-    // pushes as its bound allows, and a check has none.
-    ensures idle { IsRefusal result → searches.new ≡ searches.old }
+    // Where words, a file or a script are refused or not read, nothing is solved; of a run, a report, a trial and an account
+    // want of memory comes before a month is solved, or not at all. Each month that is solved has at most so many pushes as
+    // its bound allows, and a check has none.
+    ensures idle { IsIdle (command_of (map string_bytes words.now)) result → searches.new ≡ searches.old }
     ensures pushes { PushesFor (command_of (map string_bytes words.now)) (S.told shelf.old) searches.old searches.new }
 {
     let ending = decide(alloc, words, shelf, out, searches);

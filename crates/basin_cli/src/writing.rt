@@ -1,144 +1,93 @@
-//! The result text of a run.
-ghost use Rattle.std.specs.Prelude.{ℕ, List, [], ◌≡◌, ◌+◌, ◌-◌, ◌*◌, ◌<◌, ◌≤◌, IfOk, OnOk};
+//! The result text of a run, written month by month.
+ghost use Rattle.std.specs.Prelude.{ℕ, List, [], ◌≡◌, ◌+◌, ◌*◌, ◌<◌, ◌≤◌, Option, IsErr, OnOk, OnErr};
 ghost use Rattle.rights_roll.specs.Rolls.{IsRollOf};
-ghost use Rattle.water_model.specs.Text.{text_bytes};
-ghost use Rattle.water_model.specs.Valid.{IsValidBasin, IsSeriesOf};
-ghost use Rattle.water_model.specs.declared.types.MonthRecord.{MonthRecord};
+ghost use Rattle.water_edge.specs.Edge.{HasCause};
+ghost use Rattle.water_model.specs.Valid.{IsValidBasin};
 ghost use Rattle.month_fold.specs.Runs.{StandsFor, run_pushes};
-ghost use Rattle.result_text.specs.Begun.{begun_bytes};
-ghost use Rattle.basin_cli.specs.Drafts.{IsDraftOf, IsTextOfRun};
+ghost use Rattle.basin_cli.specs.Written.{IsWritten, IsWrittenRun, StopsWriting};
 ghost use Rattle.senior_hold.specs.MonthNetwork.{month_pushes};
 
-use crate::draft::Draft;
 use month_fold::run::Run;
 use result_text::{put_head, put_month, put_tail};
 use rights_roll::roll::Roll;
-use std::alloc::{AllocError, Global};
 use std::sync::ledger::Ledger;
 use steps::Steps;
-use water_model::types::{Basin, Inflows};
+use water_edge::{Sink, SinkFailed};
+use water_model::types::Basin;
 
-/// Solves the next month and appends its lines.
-fn draft_month<L: Ledger>(
-    draft: &mut Draft,
+/// Solves the next month, puts its lines and hands them on. `start` is what out had taken before the head. It takes no memory.
+fn write_month<K: Sink, L: Ledger>(
+    out: &mut K,
     basin: &Basin,
     roll: &Roll,
     run: &mut Run,
     searches: &mut Steps<L>,
-) -> Result<(), AllocError>
+) -> Result<(), SinkFailed>
+    ghost start: { Option (List ℕ) }
     requires basin { IsValidBasin basin.now }
     requires roll { IsRollOf basin.now.rights roll.now }
     requires left { run.old.done < basin.now.months }
-    requires draft { IsDraftOf basin.now run.old draft.old.bytes }
+    requires written { IsWritten basin.now run.old start (K.taken out.old) }
     ensures series { run.new.series ≡ run.old.series }
-    ensures done { OnOk result (run.new.done ≡ run.old.done + 1) }
-    ensures draft { OnOk result (IsDraftOf basin.now run.new draft.new.bytes) }
+    ensures done { run.new.done ≡ run.old.done + 1 }
+    ensures written { OnOk result (IsWritten basin.now run.new start (K.taken out.new)) }
+    ensures stops { OnErr result ((before : ℕ) → searches.old ≤ before + run.old.done * month_pushes basin.now →
+        StopsWriting basin.now run.old.series start (K.taken out.new) before searches.new) }
+    ensures cause { HasCause (K.faults out.old) (K.faults out.new) (IsErr result) }
     ensures pushes { searches.new ≤ searches.old + month_pushes basin.now }
 {
     run.step(searches);
-    match put_month(draft, basin, roll, run.month()) {
-        Ok(()) => Ok(()),
-        Err(_) => Err(AllocError),
-    }
+    put_month(out, basin, roll, run.month())?;
+    out.flush()
 }
 
-/// Solves all months that are left and appends their lines.
-fn draft_months<L: Ledger>(
-    draft: &mut Draft,
+/// Solves all months of a run that had none yet, and puts each one's lines behind its step.
+fn write_months<K: Sink, L: Ledger>(
+    out: &mut K,
     basin: &Basin,
     roll: &Roll,
     run: &mut Run,
     searches: &mut Steps<L>,
-) -> Result<(), AllocError>
+) -> Result<(), SinkFailed>
+    ghost start: { Option (List ℕ) }
     requires basin { IsValidBasin basin.now }
     requires roll { IsRollOf basin.now.rights roll.now }
-    requires draft { IsDraftOf basin.now run.old draft.old.bytes }
     requires first { run.old.done ≡ 0 }
+    requires written { IsWritten basin.now run.old start (K.taken out.old) }
     ensures series { run.new.series ≡ run.old.series }
     ensures done { OnOk result (run.new.done ≡ basin.now.months) }
-    ensures draft { OnOk result (IsDraftOf basin.now run.new draft.new.bytes) }
+    ensures written { OnOk result (IsWritten basin.now run.new start (K.taken out.new)) }
+    ensures stops { OnErr result (StopsWriting basin.now run.old.series start (K.taken out.new) searches.old searches.new) }
+    ensures cause { HasCause (K.faults out.old) (K.faults out.new) (IsErr result) }
     ensures pushes { searches.new ≤ searches.old + run_pushes basin.now }
 {
     for _month in 0..basin.months {
-        draft_month(draft, basin, roll, run, searches)?;
+        write_month(out, basin, roll, run, searches)?;
     }
     Ok(())
 }
 
-/// A draft with the head of a basin's text.
-fn draft_head(alloc: Global, basin: &Basin) -> Result<Draft, AllocError>
-    requires { IsValidBasin basin.now }
-    ensures { IfOk result (λ draft. draft.bytes ≡ begun_bytes basin.now []) }
-{
-    let mut draft = Draft::new(alloc);
-    match put_head(&mut draft, basin) {
-        Ok(()) => Ok(draft),
-        Err(_) => Err(AllocError),
-    }
-}
-
-/// Appends the tail of a basin's text.
-fn draft_tail(draft: &mut Draft, basin: &Basin) -> Result<(), AllocError>
-    requires { IsValidBasin basin.now }
-    ensures { OnOk result ((records : List MonthRecord) → draft.old.bytes ≡ begun_bytes basin.now records → draft.new.bytes ≡ text_bytes basin.now records) }
-{
-    match put_tail(draft, basin) {
-        Ok(()) => Ok(()),
-        Err(_) => Err(AllocError),
-    }
-}
-
-/// Solves all months of a run and drafts their text.
-fn draft_run<L: Ledger>(
-    alloc: Global,
+/// Puts the head of the text, the lines of each month as soon as it is solved, and the tail. It takes no memory.
+pub fn write_run<K: Sink, L: Ledger>(
+    out: &mut K,
     basin: &Basin,
     roll: &Roll,
     run: &mut Run,
     searches: &mut Steps<L>,
-) -> Result<Draft, AllocError>
+) -> Result<(), SinkFailed>
+    ghost start: { Option (List ℕ) }
     requires basin { IsValidBasin basin.now }
     requires roll { IsRollOf basin.now.rights roll.now }
     requires run { run.old.basin ≡ basin.now }
     requires first { StandsFor run.old [] }
-    ensures text { IfOk result (λ draft. IsTextOfRun basin.now run.old.series draft.bytes) }
+    requires start { start ≡ K.taken out.old }
+    ensures written { OnOk result (IsWrittenRun basin.now run.old.series start (K.taken out.new)) }
+    ensures stops { OnErr result (StopsWriting basin.now run.old.series start (K.taken out.new) searches.old searches.new) }
+    ensures cause { HasCause (K.faults out.old) (K.faults out.new) (IsErr result) }
     ensures pushes { searches.new ≤ searches.old + run_pushes basin.now }
 {
-    let mut draft = draft_head(alloc, basin)?;
-    draft_months(&mut draft, basin, roll, run, searches)?;
-    draft_tail(&mut draft, basin)?;
-    Ok(draft)
-}
-
-/// The same with a roll of the basin.
-fn draft_by_roll<L: Ledger>(
-    alloc: Global,
-    basin: &Basin,
-    series: &Inflows,
-    roll: &Roll,
-    searches: &mut Steps<L>,
-) -> Result<Draft, AllocError>
-    requires basin { IsValidBasin basin.now }
-    requires series { IsSeriesOf basin.now series.now }
-    requires roll { IsRollOf basin.now.rights roll.now }
-    ensures text { IfOk result (λ draft. IsTextOfRun basin.now series.now draft.bytes) }
-    ensures pushes { searches.new ≤ searches.old + run_pushes basin.now }
-{
-    let mut run = Run::open(alloc, basin, series)?;
-    draft_run(alloc, basin, roll, &mut run, searches)
-}
-
-/// The whole text of a run of a basin with a series, before any of it is written.
-pub fn text_of_run<L: Ledger>(
-    alloc: Global,
-    basin: &Basin,
-    series: &Inflows,
-    searches: &mut Steps<L>,
-) -> Result<Draft, AllocError>
-    requires basin { IsValidBasin basin.now }
-    requires series { IsSeriesOf basin.now series.now }
-    ensures text { IfOk result (λ draft. IsTextOfRun basin.now series.now draft.bytes) }
-    ensures pushes { searches.new ≤ searches.old + run_pushes basin.now }
-{
-    let roll = Roll::of_basin(alloc, basin)?;
-    draft_by_roll(alloc, basin, series, &roll, searches)
+    put_head(out, basin)?;
+    write_months(out, basin, roll, run, searches)?;
+    put_tail(out, basin)?;
+    out.flush()
 }

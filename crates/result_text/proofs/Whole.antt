@@ -24,7 +24,7 @@ use Rattle.result_text.proofs.Puts.{Puts-then}
 pub begun-head : (b : Basin) → begun_bytes b [] ≡ flat_map (whole_line b) (items_of_head b)
 begun-head b = ap (flat_map (whole_line b)) (append-nil (items_of_head b))
 
-begun-more : (b : Basin) (records : List MonthRecord) (m : MonthRecord) →
+pub begun-more : (b : Basin) (records : List MonthRecord) (m : MonthRecord) →
     begun_bytes b (records ++ m ∷ []) ≡ begun_bytes b records ++ flat_map (whole_line b) (items_of_month b m)
 begun-more b records m =
     ap (λ items. flat_map (whole_line b) (items_of_head b ++ items))
@@ -33,7 +33,7 @@ begun-more b records m =
     ∙ flat_map-append (whole_line b) (items_of_head b ++ flat_map (items_of_month b) records) (items_of_month b m))
 
 -- a text is what was begun and its tail
-text-begun : (b : Basin) (records : List MonthRecord) → text_bytes b records ≡ begun_bytes b records ++ flat_map (whole_line b) (items_of_tail b)
+pub text-begun : (b : Basin) (records : List MonthRecord) → text_bytes b records ≡ begun_bytes b records ++ flat_map (whole_line b) (items_of_tail b)
 text-begun b records =
     ap (flat_map (whole_line b)) (sym (append_assoc (items_of_head b) (flat_map (items_of_month b) records) (items_of_tail b)))
     ∙ flat_map-append (whole_line b) (items_of_head b ++ flat_map (items_of_month b) records) (items_of_tail b)

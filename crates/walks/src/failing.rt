@@ -1,8 +1,9 @@
 //! Words that are no command, and files and streams that fail.
 use basin_cli::Status;
-use stage::basins::RIVER;
+use stage::basins::{JUNIOR_SHORT, RIVER};
 use stage::ordinary::{ORDINARY, ORDINARY_SERIES};
 use stage::{NEVER, blanks, expect, files};
+use std::alloc::Global;
 use std::test::Fail;
 
 #[test]
@@ -64,6 +65,37 @@ fn tells_what_fails(rt: HostRuntime) -> Result<(), Fail> {
         expect(rt.alloc(), &words, set, (status, "", line))?;
     }
     Ok(())
+}
+
+/// So many lines of a text, from its first on.
+fn front(alloc: Global, text: &str, count: u64) -> Result<String, Fail> {
+    let mut front = String::new(alloc);
+    let mut left = count;
+    for line in text.lines() {
+        if left == 0 {
+            break;
+        }
+        left -= 1;
+        front.push_str(line)?;
+        front.push_str("\n")?;
+    }
+    Ok(front)
+}
+
+/// A run puts line by line: where a put fails, the lines before it stand.
+#[test]
+fn leaves_the_lines_before_a_fault(rt: HostRuntime) -> Result<(), Fail> {
+    let (basin, text) = JUNIOR_SHORT;
+    for fails in 0..14u64 {
+        let mut set = files(rt.alloc(), basin, "")?;
+        set.out_fails = fails;
+        let before = front(rt.alloc(), text, fails)?;
+        let want = (Status::WriteFault, before.as_str(), "write: failed\n");
+        expect(rt.alloc(), &["run", "BASIN"], set, want)?;
+    }
+    let mut set = files(rt.alloc(), basin, "")?;
+    set.out_fails = 14;
+    expect(rt.alloc(), &["run", "BASIN"], set, (Status::Done, text, ""))
 }
 
 /// A file of one byte more than the limit.

@@ -4,7 +4,7 @@ use Rattle.injury.specs.Common.{HaveDeliveries}
 use Rattle.injury.specs.declared.pair.Pair.{Pair}
 use Rattle.injury.proofs.Growing.{common_deliver}
 use Rattle.basin_cli.proofs.Compared.{compared_more, done_more, few_injuries}
-use Rattle.basin_cli.proofs.Drafting.{last_fits}
+use Rattle.basin_cli.proofs.Written.{last_fits}
 use Rattle.basin_cli.proofs.comparing.compare_month.Goals as goal
 
 pub draft_injuries-requires-clause-month : goal.draft_injuries-requires-clause-month

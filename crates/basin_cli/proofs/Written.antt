@@ -1,0 +1,235 @@
+-- A text is written month by month.
+use Rattle.std.proofs.Common.{◌≡◌, ℕ, ◌+◌, ◌-◌, ◌*◌, ◌<◌, ◌≤◌, refl, sym, ap, ◌∙◌, subst, arith, inl, inr, List, [], ◌∷◌, ◌++◌, length, take, drop, Option, Some, Result, Ok, Err, length-append, append_assoc}
+use Rattle.std.specs.Prelude.{slice_get, OnOk, OnErr}
+use Rattle.std.specs.Io.KnownBytes.{Appends}
+use Rattle.std.proofs.lemmas.List.{take-append-drop, take-append-le}
+use Rattle.std.proofs.lemmas.Grind.{flat_map-append}
+use Rattle.std.proofs.Math.Seq.{take-append-add, take-length}
+use Rattle.std.proofs.Math.Nat.{add-mul, mul-le-mul_right}
+use Rattle.water_model.specs.History.{Follows, IsPartialHistory}
+use Rattle.water_model.specs.Spelling.{whole_line}
+use Rattle.water_model.specs.Text.{items_of_month, items_of_head, items_of_tail, text_bytes}
+use Rattle.water_model.specs.Valid.{IsValidBasin}
+use Rattle.water_model.specs.declared.types.Basin.{Basin}
+use Rattle.water_model.specs.declared.types.Inflows.{Inflows}
+use Rattle.water_model.specs.declared.types.MonthRecord.{MonthRecord}
+use Rattle.water_model.proofs.Histories.{all_months}
+use Rattle.water_model.proofs.Balance.{balanced}
+use Rattle.water_model.proofs.Returns.{covered}
+use Rattle.water_model.proofs.Greatest.{cuts_make_greatest, nobody_could_get_more}
+use Rattle.water_model.proofs.Sheltered.{histories_leave_nothing, called_rights_get_nothing, nothing_outside_helps}
+use Rattle.month_fold.specs.Runs.{RunSeen, StandsFor, run_pushes}
+use Rattle.result_text.specs.Begun.{begun_bytes}
+use Rattle.result_text.specs.Range.{FitsText}
+use Rattle.result_text.proofs.Whole.{FitsText-follows, Puts-head, Puts-month, Puts-tail, begun-head, begun-more, text-begun}
+use Rattle.result_text.proofs.Puts.{Appends-then, PutsFront}
+use Rattle.water_edge.specs.Edge.{Puts}
+use Rattle.basin_cli.specs.Written.{IsWritten, IsWrittenRun, StopsWriting}
+use Rattle.basin_cli.specs.Headline.{KeepsPriority, deliveries_of}
+use Rattle.month_fold.specs.Reaches.{HaveReaches}
+use Rattle.std.specs.List.{flat_map}
+use Rattle.senior_hold.specs.MonthNetwork.{month_pushes}
+
+pub last_is : {X : Type 0} (xs : List X) (y : X) → slice_get (xs ++ y ∷ []) (length xs) ≡ Some y
+last_is [] y = refl
+last_is (x ∷ xs) y = last_is xs y
+
+-- the last of some months follows those before it
+last_follows : (run : RunSeen) (records : List MonthRecord) (m : MonthRecord) → StandsFor run (records ++ m ∷ []) → Follows run.basin run.series records m
+last_follows run records m stands =
+    subst (λ (before : List MonthRecord). Follows run.basin run.series before m) (take-append-le (length records) records (m ∷ []) (omega arith) ∙ take-length records)
+    (stands.partial.each (length records) m (last_is records m))
+
+-- so its lines can be written
+pub last_fits : (b : Basin) (run : RunSeen) (records : List MonthRecord) (m : MonthRecord) → IsValidBasin b → run.basin ≡ b →
+    StandsFor run (records ++ m ∷ []) → FitsText b m
+last_fits b run records m valid same stands =
+    subst (λ c. FitsText c m) same (FitsText-follows run.basin run.series records m (subst IsValidBasin (sym same) valid) (last_follows run records m stands)
+    (omega (arith, stands.partial.within, length-append records (m ∷ []))))
+
+-- all months of a run keep the priority of rights
+pub whole_run : (b : Basin) (series : Inflows) (run : RunSeen) (records : List MonthRecord) → IsValidBasin b → run.basin ≡ b → run.series ≡ series →
+    StandsFor run records → run.done ≡ b.months → KeepsPriority b series records
+whole_run b series run records valid same fits stands done =
+    let partial : IsPartialHistory b series records = rw (← same, ← fits) stands.partial in
+    let reaches : HaveReaches b records = rw (← same) stands.reaches in
+    record {
+      history = all_months b series records partial (omega (arith, stands.done, done));
+      greatest = λ i m at. cuts_make_greatest b series records partial i m at;
+      reaches = reaches;
+      no_more = λ i m at q plan right l serves. nobody_could_get_more b series records partial i m at q plan right l serves;
+      no_help = λ i m at right l cut is supply' want' q plan agrees serves.
+          nothing_outside_helps b series records partial i m at right l cut is supply' want' q plan agrees serves;
+      juniors = λ i m at right l cut is. histories_leave_nothing b series records partial i m at right l cut is;
+      called = λ i m at right caller l calls. called_rights_get_nothing b series records partial i m at right caller l calls;
+      balanced = balanced b series records valid partial;
+      covered = λ right i l. covered b (deliveries_of records) right i valid l;
+    }
+
+-- a run that went through one month more has done one month more
+pub stood_done : (run next : RunSeen) (records : List MonthRecord) (m : MonthRecord) → StandsFor run records →
+    StandsFor next (records ++ m ∷ []) → next.done ≡ run.done + 1
+stood_done run next records m was is = omega (arith, was.done, is.done, length-append records (m ∷ []))
+
+-- the lines of one month more
+month_written : (b : Basin) (run : RunSeen) (records : List MonthRecord) (m : MonthRecord) (start mid now : Option (List ℕ)) →
+    run.basin ≡ b → Appends start mid (begun_bytes b records) → StandsFor run (records ++ m ∷ []) →
+    Appends mid now (flat_map (whole_line b) (items_of_month b m)) → IsWritten b run start now
+month_written b run records m start mid now same text stands puts = record {
+  basin = same;
+  records = records ++ m ∷ [];
+  stands = stands;
+  text = Puts-month b records m start mid now done text puts;
+}
+  where
+    done : Result (Unit {0}) (Unit {0})
+    done = Ok tt
+
+-- before the first month a run has the head alone
+pub head_written : (b : Basin) (run : RunSeen) (start now : Option (List ℕ)) → run.basin ≡ b → StandsFor run [] →
+    Appends start now (flat_map (whole_line b) (items_of_head b)) → IsWritten b run start now
+head_written b run start now same stands puts = record {
+  basin = same;
+  records = [];
+  stands = stands;
+  text = Puts-head b start now done puts;
+}
+  where
+    done : Result (Unit {0}) (Unit {0})
+    done = Ok tt
+
+-- behind all months the tail makes the text
+tail_written : (b : Basin) (series : Inflows) (run : RunSeen) (start mid now : Option (List ℕ)) → IsValidBasin b →
+    run.series ≡ series → run.done ≡ b.months → IsWritten b run start mid →
+    Appends mid now (flat_map (whole_line b) (items_of_tail b)) → IsWrittenRun b series start now
+tail_written b series run start mid now valid fits all written puts = record {
+  records = written.records;
+  keeps = whole_run b series run written.records valid written.basin fits written.stands all;
+  text = Puts-tail b written.records start mid now done written.text puts;
+}
+  where
+    done : Result (Unit {0}) (Unit {0})
+    done = Ok tt
+
+-- Where a put fails.
+
+-- a front of the second piece stands behind the first, whatever goes on with it
+front_behind : (start mid now : Option (List ℕ)) (a lines rest : List ℕ) (k : ℕ) → k ≤ length lines → Appends start mid a →
+    Appends mid now (take k lines) → Appends start now (take (length a + k) ((a ++ lines) ++ rest))
+front_behind start mid now a lines rest k few before behind =
+    rw (
+      take-append-le (length a + k) (a ++ lines) rest (omega (arith, length-append a lines)),
+      take-append-add a lines k,
+    ) (Appends-then start mid now a (take k lines) before behind)
+
+-- the months before the last are as many as stand before it
+all_but_last : (records : List MonthRecord) (m : MonthRecord) → take (length (records ++ m ∷ []) - 1) (records ++ m ∷ []) ≡ records
+all_but_last records m =
+    let count : length (records ++ m ∷ []) - 1 ≡ length records = omega (arith, length-append records (m ∷ [])) in
+    rw count (take-append-le (length records) records (m ∷ []) (omega arith) ∙ take-length records)
+
+month_stops : (b : Basin) (series : Inflows) (run : RunSeen) (records : List MonthRecord) (m : MonthRecord)
+    (start mid now : Option (List ℕ)) (before after : ℕ) → run.basin ≡ b → run.series ≡ series →
+    StandsFor run (records ++ m ∷ []) → Appends start mid (begun_bytes b records) →
+    PutsFront mid now (flat_map (whole_line b) (items_of_month b m)) → after ≤ before + run.done * month_pushes b →
+    StopsWriting b series start now before after
+month_stops b series run records m start mid now before after same fits stands text front pushes = record {
+  records = records ++ m ∷ [];
+  partial = rw (← same, ← fits) stands.partial;
+  reaches = rw (← same) stands.reaches;
+  count = length (begun_bytes b records) + front.0;
+  whole = λ _. rw (all_but_last records m) (omega arith);
+  last = inr (rw (begun-more b records m) (omega (arith, front.1, length-append (begun_bytes b records) lines)));
+  text = rw (text-begun b (records ++ m ∷ []), begun-more b records m)
+      (front_behind start mid now (begun_bytes b records) lines (flat_map (whole_line b) (items_of_tail b)) front.0 front.1 text
+      front.2);
+  pushes = rw (← stands.done) pushes;
+}
+  where
+    lines : List ℕ
+    lines = flat_map (whole_line b) (items_of_month b m)
+
+-- a front of the lines of a month was put
+pub month_stopped : (b : Basin) (series : Inflows) (run : RunSeen) (records : List MonthRecord) (m : MonthRecord)
+    (start mid now : Option (List ℕ)) (done at after : ℕ) → run.basin ≡ b → run.series ≡ series →
+    StandsFor run (records ++ m ∷ []) → Appends start mid (begun_bytes b records) →
+    PutsFront mid now (flat_map (whole_line b) (items_of_month b m)) → run.done ≡ done + 1 → after ≤ at + month_pushes b →
+    (before : ℕ) → at ≤ before + done * month_pushes b → StopsWriting b series start now before after
+month_stopped b series run records m start mid now done at after same fits stands text front next pushes before sofar =
+    month_stops b series run records m start mid now before after same fits stands text front
+    (rw next (omega (arith, add-mul done 1 (month_pushes b), sofar, pushes)))
+
+-- the lines of a month were put, or a front of them
+pub month_put : {E : Type 0} (b : Basin) (series : Inflows) (run : RunSeen) (records : List MonthRecord) (m : MonthRecord)
+    (start mid now : Option (List ℕ)) (r : Result (Unit {0}) E) (done at after : ℕ) → run.basin ≡ b → run.series ≡ series →
+    StandsFor run (records ++ m ∷ []) → Appends start mid (begun_bytes b records) →
+    Puts mid now r (flat_map (whole_line b) (items_of_month b m)) → run.done ≡ done + 1 → after ≤ at + month_pushes b →
+    OnOk r (IsWritten b run start now) ×
+    OnErr r ((before : ℕ) → at ≤ before + done * month_pushes b → StopsWriting b series start now before after)
+month_put b series run records m start mid now (Ok u) done at after same fits stands text puts next pushes =
+    (month_written b run records m start mid now same text stands puts, tt)
+month_put b series run records m start mid now (Err e) done at after same fits stands text puts next pushes =
+    (tt, month_stopped b series run records m start mid now done at after same fits stands text puts next pushes)
+
+pub head_stops : (b : Basin) (series : Inflows) (run : RunSeen) (start now : Option (List ℕ)) (before : ℕ) → run.basin ≡ b →
+    run.series ≡ series → StandsFor run [] → PutsFront start now (flat_map (whole_line b) (items_of_head b)) →
+    StopsWriting b series start now before before
+head_stops b series run start now before same fits stands front = record {
+  records = [];
+  partial = rw (← same, ← fits) stands.partial;
+  reaches = rw (← same) stands.reaches;
+  count = front.0;
+  whole = λ some. absurd (omega (arith, some));
+  last = inr (rw (begun-head b) front.1);
+  text = rw (text-begun b [], begun-head b) (rw (take-append-le front.0 (flat_map (whole_line b) (items_of_head b))
+      (flat_map (whole_line b) (items_of_tail b)) front.1) front.2);
+  pushes = omega arith;
+}
+
+-- what is begun with some of the months is no longer than with all
+begun_grows : (b : Basin) (records : List MonthRecord) (n : ℕ) →
+    length (begun_bytes b (take n records)) ≤ length (begun_bytes b records)
+begun_grows b records n =
+    omega (
+      arith,
+      ap (λ rs. length (begun_bytes b rs)) (sym (take-append-drop n records)),
+      ap length (ap (flat_map (whole_line b)) (ap (λ items. items_of_head b ++ items)
+          (flat_map-append (items_of_month b) (take n records) (drop n records))
+      ∙ sym (append_assoc (items_of_head b) (flat_map (items_of_month b) (take n records)) (flat_map (items_of_month b) (drop n records))))
+      ∙ flat_map-append (whole_line b) (items_of_head b ++ flat_map (items_of_month b) (take n records)) (flat_map (items_of_month b) (drop n records))),
+      length-append (begun_bytes b (take n records)) (flat_map (whole_line b) (flat_map (items_of_month b) (drop n records))),
+    )
+
+pub tail_stops : (b : Basin) (series : Inflows) (run : RunSeen) (start mid now : Option (List ℕ)) (before after : ℕ) →
+    run.series ≡ series → run.done ≡ b.months → IsWritten b run start mid →
+    PutsFront mid now (flat_map (whole_line b) (items_of_tail b)) → after ≤ before + run_pushes b →
+    StopsWriting b series start now before after
+tail_stops b series run start mid now before after fits all written front pushes = record {
+  records = written.records;
+  partial = rw (← written.basin, ← fits) written.stands.partial;
+  reaches = rw (← written.basin) written.stands.reaches;
+  count = length (begun_bytes b written.records) + front.0;
+  whole = λ _. (let less = begun_grows b written.records (length written.records - 1) in omega (arith, less));
+  last = inl (sym written.stands.done ∙ all);
+  text = rw (text-begun b written.records) (rw (take-append-add (begun_bytes b written.records) tail front.0)
+      (Appends-then start mid now (begun_bytes b written.records) (take front.0 tail) written.text front.2));
+  pushes = rw (← written.stands.done, all) pushes;
+}
+  where
+    tail : List ℕ
+    tail = flat_map (whole_line b) (items_of_tail b)
+
+-- the tail was put, or a front of it
+pub tail_put : {E : Type 0} (b : Basin) (series : Inflows) (run : RunSeen) (start mid now : Option (List ℕ))
+    (r : Result (Unit {0}) E) (before after : ℕ) → IsValidBasin b → run.series ≡ series → run.done ≡ b.months →
+    IsWritten b run start mid → Puts mid now r (flat_map (whole_line b) (items_of_tail b)) → after ≤ before + run_pushes b →
+    OnOk r (IsWrittenRun b series start now) × OnErr r (StopsWriting b series start now before after)
+tail_put b series run start mid now (Ok u) before after valid fits all written puts pushes =
+    (tail_written b series run start mid now valid fits all written puts, tt)
+tail_put b series run start mid now (Err e) before after valid fits all written puts pushes =
+    (tt, tail_stops b series run start mid now before after fits all written puts pushes)
+
+-- the pushes of some months and of one more are within those of a run
+pub within_run : (b : Basin) (first before after i : ℕ) → before ≤ first + i * month_pushes b → after ≤ before + month_pushes b → i < b.months →
+    after ≤ first + run_pushes b
+within_run b first before after i sofar more l = let all : (i + 1) * month_pushes b ≤ b.months * month_pushes b = mul-le-mul_right (month_pushes b) (omega arith) in omega arith

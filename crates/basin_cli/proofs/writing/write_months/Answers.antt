@@ -1,0 +1,10 @@
+use Rattle.basin_cli.proofs.Written.{within_run}
+use Rattle.basin_cli.proofs.writing.write_months.Goals as goal
+
+pub returns-in_err-write_month-clause-stops : goal.returns-in_err-write_month-clause-stops
+returns-in_err-write_month-clause-stops g c = ?stops
+
+pub returns-in_err-write_month-clause-pushes : goal.returns-in_err-write_month-clause-pushes
+returns-in_err-write_month-clause-pushes g c =
+    within_run c.args.basin.now c.args.searches.now c.loop-month.searches c.write_month.new.searches c.loop-month._month
+    c.loop-month.invariant.pushes c.in_err-write_month.ensures.pushes c.loop-month-test.true
