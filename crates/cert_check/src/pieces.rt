@@ -57,7 +57,7 @@ fn give_front(checker: &mut Checker, line: &mut LineIn, rest: &[u8]) -> Result<u
 }
 
 /// Gives a checker the next bytes of a text. The line holds what stands behind the last line feed before them.
-pub fn give(checker: &mut Checker, line: &mut LineIn, piece: &[u8]) -> Result<(), Refuted>
+pub(crate) fn give(checker: &mut Checker, line: &mut LineIn, piece: &[u8]) -> Result<(), Refuted>
     requires line { IsUnderWay line.old }
     requires good { checker.old.refused ≡ None }
     ensures given { OnOk result ((text : List ℕ) → AreGiven checker.old line.old text →

@@ -51,10 +51,13 @@ fn file_shelf_reads_a_real_file(rt: HostRuntime) -> io::Result<()> {
     fs::remove_file(&rt, "shelf_test")
 }
 
-/// Whether pieces can be put by this writer, and the file has them while it is still open.
+/// Whether pieces can be put by this writer, and the file has them, once they are flushed, while it is still open.
 fn puts_pieces<W: Write + Drop>(rt: &HostRuntime, writer: W) -> io::Result<bool> {
     let mut sink = StdSink::new(writer);
-    let put = sink.put(b"snow").is_ok() && sink.put(b"").is_ok() && sink.put(b"melt\n").is_ok();
+    let put = sink.put(b"snow").is_ok()
+        && sink.put(b"").is_ok()
+        && sink.put(b"melt\n").is_ok()
+        && sink.flush().is_ok();
     let read = fs::read(rt, "sink_test")?;
     Ok(put && read.as_slice() == b"snowmelt\n".as_slice())
 }
@@ -65,10 +68,10 @@ fn puts_gathered(rt: &HostRuntime) -> io::Result<bool> {
     puts_pieces(rt, writer)
 }
 
-/// Whether a file that is open for reading alone refuses to be written.
+/// Whether a file that is open for reading alone refuses to be written, at the latest when what was put is flushed.
 fn refuses(rt: &HostRuntime) -> io::Result<bool> {
     let mut sink = StdSink::new(File::open(rt, "sink_test")?);
-    Ok(sink.put(b"more") == Err(SinkFailed))
+    Ok(sink.put(b"more").is_err() || sink.flush() == Err(SinkFailed))
 }
 
 #[test]

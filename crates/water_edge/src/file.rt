@@ -10,13 +10,8 @@ use std::io::{Read, Seek, SeekFrom};
 use std::marker::Model;
 use std::rt::Files;
 
-<<<<<<< ours
-/// How many bytes one read asks for.
-const PIECE: usize = 65_536;
-=======
 /// How many bytes one read of a whole file asks for.
-const PIECE: usize = 4096;
->>>>>>> theirs
+const PIECE: usize = 65_536;
 
 /// How many bytes the name of a file that is read in parts may have, which is the system's limit for a path.
 const LONGEST_NAME: usize = 4096;

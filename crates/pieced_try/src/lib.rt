@@ -1,7 +1,0 @@
-//! Trial.
-#![tactic(auto)]
-
-#[cfg(test)]
-mod basins;
-#[cfg(test)]
-mod pieced;
