@@ -6,7 +6,7 @@ ghost use Rattle.std.specs.Process.{exit_status};
 ghost use Rattle.water_edge.specs.Edge.{Rose};
 ghost use Rattle.basin_cli.specs.Code.{code_of};
 ghost use Rattle.basin_cli.specs.Command.{ServesFiles, command_of};
-ghost use Rattle.basin_cli.specs.Outcome.{Ends, Completes, WritesFor};
+ghost use Rattle.basin_cli.specs.Outcome.{Completes, Ends, IsQuiet, WritesFor};
 ghost use Rattle.basin_cli.specs.declared.status.Status.{Status};
 
 use basin_cli::{Status, basin_main};
@@ -58,7 +58,8 @@ fn serve<S: Shelf, K: Sink, E: Sink, L: Ledger>(
         (E.taken err.old) (E.taken err.new) (E.faults err.old) (E.faults err.new)
         × Completes (command_of (map string_bytes words.now)) status (S.told shelf.old)
         (Rose (S.faults shelf.old) (S.faults shelf.new)) (Rose (K.faults out.old) (K.faults out.new))
-        × WritesFor (command_of (map string_bytes words.now)) status (S.told shelf.old) (K.taken out.old) (K.taken out.new) searches.old searches.new }
+        × WritesFor (command_of (map string_bytes words.now)) status (S.told shelf.old) (K.taken out.old) (K.taken out.new) searches.old searches.new
+        × (IsQuiet status → K.handed out.new ≡ K.taken out.new) }
 {
     let status = basin_main(alloc, words, shelf, out, err, searches);
     ExitCode::from(status.code())

@@ -14,7 +14,7 @@ ghost use Rattle.basin_cli.specs.Actions.{EndsChecking, LeavesRecords, LeavesTra
 ghost use Rattle.basin_cli.specs.Answer.{answered, ending_of, EndsAnswer};
 ghost use Rattle.basin_cli.specs.Ending.{status_of};
 ghost use Rattle.basin_cli.specs.Out.{IsRefusal, Leaves, MayWrite};
-ghost use Rattle.basin_cli.specs.Outcome.{HasTrialCause, WritesTrial, answer_line};
+ghost use Rattle.basin_cli.specs.Outcome.{HasTrialCause, IsQuiet, WritesTrial, answer_line};
 ghost use Rattle.basin_cli.specs.Written.{LeavesRun};
 ghost use Rattle.month_fold.specs.Runs.{run_pushes};
 
@@ -51,6 +51,7 @@ pub fn run_basin<K: Sink, L: Ledger>(
     ensures out_stays { (MayWrite (status_of result) → ⊥) → out.new ≡ out.old }
     ensures idle { (MayWrite (status_of result) → ⊥) → searches.new ≡ searches.old }
     ensures pushes { searches.new ≤ searches.old + run_pushes basin.now }
+    ensures handed { IsQuiet (status_of result) → K.handed out.new ≡ K.taken out.new }
 {
     let roll = match Roll::of_basin(alloc, basin) {
         Ok(roll) => roll,
@@ -81,6 +82,7 @@ pub fn report_basin<K: Sink, L: Ledger>(
     ensures out_stays { (MayWrite (status_of result) → ⊥) → out.new ≡ out.old }
     ensures idle { (MayWrite (status_of result) → ⊥) → searches.new ≡ searches.old }
     ensures pushes { searches.new ≤ searches.old + run_pushes basin.now }
+    ensures handed { IsQuiet (status_of result) → K.handed out.new ≡ K.taken out.new }
 {
     match period_report(alloc, basin, series, out, searches) {
         Ok(()) => match out.flush() {
@@ -108,6 +110,7 @@ pub fn gather_basin<K: Sink, L: Ledger>(
     ensures out_stays { (MayWrite (status_of result) → ⊥) → out.new ≡ out.old }
     ensures idle { IsRefusal (status_of result) → ⊥ }
     ensures pushes { searches.new ≤ searches.old + years_of basin.now * run_pushes basin.now }
+    ensures handed { IsQuiet (status_of result) → K.handed out.new ≡ K.taken out.new }
 {
     match ensemble_report(alloc, basin, series, out, searches) {
         Ok(()) => match out.flush() {
@@ -134,6 +137,7 @@ pub fn try_basin<K: Sink, L: Ledger>(
     ensures out_stays { (MayWrite (status_of result) → ⊥) → out.new ≡ out.old }
     ensures idle { (MayWrite (status_of result) → ⊥) → searches.new ≡ searches.old }
     ensures pushes { searches.new ≤ searches.old + run_pushes (generated number size) }
+    ensures handed { IsQuiet (status_of result) → K.handed out.new ≡ K.taken out.new }
 {
     let (basin, series) = match make(alloc, number, size) {
         Ok(made) => made,
@@ -198,6 +202,7 @@ fn judged(answer: &Result<u32, Refuted>) -> Ending
 fn tell_answer<K: Sink>(answer: &Result<u32, Refuted>, out: &mut K) -> Ending
     ensures ends { EndsAnswer answer.now result (Rose (K.faults out.old) (K.faults out.new)) }
     ensures leaves { Leaves (status_of result) (answered answer.now) (K.taken out.old) (K.taken out.new) }
+    ensures handed { IsQuiet (status_of result) → K.handed out.new ≡ K.taken out.new }
 {
     let mut line = Line::new();
     put_answer(&mut line, answer);
@@ -236,6 +241,7 @@ pub fn check_bytes<K: Sink>(
     ensures leaves { MayWrite (status_of result) →
         Leaves (status_of result) (answer_line basin.now (text_verdict basin.now series.now text.now)) (K.taken out.old) (K.taken out.new) }
     ensures out_stays { (MayWrite (status_of result) → ⊥) → out.new ≡ out.old }
+    ensures handed { IsQuiet (status_of result) → K.handed out.new ≡ K.taken out.new }
 {
     match answer_of(alloc, basin, series, text) {
         Ok(answer) => tell_answer(&answer, out),

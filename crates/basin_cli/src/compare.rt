@@ -4,7 +4,7 @@ ghost use Rattle.water_edge.specs.Edge.{Rose};
 ghost use Rattle.basin_cli.specs.Command.{ServesFiles, compare, named};
 ghost use Rattle.basin_cli.specs.Ending.{status_of, CanBeTold};
 ghost use Rattle.basin_cli.specs.Out.{IsRefusal, MayLeave};
-ghost use Rattle.basin_cli.specs.Outcome.{EndingHasCause, PushesFor, WritesFor};
+ghost use Rattle.basin_cli.specs.Outcome.{EndingHasCause, IsQuiet, PushesFor, WritesFor};
 
 use crate::command::Inputs;
 use crate::comparing::compare_basins;
@@ -32,6 +32,7 @@ pub fn do_compare<S: Shelf, K: Sink, L: Ledger>(
     ensures idle { IsRefusal (status_of result) → searches.new ≡ searches.old }
     ensures pushes { PushesFor (Some (compare (named inputs.entry) second.now)) (S.told shelf.old) searches.old searches.new }
     ensures told { CanBeTold result }
+    ensures handed { IsQuiet (status_of result) → K.handed out.new ≡ K.taken out.new }
 {
     let pair = match read_pair(alloc, shelf, inputs, second) {
         Ok(pair) => pair,

@@ -9,6 +9,7 @@ ghost use Rattle.water_edge.specs.Edge.{Rose};
 ghost use Rattle.basin_cli.specs.Compared.{AreCompared, IsTextOfComparison, Compares, ending_with};
 ghost use Rattle.basin_cli.specs.Ending.{status_of};
 ghost use Rattle.basin_cli.specs.Out.{IsRefusal, MayWrite};
+ghost use Rattle.basin_cli.specs.Outcome.{IsQuiet};
 ghost use Rattle.basin_cli.specs.declared.ending.Ending.TheVariants.{OutOfMemory};
 ghost use Rattle.senior_hold.specs.MonthNetwork.{month_pushes};
 
@@ -210,6 +211,7 @@ pub fn compare_basins<K: Sink, L: Ledger>(
     ensures memory { (MayWrite (status_of result) → ⊥) → result ≡ OutOfMemory }
     ensures idle { IsRefusal (status_of result) → ⊥ }
     ensures pushes { searches.new ≤ searches.old + (run_pushes basin.now + run_pushes other.now) }
+    ensures handed { IsQuiet (status_of result) → K.handed out.new ≡ K.taken out.new }
 {
     let (text, injured) = match text_of_comparison(
         alloc,

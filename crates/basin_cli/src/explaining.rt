@@ -14,6 +14,7 @@ ghost use Rattle.basin_cli.specs.Actions.{AnswersAt, EndsAsking, IsAnswered};
 ghost use Rattle.basin_cli.specs.Ending.{status_of};
 ghost use Rattle.basin_cli.specs.Explained.{EndsExplaining, Explains, HasLast, HasMonth, HasRight, IsMonthAt, IsRightNamed, PushesUpTo, met_line};
 ghost use Rattle.basin_cli.specs.Out.{IsRefusal, Leaves, MayWrite};
+ghost use Rattle.basin_cli.specs.Outcome.{IsQuiet};
 ghost use Rattle.basin_cli.specs.declared.ending.Ending.TheVariants.{OutOfMemory};
 
 use crate::ending::Ending;
@@ -190,6 +191,7 @@ fn answer<K: Sink>(
     ensures ends { EndsExplaining month.now right result (Rose (K.faults out.old) (K.faults out.new)) }
     ensures leaves { (text : List ℕ) × Explains basin.now month.now right text × Leaves (status_of result) text (K.taken out.old) (K.taken out.new) }
     ensures idle { IsRefusal (status_of result) → ⊥ }
+    ensures handed { IsQuiet (status_of result) → K.handed out.new ≡ K.taken out.new }
 {
     match put_answer(out, basin, roll, month, right) {
         Ok(()) => match out.flush() {
@@ -222,6 +224,7 @@ fn explain_in<K: Sink, L: Ledger>(
     ensures out_stays { (MayWrite (status_of result) → ⊥) → out.new ≡ out.old }
     ensures idle { (MayWrite (status_of result) → ⊥) → searches.new ≡ searches.old }
     ensures pushes { searches.new ≤ searches.old + (index + 1) * month_pushes basin.now }
+    ensures handed { IsQuiet (status_of result) → K.handed out.new ≡ K.taken out.new }
 {
     solve_up_to(run, index, searches);
     answer(out, basin, roll, run.month(), right)
@@ -247,6 +250,7 @@ fn explain_at<K: Sink, L: Ledger>(
     ensures out_stays { (MayWrite (status_of result) → ⊥) → out.new ≡ out.old }
     ensures idle { (MayWrite (status_of result) → ⊥) → searches.new ≡ searches.old }
     ensures pushes { searches.new ≤ searches.old + (index + 1) * month_pushes basin.now }
+    ensures handed { IsQuiet (status_of result) → K.handed out.new ≡ K.taken out.new }
 {
     let roll = match Roll::of_basin(alloc, basin) {
         Ok(roll) => roll,
@@ -279,6 +283,7 @@ pub fn explain_right<K: Sink, L: Ledger>(
     ensures out_stays { (MayWrite (status_of result) → ⊥) → out.new ≡ out.old }
     ensures idle { (MayWrite (status_of result) → ⊥) → searches.new ≡ searches.old }
     ensures pushes { PushesUpTo basin.now month searches.old searches.new }
+    ensures handed { IsQuiet (status_of result) → K.handed out.new ≡ K.taken out.new }
 {
     let Some(index) = index_of(basin, month) else {
         return Ending::ScriptRefused {

@@ -37,6 +37,7 @@ fn do_run<S: Shelf, K: Sink, L: Ledger>(
     ensures idle { IsIdle (Some (run (named inputs.entry))) (status_of result) → searches.new ≡ searches.old }
     ensures pushes { PushesFor (Some (run (named inputs.entry))) (S.told shelf.old) searches.old searches.new }
     ensures told { CanBeTold result }
+    ensures handed { IsQuiet (status_of result) → K.handed out.new ≡ K.taken out.new }
 {
     let files = match read_inputs(alloc, shelf, inputs) {
         Ok(files) => files,
@@ -61,6 +62,7 @@ fn do_report<S: Shelf, K: Sink, L: Ledger>(
     ensures idle { IsIdle (Some (report (named inputs.entry))) (status_of result) → searches.new ≡ searches.old }
     ensures pushes { PushesFor (Some (report (named inputs.entry))) (S.told shelf.old) searches.old searches.new }
     ensures told { CanBeTold result }
+    ensures handed { IsQuiet (status_of result) → K.handed out.new ≡ K.taken out.new }
 {
     let files = match read_inputs(alloc, shelf, inputs) {
         Ok(files) => files,
@@ -83,6 +85,7 @@ fn do_check<S: Shelf, K: Sink>(
     ensures writes { WritesFor (Some (check (named inputs.entry) result_name.now)) (status_of result) (S.told shelf.old) (K.taken out.old) (K.taken out.new) 0 0 }
     ensures out_stays { (MayLeave (Some (check (named inputs.entry) result_name.now)) (status_of result) → ⊥) → out.new ≡ out.old }
     ensures told { CanBeTold result }
+    ensures handed { IsQuiet (status_of result) → K.handed out.new ≡ K.taken out.new }
 {
     let files = match read_inputs(alloc, shelf, inputs) {
         Ok(files) => files,
@@ -114,6 +117,7 @@ fn do_why<S: Shelf, K: Sink, L: Ledger>(
     ensures idle { IsIdle (Some (why (named inputs.entry) month right.now)) (status_of result) → searches.new ≡ searches.old }
     ensures pushes { PushesFor (Some (why (named inputs.entry) month right.now)) (S.told shelf.old) searches.old searches.new }
     ensures told { CanBeTold result }
+    ensures handed { IsQuiet (status_of result) → K.handed out.new ≡ K.taken out.new }
 {
     let files = match read_inputs(alloc, shelf, inputs) {
         Ok(files) => files,
@@ -146,6 +150,7 @@ fn do_ensemble<S: Shelf, K: Sink, L: Ledger>(
     ensures idle { IsIdle (Some (ensemble (named inputs.entry))) (status_of result) → searches.new ≡ searches.old }
     ensures pushes { PushesFor (Some (ensemble (named inputs.entry))) (S.told shelf.old) searches.old searches.new }
     ensures told { CanBeTold result }
+    ensures handed { IsQuiet (status_of result) → K.handed out.new ≡ K.taken out.new }
 {
     let files = match read_record(alloc, shelf, inputs) {
         Ok(files) => files,
@@ -171,6 +176,7 @@ fn do_edit<S: Shelf, K: Sink, L: Ledger>(
     ensures idle { IsIdle (Some (edit (named inputs.entry) script.now)) (status_of result) → searches.new ≡ searches.old }
     ensures pushes { PushesFor (Some (edit (named inputs.entry) script.now)) (S.told shelf.old) searches.old searches.new }
     ensures told { CanBeTold result }
+    ensures handed { IsQuiet (status_of result) → K.handed out.new ≡ K.taken out.new }
 {
     let files = match read_inputs(alloc, shelf, inputs) {
         Ok(files) => files,
@@ -199,6 +205,7 @@ fn decide<S: Shelf, K: Sink, L: Ledger>(
     ensures idle { IsIdle (command_of (map string_bytes words.now)) (status_of result) → searches.new ≡ searches.old }
     ensures pushes { PushesFor (command_of (map string_bytes words.now)) (S.told shelf.old) searches.old searches.new }
     ensures told { CanBeTold result }
+    ensures handed { IsQuiet (status_of result) → K.handed out.new ≡ K.taken out.new }
 {
     match command(words) {
         None => Ending::Usage,
@@ -250,6 +257,10 @@ pub fn basin_main<S: Shelf, K: Sink, E: Sink, L: Ledger>(
     ensures writes { WritesFor (command_of (map string_bytes words.now)) result (S.told shelf.old) (K.taken out.old) (K.taken out.new) searches.old searches.new }
     ensures out_stays { (MayLeave (command_of (map string_bytes words.now)) result → ⊥) → out.new ≡ out.old }
     ensures err_stays { IsQuiet result → err.new ≡ err.old }
+
+    // Done and no come only where all that was put was handed on; err got its line handed on unless it failed.
+    ensures handed { IsQuiet result → K.handed out.new ≡ K.taken out.new }
+    ensures err_handed { (IsQuiet result → ⊥) → (Rose (E.faults err.old) (E.faults err.new) → ⊥) → E.handed err.new ≡ E.taken err.new }
 
     // Where words, a file or a script are refused or not read, nothing is solved; of a run, a report, a trial and an account
     // want of memory comes before a month is solved, or not at all. Each month that is solved has at most so many pushes as

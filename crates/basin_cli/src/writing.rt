@@ -85,6 +85,7 @@ pub fn write_run<K: Sink, L: Ledger>(
     ensures stops { OnErr result (StopsWriting basin.now run.old.series start (K.taken out.new) searches.old searches.new) }
     ensures cause { HasCause (K.faults out.old) (K.faults out.new) (IsErr result) }
     ensures pushes { searches.new ≤ searches.old + run_pushes basin.now }
+    ensures handed { OnOk result (K.handed out.new ≡ K.taken out.new) }
 {
     put_head(out, basin)?;
     write_months(out, basin, roll, run, searches)?;
