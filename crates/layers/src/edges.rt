@@ -42,12 +42,38 @@ fn reads_files(rt: &HostRuntime, bytes: &[u8]) -> u32 {
     reads
 }
 
+/// Whether a shelf answers with so many bytes of the file from a place on.
+fn is_part(shelf: &mut FileShelf<'_, HostRuntime>, bytes: &[u8], from: u64, want: usize) -> bool {
+    let mut part = [0u8; 5000];
+    match shelf.read_part("shelf_test", from, &mut part) {
+        Ok(count) => {
+            let rest = bytes.iter().skip(from as usize);
+            count == want && rest.zip(&part[..count]).all(|(byte, read)| byte == read)
+        }
+        Err(_) => false,
+    }
+}
+
+/// How many parts in turn are read as wanted: on from the last one, behind the end, back by a seek, and anew.
+fn reads_parts(rt: &HostRuntime, bytes: &[u8]) -> u32 {
+    let mut shelf = FileShelf::new(rt);
+    let mut reads = 0_u32;
+    for (from, want) in [(0, 5000), (5000, 3195), (8195, 0), (100, 5000), (0, 5000)] {
+        if !is_part(&mut shelf, bytes, from, want) {
+            break;
+        }
+        reads = reads.wrapping_add(1);
+    }
+    reads
+}
+
 /// Files lie in the folder where the tests run, which is theirs alone.
 #[test]
 fn file_shelf_reads_a_real_file(rt: HostRuntime) -> io::Result<()> {
     let bytes = file_bytes(rt.alloc())?;
     fs::write(&rt, "shelf_test", bytes.as_slice())?;
     assert_eq!(rt; reads_files(&rt, bytes.as_slice()), 4);
+    assert_eq!(rt; reads_parts(&rt, bytes.as_slice()), 5);
     fs::remove_file(&rt, "shelf_test")
 }
 
