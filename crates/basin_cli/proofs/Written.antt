@@ -113,6 +113,11 @@ tail_written b series run start mid now valid fits all written puts = record {
 
 -- Where a put fails.
 
+-- what holds where writing stopped holds of an answer that is an error
+pub stopped : {E : Type 0} (r : Result (Unit {0}) E) (P : Type 0) → P → OnErr r P
+stopped (Ok u) P p = tt
+stopped (Err x) P p = p
+
 -- a front of the second piece stands behind the first, whatever goes on with it
 front_behind : (start mid now : Option (List ℕ)) (a lines rest : List ℕ) (k : ℕ) → k ≤ length lines → Appends start mid a →
     Appends mid now (take k lines) → Appends start now (take (length a + k) ((a ++ lines) ++ rest))

@@ -1,29 +1,30 @@
 use Rattle.std.proofs.Common.{◌∙◌, sym, subst}
 use Rattle.result_text.specs.Range.{FitsText}
 use Rattle.basin_cli.proofs.Handed.{puts_kept}
-use Rattle.basin_cli.proofs.Written.{last_fits, month_put, month_stopped, stood_done}
+use Rattle.basin_cli.proofs.Written.{last_fits, month_put, month_stopped, stood_done, stopped}
 use Rattle.basin_cli.proofs.writing.write_month.Goals as goal
 
 pub put_month-requires-clause-month : goal.put_month-requires-clause-month
 put_month-requires-clause-month g c =
-    let w = c.requires.written in
+    let w = c.requires.1.1.1.1.1 in
     subst (FitsText c.args.basin.now) (sym c.month.ensures)
-    (last_fits c.args.basin.now c.step.new.self w.records c.step.new.self.last c.requires.basin (c.step.ensures.basin ∙ w.basin)
+    (last_fits c.args.basin.now c.step.new.self w.records c.step.new.self.last c.requires.1.1.0 (c.step.ensures.basin ∙ w.basin)
     (c.step.ensures.month w.records w.stands))
 
 pub returns-in_err-put_month-clause-stops : goal.returns-in_err-put_month-clause-stops
 returns-in_err-put_month-clause-stops g c =
-    let w = c.requires.written in
-    month_stopped c.args.basin.now c.args.run.now.series c.step.new.self w.records c.step.new.self.last g.start
+    let w = c.requires.1.1.1.1.1 in
+    stopped c.from_residual.result _
+    (month_stopped c.args.basin.now c.args.run.now.series c.step.new.self w.records c.step.new.self.last g.start
     (g.K.Sink.taken c.args.out.now) (g.K.Sink.taken c.put_month.new.sink) c.args.run.now.done c.args.searches.now
     c.step.new.searches (c.step.ensures.basin ∙ w.basin) c.step.ensures.series (c.step.ensures.month w.records w.stands)
     w.text (rw c.month.ensures at c.in_err-put_month.ensures.text)
     (stood_done c.args.run.now c.step.new.self w.records c.step.new.self.last w.stands (c.step.ensures.month w.records w.stands))
-    (rw w.basin at c.step.ensures.pushes)
+    (rw w.basin at c.step.ensures.pushes))
 
 pub returns-clause-written : goal.returns-clause-written
 returns-clause-written g c =
-    let w = c.requires.written in
+    let w = c.requires.1.1.1.1.1 in
     (month_put c.args.basin.now c.args.run.now.series c.step.new.self w.records c.step.new.self.last g.start
     (g.K.Sink.taken c.args.out.now) (g.K.Sink.taken c.flush.new.self) c.flush.result c.args.run.now.done c.args.searches.now
     c.step.new.searches (c.step.ensures.basin ∙ w.basin) c.step.ensures.series (c.step.ensures.month w.records w.stands)
@@ -34,7 +35,7 @@ returns-clause-written g c =
 
 pub returns-clause-stops : goal.returns-clause-stops
 returns-clause-stops g c =
-    let w = c.requires.written in
+    let w = c.requires.1.1.1.1.1 in
     (month_put c.args.basin.now c.args.run.now.series c.step.new.self w.records c.step.new.self.last g.start
     (g.K.Sink.taken c.args.out.now) (g.K.Sink.taken c.flush.new.self) c.flush.result c.args.run.now.done c.args.searches.now
     c.step.new.searches (c.step.ensures.basin ∙ w.basin) c.step.ensures.series (c.step.ensures.month w.records w.stands)

@@ -1,10 +1,11 @@
-use Rattle.basin_cli.proofs.Written.{within_run}
+use Rattle.basin_cli.proofs.Written.{stopped, within_run}
 use Rattle.basin_cli.proofs.writing.write_months.Goals as goal
 
 pub returns-in_err-write_month-clause-stops : goal.returns-in_err-write_month-clause-stops
 returns-in_err-write_month-clause-stops g c =
-    rw (← c.loop-month.invariant.series) (c.in_err-write_month.ensures.stops c.args.searches.now
-    (rw c.loop-month.invariant.done c.loop-month.invariant.pushes))
+    stopped c.from_residual.result _
+    (rw (← c.loop-month.invariant.series) (c.in_err-write_month.ensures.stops c.args.searches.now
+    (rw c.loop-month.invariant.done c.loop-month.invariant.pushes)))
 
 pub returns-in_err-write_month-clause-pushes : goal.returns-in_err-write_month-clause-pushes
 returns-in_err-write_month-clause-pushes g c =

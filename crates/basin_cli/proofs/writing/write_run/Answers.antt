@@ -1,31 +1,36 @@
 use Rattle.std.proofs.Common.{refl}
 use Rattle.basin_cli.proofs.Handed.{puts_kept}
-use Rattle.basin_cli.proofs.Written.{head_stops, head_written, tail_put, tail_stops}
+use Rattle.basin_cli.proofs.Written.{head_stops, head_written, stopped, tail_put, tail_stops}
 use Rattle.basin_cli.proofs.writing.write_run.Goals as goal
 
 pub returns-in_err-put_head-clause-stops : goal.returns-in_err-put_head-clause-stops
 returns-in_err-put_head-clause-stops g c =
-    rw c.requires.start (head_stops c.args.basin.now c.args.run.now.series c.args.run.now (g.K.Sink.taken c.args.out.now)
-    (g.K.Sink.taken c.put_head.new.sink) c.args.searches.now c.requires.run refl c.requires.first
-    c.in_err-put_head.ensures.text)
+    stopped c.from_residual.result _
+    (rw c.requires.1.1.1.1.1.1 (head_stops c.args.basin.now c.args.run.now.series c.args.run.now (g.K.Sink.taken c.args.out.now)
+    (g.K.Sink.taken c.put_head.new.sink) c.args.searches.now c.requires.1.1.1.1.0 refl c.requires.1.1.1.1.1.0
+    c.in_err-put_head.ensures.text))
 
-pub write_months-requires-clause-written : goal.write_months-requires-clause-written
-write_months-requires-clause-written g c =
-    rw c.requires.start (head_written c.args.basin.now c.args.run.now (g.K.Sink.taken c.args.out.now)
-    (g.K.Sink.taken c.put_head.new.sink) c.requires.run c.requires.first c.in_ok-put_head.ensures.text)
+pub write_months-requires : goal.write_months-requires
+write_months-requires g c = λ lifetimes lives. (
+  lives.0,
+  (lives.1, (c.requires.1.1.0, (c.requires.1.1.1.0, (c.requires.1.1.1.1.1.0.done,
+  rw c.requires.1.1.1.1.1.1 (head_written c.args.basin.now c.args.run.now (g.K.Sink.taken c.args.out.now)
+  (g.K.Sink.taken c.put_head.new.sink) c.requires.1.1.1.1.0 c.requires.1.1.1.1.1.0 c.in_ok-put_head.ensures.text))))),
+)
 
 pub returns-in_err-put_tail-clause-stops : goal.returns-in_err-put_tail-clause-stops
 returns-in_err-put_tail-clause-stops g c =
-    tail_stops c.args.basin.now c.args.run.now.series c.write_months.new.run g.start
+    stopped c.from_residual-in_err-put_tail.result _
+    (tail_stops c.args.basin.now c.args.run.now.series c.write_months.new.run g.start
     (g.K.Sink.taken c.write_months.new.out) (g.K.Sink.taken c.put_tail.new.sink) c.args.searches.now
     c.write_months.new.searches c.in_ok-write_months.ensures.series c.in_ok-write_months.ensures.done
-    c.in_ok-write_months.ensures.written c.in_err-put_tail.ensures.text c.in_ok-write_months.ensures.pushes
+    c.in_ok-write_months.ensures.written c.in_err-put_tail.ensures.text c.in_ok-write_months.ensures.pushes)
 
 pub returns-clause-written : goal.returns-clause-written
 returns-clause-written g c =
     (tail_put c.args.basin.now c.args.run.now.series c.write_months.new.run g.start
     (g.K.Sink.taken c.write_months.new.out) (g.K.Sink.taken c.flush.new.self) c.flush.result c.args.searches.now
-    c.write_months.new.searches c.requires.basin c.in_ok-write_months.ensures.series c.in_ok-write_months.ensures.done
+    c.write_months.new.searches c.requires.1.1.0 c.in_ok-write_months.ensures.series c.in_ok-write_months.ensures.done
     c.in_ok-write_months.ensures.written (puts_kept (g.K.Sink.taken c.write_months.new.out) (g.K.Sink.taken c.put_tail.new.sink)
     (g.K.Sink.taken c.flush.new.self) c.flush.result _ c.in_ok-put_tail.ensures.text c.flush.ensures.bytes)
     c.in_ok-write_months.ensures.pushes).0
@@ -34,7 +39,7 @@ pub returns-clause-stops : goal.returns-clause-stops
 returns-clause-stops g c =
     (tail_put c.args.basin.now c.args.run.now.series c.write_months.new.run g.start
     (g.K.Sink.taken c.write_months.new.out) (g.K.Sink.taken c.flush.new.self) c.flush.result c.args.searches.now
-    c.write_months.new.searches c.requires.basin c.in_ok-write_months.ensures.series c.in_ok-write_months.ensures.done
+    c.write_months.new.searches c.requires.1.1.0 c.in_ok-write_months.ensures.series c.in_ok-write_months.ensures.done
     c.in_ok-write_months.ensures.written (puts_kept (g.K.Sink.taken c.write_months.new.out) (g.K.Sink.taken c.put_tail.new.sink)
     (g.K.Sink.taken c.flush.new.self) c.flush.result _ c.in_ok-put_tail.ensures.text c.flush.ensures.bytes)
     c.in_ok-write_months.ensures.pushes).1
