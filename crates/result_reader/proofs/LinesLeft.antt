@@ -219,10 +219,10 @@ most_of_run b dues count nodes rights d m n r =
     same : (m d n r : ℕ) → m * (1 + (d + n * r)) + 3 ≡ m * (1 + d + r * n) + 3
     same m d n r = ap (λ k. m * k + 3) (let p : n * r ≡ r * n = mul_comm n r in omega arith)
 
--- which fits 64 bits
-pub run_fits : (dues count nodes rights : ℕ) → dues ≤ 50000 → count ≤ 1200 → nodes ≤ 2000 → rights ≤ 2000 →
-    count * (1 + dues + rights * nodes) + 3 < 2 ^ 64
-run_fits dues count nodes rights d m n r =
+-- which is small
+pub few_lines : (dues count nodes rights : ℕ) → dues ≤ 50000 → count ≤ 1200 → nodes ≤ 2000 → rights ≤ 2000 →
+    count * (1 + dues + rights * nodes) + 3 ≤ 5 * 10 ^ 9
+few_lines dues count nodes rights d m n r =
     let members : rights * nodes ≤ 2000 * 2000 = mul-le-mul r n in
     let month : 1 + dues + rights * nodes ≤ 1 + 50000 + 2000 * 2000 = omega arith in
     let all : count * (1 + dues + rights * nodes) ≤ 1200 * (1 + 50000 + 2000 * 2000) = mul-le-mul m month in

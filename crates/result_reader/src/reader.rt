@@ -1,5 +1,5 @@
 //! The reader of a result text.
-ghost use Rattle.std.specs.Prelude.{◌≡◌, ◌+◌, ◌≤◌, ◌++◌, ◌∷◌, [], List, IfOk, OnOk, OnErr};
+ghost use Rattle.std.specs.Prelude.{◌≡◌, ◌+◌, ◌*◌, ◌^◌, ◌≤◌, ◌++◌, ◌∷◌, [], List, IfOk, OnOk, OnErr};
 ghost use Rattle.rights_roll.specs.Rolls.{IsRollOf};
 ghost use Rattle.water_model.specs.Spelling.{line_of};
 ghost use Rattle.water_model.specs.Valid.{IsValidBasin};
@@ -48,7 +48,8 @@ impl<'b> Model for ResultReader<'b> {
 fn most_lines(basin: &Basin, dues: &[Shape]) -> u64
     requires basin { IsValidBasin basin.now }
     requires dues { dues.now ≡ due_in_month basin.now }
-    ensures { most_lines basin.now (due basin.now) ≤ result }
+    ensures enough { most_lines basin.now (due basin.now) ≤ result }
+    ensures few { result ≤ 5 * 10 ^ 9 }
 {
     let members = basin.rights.len() as u64 * basin.nodes.len() as u64;
     let month = 1 + dues.len() as u64 + members;
@@ -56,7 +57,7 @@ fn most_lines(basin: &Basin, dues: &[Shape]) -> u64
 }
 
 impl<'b> ResultReader<'b> {
-    /// A reader that accepted no line yet. The roll is that of the basin's rights.
+    /// A reader that accepted no line yet, and may accept at most 5 * 10^9. The roll is that of the basin's rights.
     pub fn open(
         alloc: Global,
         basin: &'b Basin,
@@ -66,6 +67,7 @@ impl<'b> ResultReader<'b> {
         requires roll { IsRollOf basin.now.rights roll.now }
         ensures basin { IfOk result (λ reader. reader.basin ≡ basin.now) }
         ensures none { IfOk result (λ reader. StandsFor reader []) }
+        ensures few { IfOk result (λ reader. reader.left ≤ 5 * 10 ^ 9) }
     {
         let dues = dues_of(alloc, basin, roll)?;
         let left = most_lines(basin, &dues);
