@@ -1,5 +1,5 @@
 //! A checker of result texts, line by line.
-ghost use Rattle.std.specs.Prelude.{ℕ, List, [], ◌≡◌, ◌+◌, ◌≤◌, ◌++◌, ◌∷◌, length, Some, None, Err, IfOk, IfErr, IfSome, OnOk};
+ghost use Rattle.std.specs.Prelude.{ℕ, List, [], ◌≡◌, ◌+◌, ◌*◌, ◌^◌, ◌≤◌, ◌++◌, ◌∷◌, length, Some, None, Err, IfOk, IfErr, IfSome, OnOk};
 ghost use Rattle.cert_check.specs.Checking.{verdict, verdict_from};
 ghost use Rattle.cert_check.specs.Standing.{IsAnswer, IsLineAnswer, StandsFor, lines_left};
 ghost use Rattle.water_model.specs.Valid.{IsValidBasin, IsSeriesOf};
@@ -50,6 +50,7 @@ impl<'b> Checker<'b> {
         ensures series { IfOk result (λ checker. checker.series ≡ series.now) }
         ensures none { IfOk result (λ checker. StandsFor checker []) }
         ensures good { IfOk result (λ checker. checker.refused ≡ None) }
+        ensures few { IfOk result (λ checker. lines_left checker ≤ 5 * 10 ^ 9) }
     {
         let roll = Roll::of_basin(alloc, basin)?;
         let tables = tables_of(alloc, basin)?;

@@ -1,5 +1,5 @@
 //! A checker of a result text that comes in pieces of any size.
-ghost use Rattle.std.specs.Prelude.{ℕ, List, [], ◌∷◌, ◌++◌, ◌≡◌, ◌+◌, ◌<◌, ◌≤◌, None, Err, false, length, take, IfOk, IfErr, OnOk};
+ghost use Rattle.std.specs.Prelude.{ℕ, List, [], ◌∷◌, ◌++◌, ◌≡◌, ◌+◌, ◌^◌, ◌<◌, ◌≤◌, None, Err, false, length, take, IfOk, IfErr, OnOk};
 ghost use Rattle.water_model.specs.Valid.{IsValidBasin, IsSeriesOf};
 ghost use Rattle.water_text.specs.LinesIn.{nothing_held};
 ghost use Rattle.cert_check.specs.Checking.{verdict_from};
@@ -116,6 +116,7 @@ impl<'b> PieceChecker<'b> {
         ensures basin { IfOk result (λ checker. checker.basin ≡ basin.now) }
         ensures series { IfOk result (λ checker. checker.series ≡ series.now) }
         ensures none { IfOk result (λ checker. StandsForText checker []) }
+        ensures room { IfOk result (λ checker. bytes_left checker < 2 ^ 64) }
     {
         let checker = Checker::open(alloc, basin, series)?;
         Ok(PieceChecker {
