@@ -1,5 +1,5 @@
 -- What the verdict on a result's bytes says of them.
-use Rattle.std.proofs.Common.{◌≡◌, ℕ, ◌≤◌, subst, List, length, Option, Some, None}
+use Rattle.std.proofs.Common.{◌≡◌, ℕ, subst, sym, List, Option, Some, None}
 use Rattle.std.specs.Prelude.{Result, Ok, Err, IsOk, IfSome}
 use Rattle.inflow_file.specs.SeriesFaults.{SpellsSeries}
 use Rattle.cert_check.proofs.ByteLaws.{yes_exactly_for_histories}
@@ -14,16 +14,19 @@ use Rattle.water_model.specs.declared.types.Inflows.{Inflows}
 use Rattle.water_model.proofs.Greatest.{cuts_make_greatest}
 use Rattle.basin_cli.specs.declared.ending.Ending.{Ending}
 use Rattle.basin_cli.specs.declared.ending.Ending.TheVariants as ending
+use Rattle.basin_cli.specs.declared.ending.File.TheVariants as file
 use Rattle.basin_cli.specs.Actions.{EndsChecking}
+use Rattle.basin_cli.specs.Answer.{EndsAnswer, IsAnswerTo, answered, ending_of}
 use Rattle.basin_cli.specs.Command.{Files}
 use Rattle.basin_cli.specs.Ending.{status_of}
-use Rattle.basin_cli.specs.Bytes.{AreSpelled, IsGoodBasin, IsGoodSeries, Told, file_limit, series_told}
+use Rattle.basin_cli.specs.Bytes.{AreSpelled, IsGoodBasin, IsGoodSeries, Told, series_told}
 use Rattle.basin_cli.specs.Out.{Leaves, MayWrite}
-use Rattle.basin_cli.specs.Outcome.{IsHistoryText, IsAccepted, IsRefuted, HasCheckingCause, WritesAnswer, answer_line}
+use Rattle.basin_cli.specs.Outcome.{IsHistoryText, IsRefuted, HasCheckingCause, WritesAnswer, answer_line}
 use Rattle.basin_cli.specs.Reading.{OfBoth}
 use Rattle.basin_cli.specs.Series.{AreLoaded, IsBasinText, IsSeriesText}
 use Rattle.basin_file.specs.BasinFaults.{Spells}
 use Rattle.basin_file.proofs.Faultless.{faultless_files_are_valid}
+use Rattle.basin_cli.proofs.Answering.{answered_as}
 use Rattle.basin_cli.proofs.OneSeries.{one_basin, one_series, same_history}
 
 -- bytes on which the verdict is a yes are the text of a history
@@ -75,17 +78,27 @@ pub good_series : (bytes s : List ℕ) (b : Basin) (series : Inflows) → IsBasi
 good_series bytes s b series basin_text series_text =
     record { basin = b; spelled = basin_text.spelled; within = series_text.within; sound = series_text.sound }
 
+-- what follows for told bytes from what is known of them holds as far as they are told
+pub behind_told : (t o r : Option (List ℕ)) (b : Basin) (series : Inflows) (Q : List ℕ → Type 0) (P : List ℕ → List ℕ → List ℕ → Type 0) →
+    IsSeriesOf b series → IfSome t (IsBasinText b) → IfSome o (IsSeriesText b series) → IfSome r Q →
+    ((bytes s text : List ℕ) → AreSpelled bytes s b series → Q text → P bytes s text) →
+    IfSome t (λ bytes. IsGoodBasin bytes × IfSome o (λ s. IsGoodSeries bytes s × IfSome r (P bytes s)))
+behind_told None o r b series Q P fits from_basin from_series known holds = tt
+behind_told (Some bytes) None r b series Q P fits from_basin from_series known holds = (from_basin.good, tt)
+behind_told (Some bytes) (Some s) None b series Q P fits from_basin from_series known holds =
+    (from_basin.good, (good_series bytes s b series from_basin from_series, tt))
+behind_told (Some bytes) (Some s) (Some text) b series Q P fits from_basin from_series known holds =
+    (from_basin.good, (good_series bytes s b series from_basin from_series,
+    holds bytes s text (spelled_by bytes s b series fits from_basin from_series) known))
+
 -- what holds of the bytes that are read holds as far as they are told
 pub behind : (t o r : Option (List ℕ)) (b : Basin) (series : Inflows) (text : List ℕ) (P : List ℕ → List ℕ → List ℕ → Type 0) → IsSeriesOf b series →
     IfSome t (IsBasinText b) → IfSome o (IsSeriesText b series) → IfSome r (λ bytes. text ≡ bytes) →
     ((bytes s : List ℕ) → AreSpelled bytes s b series → P bytes s text) →
     IfSome t (λ bytes. IsGoodBasin bytes × IfSome o (λ s. IsGoodSeries bytes s × IfSome r (P bytes s)))
-behind None o r b series text P fits from_basin from_series is holds = tt
-behind (Some bytes) None r b series text P fits from_basin from_series is holds = (from_basin.good, tt)
-behind (Some bytes) (Some s) None b series text P fits from_basin from_series is holds =
-    (from_basin.good, (good_series bytes s b series from_basin from_series, tt))
-behind (Some bytes) (Some s) (Some told) b series text P fits from_basin from_series is holds =
-    (from_basin.good, (good_series bytes s b series from_basin from_series, subst (P bytes s) is (holds bytes s (spelled_by bytes s b series fits from_basin from_series))))
+behind t o r b series text P fits from_basin from_series is holds =
+    behind_told t o r b series (λ bytes. text ≡ bytes) P fits from_basin from_series is
+    (λ bytes s told spelled same. subst (P bytes s) same (holds bytes s spelled))
 
 pub accepted : (t o : Option (List ℕ)) (b : Basin) (series : Inflows) → IfSome t (IsBasinText b) → IfSome o (IsSeriesText b series) →
     IfSome t (λ bytes. IsGoodBasin bytes × IfSome o (IsGoodSeries bytes))
@@ -93,43 +106,97 @@ accepted None o b series from_basin from_series = tt
 accepted (Some bytes) None b series from_basin from_series = (from_basin.good, tt)
 accepted (Some bytes) (Some s) b series from_basin from_series = (from_basin.good, good_series bytes s b series from_basin from_series)
 
+-- The answer to a result, which is read as it is checked.
+
+-- how a check ends whose answer is told
+pub answer_ends : (b : Basin) (series : Inflows) (told : Option (List ℕ)) (answer : Result ℕ Refuted) (how : Ending) (read write : Type 0) →
+    IsAnswerTo b series told answer → EndsAnswer answer how write → EndsChecking b series told how read write
+answer_ends b series told answer ending.WriteFault read write is h = h
+answer_ends b series told answer other read write is h =
+    subst (λ how. EndsChecking b series told how read write) (sym h) (by_answer answer is)
+  where
+    yes : (o : Option (List ℕ)) (months : ℕ) → IsAnswerTo b series o (Ok months) → IfSome o (λ text. IsOk (text_verdict b series text))
+    yes None months is = tt
+    yes (Some text) months is = is.0
+
+    by_answer : (a : Result ℕ Refuted) → IsAnswerTo b series told a → EndsChecking b series told (ending_of a) read write
+    by_answer (Ok months) is = yes told months is
+    by_answer (Err refuted) is = is
+
+-- it may write
+pub answer_writes : (answer : Result ℕ Refuted) (how : Ending) (write : Type 0) → EndsAnswer answer how write → MayWrite (status_of how)
+answer_writes answer ending.WriteFault write h = tt
+answer_writes answer other write h = subst (λ how. MayWrite (status_of how)) (sym h) (by_answer answer)
+  where
+    by_answer : (a : Result ℕ Refuted) → MayWrite (status_of (ending_of a))
+    by_answer (Ok months) = tt
+    by_answer (Err refuted) = tt
+
+-- and what is told of it
+pub answer_leaves : (b : Basin) (series : Inflows) (told : Option (List ℕ)) (answer : Result ℕ Refuted) (how : Ending) (old new : Option (List ℕ)) →
+    IsAnswerTo b series told answer → Leaves (status_of how) (answered answer) old new →
+    IfSome told (λ text. MayWrite (status_of how) → Leaves (status_of how) (answer_line b (text_verdict b series text)) old new)
+answer_leaves b series None answer how old new is left = tt
+answer_leaves b series (Some text) answer how old new is left = λ may.
+    subst (λ line. Leaves (status_of how) line old new) (answered_as b answer (text_verdict b series text) is) left
+
+-- a failure that came later
+pub ends_later : (b : Basin) (series : Inflows) (told : Option (List ℕ)) (how : Ending) (read later write : Type 0) → (read → later) →
+    EndsChecking b series told how read write → EndsChecking b series told how later write
+ends_later b series told ending.Done read later write since h = h
+ends_later b series told (ending.Refuted refuted) read later write since h = h
+ends_later b series told (ending.ReadFault file.Result) read later write since h = since h
+ends_later b series told ending.WriteFault read later write since h = h
+ends_later b series told ending.OutOfMemory read later write since h = tt
+ends_later b series told other read later write since h = absurd h
+
 -- the cause of how a check ends
-pub checking_cause : (told : Told) (files : Files) (result text : List ℕ) (b : Basin) (series : Inflows) (how : Ending) (read write : Type 0) →
-    IsValidBasin b → IsSeriesOf b series → AreLoaded told files b series → length text ≤ file_limit → IfSome (told result) (λ bytes. text ≡ bytes) →
-    EndsChecking b series text how write → HasCheckingCause files result how told read write
-checking_cause told files result text b series ending.Done read write valid fits loaded within is ends =
-    behind (told files.basin) (series_told told files.series) (told result) b series text IsAccepted fits loaded.from_basin loaded.from_series is
-    (λ bytes s spelled. record { within = within; is_text = is_text bytes s text b series valid spelled ends })
-checking_cause told files result text b series (ending.Refuted refuted) read write valid fits loaded within is ends =
-    behind (told files.basin) (series_told told files.series) (told result) b series text (IsRefuted refuted) fits loaded.from_basin loaded.from_series is
-    (λ bytes s spelled. record {
-      within = within;
+pub checking_cause : (told : Told) (files : Files) (result : List ℕ) (b : Basin) (series : Inflows) (how : Ending) (read write : Type 0) →
+    IsValidBasin b → IsSeriesOf b series → AreLoaded told files b series → EndsChecking b series (told result) how read write →
+    HasCheckingCause files result how told read write
+checking_cause told files result b series ending.Done read write valid fits loaded ends =
+    behind_told (told files.basin) (series_told told files.series) (told result) b series (λ text. IsOk (text_verdict b series text)) IsHistoryText
+    fits loaded.from_basin loaded.from_series ends (λ bytes s text spelled good. is_text bytes s text b series valid spelled good)
+checking_cause told files result b series (ending.Refuted refuted) read write valid fits loaded ends =
+    behind_told (told files.basin) (series_told told files.series) (told result) b series (λ text. text_verdict b series text ≡ Err refuted)
+    (IsRefuted refuted) fits loaded.from_basin loaded.from_series ends
+    (λ bytes s text spelled bad. record {
       basin = b;
       series = series;
       spelled = spelled;
-      verdict = ends;
-      no_text = is_no_text bytes s text b series refuted valid spelled ends;
+      verdict = bad;
+      no_text = is_no_text bytes s text b series refuted valid spelled bad;
     })
-checking_cause told files result text b series ending.WriteFault read write valid fits loaded within is ends =
+checking_cause told files result b series (ending.ReadFault file.Result) read write valid fits loaded ends =
     (ends, accepted (told files.basin) (series_told told files.series) b series loaded.from_basin loaded.from_series)
-checking_cause told files result text b series ending.OutOfMemory read write valid fits loaded within is ends = tt
-checking_cause told files result text b series other read write valid fits loaded within is ends = absurd ends
+checking_cause told files result b series ending.WriteFault read write valid fits loaded ends =
+    (ends, accepted (told files.basin) (series_told told files.series) b series loaded.from_basin loaded.from_series)
+checking_cause told files result b series ending.OutOfMemory read write valid fits loaded ends = tt
+checking_cause told files result b series other read write valid fits loaded ends = absurd ends
 
 -- what a check leaves on out
+pub of_told : (t o r : Option (List ℕ)) (b : Basin) (series : Inflows) (Q : List ℕ → Type 0) (P : List ℕ → List ℕ → List ℕ → Type 0) →
+    IsSeriesOf b series → IfSome t (IsBasinText b) → IfSome o (IsSeriesText b series) → IfSome r Q →
+    ((bytes s text : List ℕ) → AreSpelled bytes s b series → Q text → P bytes s text) → IfSome t (λ bytes. IfSome o (λ s. IfSome r (P bytes s)))
+of_told None o r b series Q P fits from_basin from_series known holds = tt
+of_told (Some bytes) None r b series Q P fits from_basin from_series known holds = tt
+of_told (Some bytes) (Some s) None b series Q P fits from_basin from_series known holds = tt
+of_told (Some bytes) (Some s) (Some text) b series Q P fits from_basin from_series known holds =
+    holds bytes s text (spelled_by bytes s b series fits from_basin from_series) known
+
 pub of_both : (t o r : Option (List ℕ)) (b : Basin) (series : Inflows) (text : List ℕ) (P : List ℕ → List ℕ → List ℕ → Type 0) → IsSeriesOf b series →
     IfSome t (IsBasinText b) → IfSome o (IsSeriesText b series) → IfSome r (λ bytes. text ≡ bytes) →
     ((bytes s : List ℕ) → AreSpelled bytes s b series → P bytes s text) → IfSome t (λ bytes. IfSome o (λ s. IfSome r (P bytes s)))
-of_both None o r b series text P fits from_basin from_series is holds = tt
-of_both (Some bytes) None r b series text P fits from_basin from_series is holds = tt
-of_both (Some bytes) (Some s) None b series text P fits from_basin from_series is holds = tt
-of_both (Some bytes) (Some s) (Some told) b series text P fits from_basin from_series is holds =
-    subst (P bytes s) is (holds bytes s (spelled_by bytes s b series fits from_basin from_series))
+of_both t o r b series text P fits from_basin from_series is holds =
+    of_told t o r b series (λ bytes. text ≡ bytes) P fits from_basin from_series is
+    (λ bytes s told spelled same. subst (P bytes s) same (holds bytes s spelled))
 
-pub checking_writes : (told : Told) (files : Files) (result text : List ℕ) (b : Basin) (series : Inflows) (how : Ending) (old new : Option (List ℕ)) →
-    IsSeriesOf b series → AreLoaded told files b series → IfSome (told result) (λ bytes. text ≡ bytes) →
-    (MayWrite (status_of how) → Leaves (status_of how) (answer_line b (text_verdict b series text)) old new) →
+pub checking_writes : (told : Told) (files : Files) (result : List ℕ) (b : Basin) (series : Inflows) (how : Ending) (old new : Option (List ℕ)) →
+    IsSeriesOf b series → AreLoaded told files b series →
+    IfSome (told result) (λ text. MayWrite (status_of how) → Leaves (status_of how) (answer_line b (text_verdict b series text)) old new) →
     OfBoth told files (λ bytes s. IfSome (told result) (λ r. MayWrite (status_of how) → WritesAnswer (status_of how) bytes s r old new))
-checking_writes told files result text b series how old new fits loaded is leaves =
-    of_both (told files.basin) (series_told told files.series) (told result) b series text
-    (λ bytes s r. MayWrite (status_of how) → WritesAnswer (status_of how) bytes s r old new) fits loaded.from_basin loaded.from_series is
-    (λ bytes s spelled may. record { basin = b; series = series; spelled = spelled; written = leaves may })
+checking_writes told files result b series how old new fits loaded leaves =
+    of_told (told files.basin) (series_told told files.series) (told result) b series
+    (λ text. MayWrite (status_of how) → Leaves (status_of how) (answer_line b (text_verdict b series text)) old new)
+    (λ bytes s r. MayWrite (status_of how) → WritesAnswer (status_of how) bytes s r old new) fits loaded.from_basin loaded.from_series leaves
+    (λ bytes s text spelled left may. record { basin = b; series = series; spelled = spelled; written = left may })

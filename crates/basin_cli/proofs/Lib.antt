@@ -18,3 +18,4 @@ pub mod Edited
 pub mod FoundBytes
 pub mod Idle
 pub mod Handed
+pub mod Parts

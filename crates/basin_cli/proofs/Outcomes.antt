@@ -20,7 +20,7 @@ use Rattle.basin_cli.specs.Command.{Command, Files, run, check, report, trial, w
 use Rattle.basin_cli.specs.Ending.{line_of, status_of, status_of_second, finding_of}
 use Rattle.basin_cli.specs.Explained.{HasMonth, HasRight}
 use Rattle.basin_cli.specs.Bytes.{IsGoodBasin, IsGoodSeries, IsRefusedFor, IsSeriesRefusedFor, IsTooLong, Told, file_limit, series_told}
-use Rattle.basin_cli.specs.Outcome.{IsHistoryText, IsAccepted, IsRefuted, HasSolvingCause, HasCheckingCause, HasTrialCause, HasEnsembleCause, HasExplainingCause, IsOfYears, IsPartYear, IsAsked, IsOutsideRun, IsUnknownRight, IsShortIn, EndingHasCause, Completes, IsQuiet, Tells}
+use Rattle.basin_cli.specs.Outcome.{IsHistoryText, IsRefuted, HasSolvingCause, HasCheckingCause, HasTrialCause, HasEnsembleCause, HasExplainingCause, IsOfYears, IsPartYear, IsAsked, IsOutsideRun, IsUnknownRight, IsShortIn, EndingHasCause, Completes, IsQuiet, Tells}
 use Rattle.basin_cli.specs.Reading.{IsDone, IsJudged, StopsReading, CompletesBehind}
 use Rattle.basin_cli.proofs.OneSeries.{one_basin}
 use Rattle.basin_cli.specs.Edited.{HasEditingCause, IsGoodScript, IsScriptRefusedFor}
@@ -117,12 +117,12 @@ solving files other told read write h = absurd h
 -- a check
 abbrev Checked : Status → Option (List ℕ) → Type 0 → Type 0 → List ℕ → List ℕ → Type 0
 Checked status result read write bytes s =
-    IfSome result (λ text. length text ≤ file_limit → (read → ⊥) → (write → ⊥) → IsJudged status (IsHistoryText bytes s text))
+    IfSome result (λ text. (read → ⊥) → (write → ⊥) → IsJudged status (IsHistoryText bytes s text))
 
 of_result : (result : Option (List ℕ)) (status : Status) (read write : Type 0) (bytes s : List ℕ) →
     ((text : List ℕ) → (read → ⊥) → (write → ⊥) → IsJudged status (IsHistoryText bytes s text)) → Checked status result read write bytes s
 of_result None status read write bytes s h = tt
-of_result (Some text) status read write bytes s h = λ _. h text
+of_result (Some text) status read write bytes s h = h text
 
 memory_checked : (how : Ending) (result : Option (List ℕ)) (read write : Type 0) → how ≡ ending.OutOfMemory → (bytes s : List ℕ) → Checked (status_of how) result read write bytes s
 memory_checked how result read write e bytes s = of_result result (status_of how) read write bytes s (λ _ _ _. inl (ap status_of e))
@@ -140,7 +140,7 @@ behind_third (Some bytes) (Some s) None P Q shows h = λ _ _. tt
 behind_third (Some bytes) (Some s) (Some text) P Q shows h = λ _ _. shows bytes s text h.1.1
 
 behind_series : (told series result : Option (List ℕ)) (P : List ℕ → List ℕ → List ℕ → Type 0) (status : Status) (read write : Type 0) →
-    ((bytes s text : List ℕ) → P bytes s text → length text ≤ file_limit → (read → ⊥) → (write → ⊥) → IsJudged status (IsHistoryText bytes s text)) →
+    ((bytes s text : List ℕ) → P bytes s text → (read → ⊥) → (write → ⊥) → IsJudged status (IsHistoryText bytes s text)) →
     IfSome told (λ bytes. IsGoodBasin bytes × IfSome series (λ s. IsGoodSeries bytes s × IfSome result (P bytes s))) →
     Shown told series (Checked status result read write)
 behind_series told series result P status read write judge h = behind_third told series result P _ judge h
@@ -148,9 +148,9 @@ behind_series told series result P status read write judge h = behind_third told
 checking : (files : Files) (result : List ℕ) (how : Ending) (told : Told) (read write : Type 0) → HasCheckingCause files result how told read write →
     CompletesBehind told files (Checked (status_of how) (told result) read write)
 checking files result ending.Done told read write h =
-    behind_series (told files.basin) _ (told result) IsAccepted its.Done read write (λ _ _ _ is _ _ _. inr (inl (refl, is.is_text))) h
+    behind_series (told files.basin) _ (told result) IsHistoryText its.Done read write (λ _ _ _ is _ _. inr (inl (refl, is))) h
 checking files result (ending.Refuted refuted) told read write h =
-    behind_series (told files.basin) _ (told result) (IsRefuted refuted) its.No read write (λ _ _ _ is _ _ _. inr (inr (refl, is.no_text))) h
+    behind_series (told files.basin) _ (told result) (IsRefuted refuted) its.No read write (λ _ _ _ is _ _. inr (inr (refl, is.no_text))) h
 checking files result ending.WriteFault told read write h =
     always (told files.basin) _ (Checked its.WriteFault (told result) read write)
     (λ bytes s. of_result (told result) its.WriteFault read write bytes s (λ _ _ no_write. absurd (no_write h.0)))
@@ -174,9 +174,6 @@ checking files result (ending.InputTooLong file.Basin) told read write h =
 checking files result (ending.InputTooLong file.Series) told read write h =
     stopped files (ending.InputTooLong file.Series) told read (Checked its.InputTooLong (told result) read write) (fault_checked its.InputTooLong (told result) read write)
     (memory_checked (ending.InputTooLong file.Series) (told result) read write) h
-checking files result (ending.InputTooLong file.Result) told read write h =
-    behind_series (told files.basin) _ (told result) (λ _ _ bytes. IsTooLong bytes) its.InputTooLong read write
-    (λ _ _ _ is within _ _. absurd (omega (arith, is.beyond, within))) h
 checking files result ending.OutOfMemory told read write h =
     always (told files.basin) _ (Checked its.OutOfMemory (told result) read write)
     (λ bytes s. of_result (told result) its.OutOfMemory read write bytes s (λ _ _ _. inl refl))

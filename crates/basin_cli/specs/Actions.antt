@@ -1,5 +1,5 @@
 -- How the actions of commands may end, behind their files.
-use Rattle.std.specs.Prelude.{◌≡◌, ℕ, ◌≤◌, List, ⊤, IsOk, Err, Option, slice_index}
+use Rattle.std.specs.Prelude.{◌≡◌, ℕ, ◌≤◌, List, ⊤, IfSome, IsOk, Err, Option, slice_index}
 use Rattle.cert_check.specs.Whole.{text_verdict}
 use Rattle.edit_script.specs.declared.refused.ScriptFault.TheVariants as script
 use Rattle.index_seq.specs.Text.{ensemble_text}
@@ -12,6 +12,7 @@ use Rattle.water_model.specs.declared.types.MonthRecord.{MonthRecord}
 use Rattle.water_text.specs.declared.month.Month.{Month}
 use Rattle.basin_cli.specs.declared.ending.Ending.{Ending}
 use Rattle.basin_cli.specs.declared.ending.Ending.TheVariants as ending
+use Rattle.basin_cli.specs.declared.ending.File.TheVariants as file
 use Rattle.basin_cli.specs.Ending.{status_of}
 use Rattle.basin_cli.specs.Explained.{EndsExplaining, Explains, HasMonth, HasRight, IsAbout, IsRecordOf}
 use Rattle.basin_cli.specs.Out.{Leaves, MayWrite}
@@ -26,13 +27,15 @@ abbrev pub LeavesTraces : Basin → Inflows → Ending → Option (List ℕ) →
 LeavesTraces b series how old new =
     MayWrite (status_of how) → (traces : List (List MonthRecord)) × AreTraces b series traces × Leaves (status_of how) (ensemble_text b traces) old new
 
--- how the checking of a text may end, by the verdict on it
-abbrev pub EndsChecking : Basin → Inflows → List ℕ → Ending → Type 0 → Type 0
-EndsChecking b series text ending.Done write = IsOk (text_verdict b series text)
-EndsChecking b series text (ending.Refuted refuted) write = text_verdict b series text ≡ Err refuted
-EndsChecking b series text ending.WriteFault write = write
-EndsChecking b series text ending.OutOfMemory write = ⊤
-EndsChecking b series text other write = ⊥
+-- how the checking of a result may end, by the verdict on its bytes where they are told. `read` and `write` say that the
+-- shelf's and out's count of faults rose
+abbrev pub EndsChecking : Basin → Inflows → Option (List ℕ) → Ending → Type 0 → Type 0 → Type 0
+EndsChecking b series told ending.Done read write = IfSome told (λ text. IsOk (text_verdict b series text))
+EndsChecking b series told (ending.Refuted refuted) read write = IfSome told (λ text. text_verdict b series text ≡ Err refuted)
+EndsChecking b series told (ending.ReadFault file.Result) read write = read
+EndsChecking b series told ending.WriteFault read write = write
+EndsChecking b series told ending.OutOfMemory read write = ⊤
+EndsChecking b series told other read write = ⊥
 
 -- how the answer about a right in the month of this index ends, and what it leaves on out: its text, or a front of it
 pub record AnswersAt (b : Basin) (series : Inflows) (index right : ℕ) (how : Ending) (write : Type 0) (old new : Option (List ℕ)) : Type 0 where

@@ -30,7 +30,7 @@ use Rattle.basin_cli.specs.Command.{Command, Files, run, check, report, trial, w
 use Rattle.basin_cli.specs.Ending.{status_of, line_of}
 use Rattle.basin_cli.specs.Explained.{Explains, HasMonth, HasRight, IsAbout, PushesUpTo}
 use Rattle.basin_cli.specs.Headline.{HasGreatestPlans}
-use Rattle.basin_cli.specs.Bytes.{AreSpelled, IsGoodBasin, IsSeriesRefusedFor, IsTooLong, Told, file_limit}
+use Rattle.basin_cli.specs.Bytes.{AreSpelled, IsGoodBasin, IsSeriesRefusedFor, IsTooLong, Told}
 use Rattle.basin_cli.specs.Out.{Leaves, MayWrite}
 use Rattle.basin_cli.specs.Written.{LeavesRun}
 use Rattle.basin_cli.specs.Reading.{AreAccepted, BehindBasin, BehindBoth, BehindSeries, CompletesBehind, IsDone, IsJudged, OfBoth, StopsReading}
@@ -49,14 +49,8 @@ pub record IsHistoryText (bytes series_bytes result : List ℕ) : Type 0 where
   pub text : result ≡ text_bytes basin records
   pub greatest : HasGreatestPlans basin records
 
--- the bytes of a result are within the limit and the text of a history
-pub record IsAccepted (bytes series_bytes result : List ℕ) : Type 0 where
-  pub within : length result ≤ file_limit
-  pub is_text : IsHistoryText bytes series_bytes result
-
--- the bytes of a result are within the limit, this is the verdict on them, and they are the text of no history
+-- this is the verdict on the bytes of a result, and they are the text of no history
 pub record IsRefuted (refuted : Refuted) (bytes series_bytes result : List ℕ) : Type 0 where
-  pub within : length result ≤ file_limit
   pub basin : Basin
   pub series : Inflows
   pub spelled : AreSpelled bytes series_bytes basin series
@@ -115,11 +109,10 @@ HasSolvingCause files other told read write = StopsReading files other told read
 
 -- the cause of an ending of a check
 abbrev pub HasCheckingCause : Files → List ℕ → Ending → Told → Type 0 → Type 0 → Type 0
-HasCheckingCause files result ending.Done told read write = BehindSeries told files result IsAccepted
+HasCheckingCause files result ending.Done told read write = BehindSeries told files result IsHistoryText
 HasCheckingCause files result (ending.Refuted refuted) told read write = BehindSeries told files result (IsRefuted refuted)
 HasCheckingCause files result ending.WriteFault told read write = write × AreAccepted told files
 HasCheckingCause files result (ending.ReadFault file.Result) told read write = read × AreAccepted told files
-HasCheckingCause files result (ending.InputTooLong file.Result) told read write = BehindSeries told files result (λ _ _ bytes. IsTooLong bytes)
 HasCheckingCause files result other told read write = StopsReading files other told read
 
 -- the cause of an ending of a trial
@@ -192,7 +185,7 @@ Completes (Some (run files)) status told read write = CompletesBehind told files
 Completes (Some (report files)) status told read write = CompletesBehind told files (λ _ _. (read → ⊥) → (write → ⊥) → IsDone status)
 Completes (Some (trial number size)) status told read write = (write → ⊥) → IsDone status
 Completes (Some (check files result)) status told read write =
-    CompletesBehind told files (λ bytes series. IfSome (told result) (λ text. length text ≤ file_limit →
+    CompletesBehind told files (λ bytes series. IfSome (told result) (λ text.
     (read → ⊥) → (write → ⊥) → IsJudged status (IsHistoryText bytes series text)))
 Completes (Some (compare files second)) status told read write = ComparesBehind told files second status read write
 Completes (Some (why files month name)) status told read write =

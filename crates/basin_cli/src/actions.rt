@@ -10,11 +10,11 @@ ghost use Rattle.reports.specs.Ends.{IsRun};
 ghost use Rattle.reports.specs.Reports.{report_text, trial_text};
 ghost use Rattle.water_edge.specs.Edge.{Rose};
 ghost use Rattle.water_model.specs.Valid.{IsValidBasin, IsSeriesOf};
-ghost use Rattle.basin_cli.specs.Actions.{EndsChecking, LeavesRecords, LeavesTraces};
+ghost use Rattle.basin_cli.specs.Actions.{LeavesRecords, LeavesTraces};
 ghost use Rattle.basin_cli.specs.Answer.{answered, ending_of, EndsAnswer};
 ghost use Rattle.basin_cli.specs.Ending.{status_of};
 ghost use Rattle.basin_cli.specs.Out.{IsRefusal, Leaves, MayWrite};
-ghost use Rattle.basin_cli.specs.Outcome.{HasTrialCause, IsQuiet, WritesTrial, answer_line};
+ghost use Rattle.basin_cli.specs.Outcome.{HasTrialCause, IsQuiet, WritesTrial};
 ghost use Rattle.basin_cli.specs.Written.{LeavesRun};
 ghost use Rattle.month_fold.specs.Runs.{run_pushes};
 
@@ -199,7 +199,7 @@ fn judged(answer: &Result<u32, Refuted>) -> Ending
 }
 
 /// Puts the answer to a checked text. It takes no memory.
-fn tell_answer<K: Sink>(answer: &Result<u32, Refuted>, out: &mut K) -> Ending
+pub fn tell_answer<K: Sink>(answer: &Result<u32, Refuted>, out: &mut K) -> Ending
     ensures ends { EndsAnswer answer.now result (Rose (K.faults out.old) (K.faults out.new)) }
     ensures leaves { Leaves (status_of result) (answered answer.now) (K.taken out.old) (K.taken out.new) }
     ensures handed { IsQuiet (status_of result) → K.handed out.new ≡ K.taken out.new }
@@ -225,26 +225,4 @@ pub fn answer_of(
 {
     let mut checker = Checker::open(alloc, basin, series)?;
     Ok(check_text(&mut checker, text))
-}
-
-/// Checks the bytes of a result and puts the answer: the number of its months, or the first line at fault and why.
-pub fn check_bytes<K: Sink>(
-    alloc: Global,
-    basin: &Basin,
-    series: &Inflows,
-    text: &[u8],
-    out: &mut K,
-) -> Ending
-    requires basin { IsValidBasin basin.now }
-    requires series { IsSeriesOf basin.now series.now }
-    ensures ends { EndsChecking basin.now series.now text.now result (Rose (K.faults out.old) (K.faults out.new)) }
-    ensures leaves { MayWrite (status_of result) →
-        Leaves (status_of result) (answer_line basin.now (text_verdict basin.now series.now text.now)) (K.taken out.old) (K.taken out.new) }
-    ensures out_stays { (MayWrite (status_of result) → ⊥) → out.new ≡ out.old }
-    ensures handed { IsQuiet (status_of result) → K.handed out.new ≡ K.taken out.new }
-{
-    match answer_of(alloc, basin, series, text) {
-        Ok(answer) => tell_answer(&answer, out),
-        Err(_) => Ending::OutOfMemory,
-    }
 }

@@ -3,6 +3,7 @@
 #![tactic(auto)]
 
 mod actions;
+mod checking;
 mod command;
 mod compare;
 mod comparing;

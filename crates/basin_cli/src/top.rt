@@ -7,7 +7,8 @@ ghost use Rattle.basin_cli.specs.Ending.{status_of, CanBeTold};
 ghost use Rattle.basin_cli.specs.Out.{IsIdle, MayLeave};
 ghost use Rattle.basin_cli.specs.Outcome.{EndingHasCause, Ends, Completes, WritesFor, PushesFor, IsQuiet};
 
-use crate::actions::{check_bytes, gather_basin, report_basin, run_basin, try_basin};
+use crate::actions::{gather_basin, report_basin, run_basin, try_basin};
+use crate::checking::check_file;
 use crate::command::{Inputs, Words, command};
 use crate::compare::do_compare;
 use crate::editing::edit_basin;
@@ -71,7 +72,7 @@ fn do_report<S: Shelf, K: Sink, L: Ledger>(
     report_basin(alloc, &files.basin, &files.series, out, searches)
 }
 
-/// `check`: reads a result and puts whether it is the text of a history of a basin with its series, or why not.
+/// `check`: reads a result, in parts, and puts whether it is the text of a history of a basin with its series, or why not.
 fn do_check<S: Shelf, K: Sink>(
     alloc: Global,
     inputs: Inputs,
@@ -91,11 +92,7 @@ fn do_check<S: Shelf, K: Sink>(
         Ok(files) => files,
         Err(ending) => return ending,
     };
-    let text = match read_file(alloc, shelf, result_name, File::Result) {
-        Ok(text) => text,
-        Err(ending) => return ending,
-    };
-    check_bytes(alloc, &files.basin, &files.series, &text, out)
+    check_file(alloc, &files.basin, &files.series, shelf, result_name, out)
 }
 
 /// `why`: solves the months of a basin with its series up to one month, and puts why the right of this name got no more in it.

@@ -14,8 +14,8 @@ use std::test::Fail;
 use steps::Steps;
 use water_edge::{MemoryShelf, MemorySink};
 
-/// The bytes of the files BASIN, BASIN2, SERIES, RESULT and SCRIPT, and the numbers of the calls of the shelf and of out
-/// that fail.
+/// The bytes of the files BASIN, BASIN2, SERIES, RESULT and SCRIPT, how many bytes a part of a file has at most, where 0
+/// counts as 1, and the numbers of the calls of the shelf and of out that fail.
 #[derive(Drop)]
 pub struct Set {
     pub basin: Vec<u8>,
@@ -23,6 +23,7 @@ pub struct Set {
     pub series: Vec<u8>,
     pub result: Vec<u8>,
     pub script: Vec<u8>,
+    pub part: usize,
     pub shelf_fails: u64,
     pub out_fails: u64,
 }
@@ -30,7 +31,7 @@ pub struct Set {
 /// The number of a call that is never made.
 pub const NEVER: u64 = 1_000_000;
 
-/// Files whose calls all succeed.
+/// Files whose calls all succeed. A part has all the bytes that there are.
 pub fn files(alloc: Global, basin: &str, series: &str) -> Result<Set, Fail> {
     Ok(Set {
         basin: Vec::from_slice(alloc, basin.as_bytes())?,
@@ -38,6 +39,7 @@ pub fn files(alloc: Global, basin: &str, series: &str) -> Result<Set, Fail> {
         series: Vec::from_slice(alloc, series.as_bytes())?,
         result: Vec::new(alloc),
         script: Vec::new(alloc),
+        part: usize::MAX,
         shelf_fails: NEVER,
         out_fails: NEVER,
     })
@@ -56,7 +58,8 @@ fn set_up(alloc: Global, words: &[&str], set: Set) -> Result<(Vec<String>, Memor
     held.push((String::from_str(alloc, "RESULT")?, set.result))?;
     held.push((String::from_str(alloc, "SCRIPT")?, set.script))?;
     let failing = vec![in alloc; set.shelf_fails; 1]?;
-    Ok((list, MemoryShelf::new(held, failing)))
+    let shelf = MemoryShelf::new(held, failing).in_pieces(set.part.max(1));
+    Ok((list, shelf))
 }
 
 fn call_over<L: Ledger>(

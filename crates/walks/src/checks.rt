@@ -7,7 +7,7 @@ use crate::running::SERVED;
 use basin_cli::Status;
 use stage::basins::{JUNIOR_SHORT, LAKE, NOTHING_WANTED};
 use stage::ordinary::{ORDINARY, ORDINARY_SERIES, ORDINARY_TEXT};
-use stage::{NEVER, expect, files};
+use stage::{NEVER, blanks, expect, files};
 use std::alloc::Global;
 use std::test::Fail;
 
@@ -25,6 +25,27 @@ fn with_line(alloc: Global, text: &str, number: usize, put: &str) -> Result<Stri
     Ok(changed)
 }
 
+/// Checks a result that is read in parts of so many bytes, and compares the answer.
+fn checks_in_parts(
+    alloc: Global,
+    part: usize,
+    basin: &str,
+    series: &str,
+    text: &str,
+    want: (Status, &str),
+) -> Result<(), Fail> {
+    let mut set = files(alloc, basin, series)?;
+    set.result.extend_from_slice(text.as_bytes())?;
+    set.part = part;
+    let name = if series.is_empty() { "-" } else { "SERIES" };
+    expect(
+        alloc,
+        &["check", "BASIN", name, "RESULT"],
+        set,
+        (want.0, want.1, ""),
+    )
+}
+
 /// Checks a result, and compares the answer.
 fn checks(
     alloc: Global,
@@ -33,15 +54,7 @@ fn checks(
     text: &str,
     want: (Status, &str),
 ) -> Result<(), Fail> {
-    let mut set = files(alloc, basin, series)?;
-    set.result.extend_from_slice(text.as_bytes())?;
-    let name = if series.is_empty() { "-" } else { "SERIES" };
-    expect(
-        alloc,
-        &["check", "BASIN", name, "RESULT"],
-        set,
-        (want.0, want.1, ""),
-    )
+    checks_in_parts(alloc, 65_536, basin, series, text, want)
 }
 
 /// What the program writes is accepted.
@@ -421,17 +434,92 @@ fn refutes_in_later_months(rt: HostRuntime) -> Result<(), Fail> {
     Ok(())
 }
 
+/// How many bytes a part of a result has.
+const PARTS: [usize; 4] = [1, 2, 7, 65_536];
+
+#[test]
+fn answers_the_same_in_parts(rt: HostRuntime) -> Result<(), Fail> {
+    for part in PARTS {
+        let alloc = rt.alloc();
+        let yes = (Status::Done, "checked 2\n");
+        checks_in_parts(alloc, part, ORDINARY, ORDINARY_SERIES, ORDINARY_TEXT, yes)?;
+        for (line, put, answer) in ORDINARY_REFUTED {
+            let changed = with_line(alloc, ORDINARY_TEXT, line, put)?;
+            let no = (Status::No, answer);
+            checks_in_parts(alloc, part, ORDINARY, ORDINARY_SERIES, changed.as_str(), no)?;
+        }
+    }
+    Ok(())
+}
+
 /// A rest of more than 128 bytes is a line.
 #[test]
 fn takes_a_long_rest_for_a_line(rt: HostRuntime) -> Result<(), Fail> {
     for (count, answer) in [
         (200usize, "refuted 1 BadLine\n"),
+        (129, "refuted 1 BadLine\n"),
         (128, "refuted 1 EarlyEnd\n"),
     ] {
+        for part in PARTS {
+            let mut set = files(rt.alloc(), JUNIOR_DRY.0, "")?;
+            set.result = vec![in rt.alloc(); 120; count]?;
+            set.part = part;
+            let words = ["check", "BASIN", "-", "RESULT"];
+            expect(rt.alloc(), &words, set, (Status::No, answer, ""))?;
+        }
+    }
+    Ok(())
+}
+
+/// The length of a result has no limit.
+#[test]
+fn refutes_a_result_of_any_length(rt: HostRuntime) -> Result<(), Fail> {
+    let mut set = files(rt.alloc(), JUNIOR_DRY.0, "")?;
+    set.result = blanks(rt.alloc(), 67_108_865)?;
+    let words = ["check", "BASIN", "-", "RESULT"];
+    let want = (Status::No, "refuted 1 BadLine\n", "");
+    expect(rt.alloc(), &words, set, want)
+}
+
+/// The line feed at fault is the part of call 2, so that call 3 is never made.
+#[test]
+fn reads_no_part_behind_a_fault(rt: HostRuntime) -> Result<(), Fail> {
+    let words = ["check", "BASIN", "-", "RESULT"];
+    let table = [
+        (1, Status::ReadFault, "", "read: RESULT\n"),
+        (2, Status::ReadFault, "", "read: RESULT\n"),
+        (3, Status::No, "refuted 1 BadLine\n", ""),
+    ];
+    for (shelf_fails, status, answer, line) in table {
         let mut set = files(rt.alloc(), JUNIOR_DRY.0, "")?;
-        set.result = vec![in rt.alloc(); 120; count]?;
-        let words = ["check", "BASIN", "-", "RESULT"];
-        expect(rt.alloc(), &words, set, (Status::No, answer, ""))?;
+        set.result.extend_from_slice(b"x\nand more\n")?;
+        set.part = 1;
+        set.shelf_fails = shelf_fails;
+        expect(rt.alloc(), &words, set, (status, answer, line))?;
+    }
+    Ok(())
+}
+
+/// Call 2 reads the first part. The call behind the last part finds that there is no more.
+#[test]
+fn tells_a_part_that_fails(rt: HostRuntime) -> Result<(), Fail> {
+    let words = ["check", "BASIN", "SERIES", "RESULT"];
+    let parts = ORDINARY_TEXT.len().div_ceil(7) as u64;
+    let fault = (Status::ReadFault, "", "read: RESULT\n");
+    let table = [
+        (2, fault),
+        (3, fault),
+        (50, fault),
+        (parts + 1, fault),
+        (parts + 2, fault),
+        (parts + 3, (Status::Done, "checked 2\n", "")),
+    ];
+    for (shelf_fails, want) in table {
+        let mut set = files(rt.alloc(), ORDINARY, ORDINARY_SERIES)?;
+        set.result.extend_from_slice(ORDINARY_TEXT.as_bytes())?;
+        set.part = 7;
+        set.shelf_fails = shelf_fails;
+        expect(rt.alloc(), &words, set, want)?;
     }
     Ok(())
 }

@@ -1,19 +1,29 @@
-use Rattle.std.proofs.Common.{subst, ◌≡◌, ℕ, List, Option}
+use Rattle.std.proofs.Common.{subst, List, Option, ℕ}
 use Rattle.std.specs.Prelude.{IfSome}
+use Rattle.cert_check.specs.Whole.{text_verdict}
+use Rattle.basin_cli.specs.Actions.{EndsChecking}
 use Rattle.basin_cli.specs.Command.{named}
-use Rattle.basin_cli.proofs.Judged.{checking_cause, checking_writes}
+use Rattle.basin_cli.specs.Ending.{status_of}
+use Rattle.basin_cli.specs.Out.{Leaves, MayWrite}
+use Rattle.basin_cli.specs.Outcome.{answer_line}
+use Rattle.basin_cli.proofs.Judged.{checking_cause, checking_writes, ends_later}
+use Rattle.basin_cli.proofs.Stops.{rose_since}
 use Rattle.basin_cli.proofs.top.do_check.Goals as goal
 
 pub returns-clause-cause : goal.returns-clause-cause
 returns-clause-cause g c =
-    checking_cause (g.S.Shelf.told c.args.shelf.now) (named c.args.inputs) c.args.result_name.now c.deref.result.now c.in-Ok.files.basin c.in-Ok.files.series
-    c.check_bytes.result _ _ c.in-Ok.ensures.valid c.in-Ok.ensures.fits c.in-Ok.ensures.loaded (rw c.deref.ensures.value c.in-Ok-read_file.ensures.within)
-    (rw c.deref.ensures.value (subst (λ (o : Option (List ℕ)). IfSome o (λ bytes. c.in-Ok-read_file.text.items ≡ bytes)) (c.in-Ok.ensures.same.told c.args.result_name.now)
-    c.in-Ok-read_file.ensures.bytes)) c.check_bytes.ensures.ends
+    checking_cause (g.S.Shelf.told c.args.shelf.now) (named c.args.inputs) c.args.result_name.now c.in-Ok.files.basin
+    c.in-Ok.files.series c.check_file.result _ _ c.in-Ok.ensures.valid c.in-Ok.ensures.fits c.in-Ok.ensures.loaded
+    (ends_later c.in-Ok.files.basin c.in-Ok.files.series _ c.check_file.result _ _ _
+    (rose_since (g.S.Shelf.faults c.args.shelf.now) (g.S.Shelf.faults c.read_inputs.new.shelf)
+    (g.S.Shelf.faults c.check_file.new.shelf) c.in-Ok.ensures.later)
+    (subst (λ (told : Option (List ℕ)). EndsChecking c.in-Ok.files.basin c.in-Ok.files.series told c.check_file.result _ _)
+    (c.in-Ok.ensures.same.told c.args.result_name.now) c.check_file.ensures.ends))
 
 pub returns-clause-writes : goal.returns-clause-writes
 returns-clause-writes g c =
-    checking_writes (g.S.Shelf.told c.args.shelf.now) (named c.args.inputs) c.args.result_name.now c.deref.result.now c.in-Ok.files.basin c.in-Ok.files.series
-    c.check_bytes.result _ _ c.in-Ok.ensures.fits c.in-Ok.ensures.loaded
-    (rw c.deref.ensures.value (subst (λ (o : Option (List ℕ)). IfSome o (λ bytes. c.in-Ok-read_file.text.items ≡ bytes)) (c.in-Ok.ensures.same.told c.args.result_name.now)
-    c.in-Ok-read_file.ensures.bytes)) c.check_bytes.ensures.leaves
+    checking_writes (g.S.Shelf.told c.args.shelf.now) (named c.args.inputs) c.args.result_name.now c.in-Ok.files.basin
+    c.in-Ok.files.series c.check_file.result _ _ c.in-Ok.ensures.fits c.in-Ok.ensures.loaded
+    (subst (λ (told : Option (List ℕ)). IfSome told (λ text. MayWrite (status_of c.check_file.result) →
+    Leaves (status_of c.check_file.result) (answer_line c.in-Ok.files.basin (text_verdict c.in-Ok.files.basin c.in-Ok.files.series text)) _ _))
+    (c.in-Ok.ensures.same.told c.args.result_name.now) c.check_file.ensures.leaves)

@@ -1,0 +1,49 @@
+-- A result that is read in parts: what a checker was given so far.
+use Rattle.std.proofs.Common.{◌≡◌, ℕ, ◌+◌, ◌<◌, ◌≤◌, ap, subst, sym, ◌∙◌, arith, List, [], ◌++◌, length, take, drop, Option, Some, None, append_assoc, take-append-drop}
+use Rattle.std.specs.Prelude.{IfSome, Err}
+use Rattle.std.proofs.Math.Seq.{take-add}
+use Rattle.cert_check.specs.Pieces.{PiecesSeen, StandsForText}
+use Rattle.cert_check.specs.Whole.{text_verdict}
+use Rattle.cert_check.specs.declared.refuted.Refuted.{Refuted}
+use Rattle.water_edge.specs.Edge.{IsPart}
+use Rattle.basin_cli.specs.Answer.{IsAnswerTo}
+
+-- the checker was given the first bytes of the whole, and none of their lines is at fault
+pub record IsFed (c : PiecesSeen) (from : ℕ) (whole : List ℕ) : Type 0 where
+  pub within : from ≤ length whole
+  pub stands : StandsForText c (take from whole)
+
+pub first_fed : (told : Option (List ℕ)) (c : PiecesSeen) → StandsForText c [] → IfSome told (IsFed c 0)
+first_fed None c stands = tt
+first_fed (Some whole) c stands = record { within = omega arith; stands = stands }
+
+-- with a part more
+pub next_fed : (told : Option (List ℕ)) (c after : PiecesSeen) (from count : ℕ) (old new : List ℕ) → 0 < count → IfSome told (IsFed c from) →
+    IfSome told (λ whole. IsPart whole from old new count) →
+    ((text : List ℕ) → StandsForText c text → StandsForText after (text ++ take count new)) → IfSome told (IsFed after (from + count))
+next_fed None c after from count old new some fed part stands = tt
+next_fed (Some whole) c after from count old new some fed part stands = record {
+  within = part.there some;
+  stands = subst (StandsForText after)
+      (ap (λ xs. take from whole ++ xs) part.front ∙ sym (take-add from count whole))
+      (stands (take from whole) fed.stands);
+}
+
+-- A part is refused, and so is the whole, whatever follows.
+pub refused_whole : (told : Option (List ℕ)) (c : PiecesSeen) (from count : ℕ) (old new : List ℕ) (e : Refuted) → IfSome told (IsFed c from) →
+    IfSome told (λ whole. IsPart whole from old new count) →
+    ((text : List ℕ) → StandsForText c text → (rest : List ℕ) → text_verdict c.basin c.series (text ++ take count new ++ rest) ≡ Err e) →
+    IsAnswerTo c.basin c.series told (Err e)
+refused_whole None c from count old new e fed part refused = tt
+refused_whole (Some whole) c from count old new e fed part refused =
+    subst (λ text. text_verdict c.basin c.series text ≡ Err e) together (refused (take from whole) fed.stands rest)
+  where
+    rest : List ℕ
+    rest = drop count (drop from whole)
+
+    together : take from whole ++ take count new ++ rest ≡ whole
+    together =
+        append_assoc (take from whole) (take count new) rest
+        ∙ (ap (λ xs. take from whole ++ (xs ++ rest)) part.front
+        ∙ (ap (λ xs. take from whole ++ xs) (take-append-drop count (drop from whole))
+        ∙ take-append-drop from whole))

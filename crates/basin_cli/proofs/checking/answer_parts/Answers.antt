@@ -1,0 +1,38 @@
+use Rattle.std.proofs.Common.{◌≡◌, ◌∙◌, subst, arith, ℕ, List, Option, length, length-take}
+use Rattle.std.specs.Prelude.{IfSome}
+use Rattle.water_edge.specs.Edge.{IsPart}
+use Rattle.basin_cli.proofs.Parts.{next_fed, refused_whole}
+use Rattle.basin_cli.proofs.checking.answer_parts.Goals as goal
+
+pub returns-in-Err-feed-clause-answer : goal.returns-in-Err-feed-clause-answer
+returns-in-Err-feed-clause-answer g c =
+    let i = c.loop-count.invariant in
+    rw (i.basin, i.series) at
+    (refused_whole (g.S.Shelf.told c.args.shelf.now c.args.name.now) c.loop-count.checker c.loop-count.from c.in-Ok.count
+    c.loop-count.part c.read_part.new.into c.in-Err-feed.refuted i.fed
+    (subst (λ (told : Option (List ℕ)). IfSome told (λ whole. IsPart whole c.loop-count.from c.loop-count.part c.read_part.new.into c.in-Ok.count))
+    (i.same.told c.args.name.now) c.in-Ok.ensures.part.1)
+    c.in-Err-feed.ensures.refused)
+
+pub loop-count-preserved : goal.loop-count-preserved
+loop-count-preserved g c =
+    let i = c.loop-count.invariant in
+    let read = c.in-Ok.ensures in
+    let fed = c.in_default.ensures in
+    record {
+      same = record {
+        told = λ name. read.same.told name ∙ i.same.told name;
+        served = λ name served. read.same.served name (i.same.served name served);
+      };
+      later = omega (arith, i.later, read.cause.later);
+      part = read.length ∙ i.part;
+      fed = next_fed (g.S.Shelf.told c.args.shelf.now c.args.name.now) c.loop-count.checker c.feed.new.self c.loop-count.from
+          c.in-Ok.count c.loop-count.part c.read_part.new.into (omega (arith, c.if-count-eq0.false)) i.fed
+          (subst (λ (told : Option (List ℕ)). IfSome told (λ whole. IsPart whole c.loop-count.from c.loop-count.part c.read_part.new.into c.in-Ok.count))
+          (i.same.told c.args.name.now) read.part.1)
+          fed.stands;
+      good = fed.good;
+      left = omega (arith, fed.left, i.left, read.part.0, read.length, length-take c.in-Ok.count c.read_part.new.into);
+      basin = fed.basin ∙ i.basin;
+      series = fed.series ∙ i.series;
+    }

@@ -1,0 +1,20 @@
+use Rattle.basin_cli.proofs.Judged.{answer_ends, answer_leaves, answer_writes}
+use Rattle.basin_cli.proofs.checking.check_file.Goals as goal
+
+pub returns-in-Ok-answer_parts-clause-ends : goal.returns-in-Ok-answer_parts-clause-ends
+returns-in-Ok-answer_parts-clause-ends g c =
+    let opened = c.in-Ok.ensures in
+    answer_ends c.args.basin.now c.args.series.now (g.S.Shelf.told c.args.shelf.now c.args.name.now)
+    c.in-Ok-answer_parts.answer c.tell_answer.result _ _
+    (rw (opened.basin, opened.series) at c.in-Ok-answer_parts.ensures.answer) c.tell_answer.ensures.ends
+
+pub returns-in-Ok-answer_parts-clause-leaves : goal.returns-in-Ok-answer_parts-clause-leaves
+returns-in-Ok-answer_parts-clause-leaves g c =
+    let opened = c.in-Ok.ensures in
+    answer_leaves c.args.basin.now c.args.series.now (g.S.Shelf.told c.args.shelf.now c.args.name.now)
+    c.in-Ok-answer_parts.answer c.tell_answer.result (g.K.Sink.taken c.args.out.now) (g.K.Sink.taken c.tell_answer.new.out)
+    (rw (opened.basin, opened.series) at c.in-Ok-answer_parts.ensures.answer) c.tell_answer.ensures.leaves
+
+pub returns-in-Ok-answer_parts-clause-out_stays : goal.returns-in-Ok-answer_parts-clause-out_stays
+returns-in-Ok-answer_parts-clause-out_stays g c = λ silent.
+    absurd (silent (answer_writes c.in-Ok-answer_parts.answer c.tell_answer.result _ c.tell_answer.ensures.ends))
