@@ -1,8 +1,10 @@
--- A result that is read in parts: what a checker was given so far.
+-- A result that is read in parts: what a checker was given so far, and what is answered at the end.
 use Rattle.std.proofs.Common.{◌≡◌, ℕ, ◌+◌, ◌<◌, ◌≤◌, ap, subst, sym, ◌∙◌, arith, List, [], ◌++◌, length, take, drop, Option, Some, None, append_assoc, take-append-drop}
-use Rattle.std.specs.Prelude.{IfSome, Err}
+use Rattle.std.specs.Prelude.{IfSome, Result, Err}
 use Rattle.std.proofs.Math.Seq.{take-add}
+use Rattle.std.proofs.lemmas.List.{take_all}
 use Rattle.cert_check.specs.Pieces.{PiecesSeen, StandsForText}
+use Rattle.cert_check.specs.Standing.{IsAnswer}
 use Rattle.cert_check.specs.Whole.{text_verdict}
 use Rattle.cert_check.specs.declared.refuted.Refuted.{Refuted}
 use Rattle.water_edge.specs.Edge.{IsPart}
@@ -47,3 +49,13 @@ refused_whole (Some whole) c from count old new e fed part refused =
         ∙ (ap (λ xs. take from whole ++ (xs ++ rest)) part.front
         ∙ (ap (λ xs. take from whole ++ xs) (take-append-drop count (drop from whole))
         ∙ take-append-drop from whole))
+
+-- No byte is left.
+pub finished_whole : (told : Option (List ℕ)) (c : PiecesSeen) (from count : ℕ) (old new : List ℕ) (answer : Result ℕ Refuted) → count ≡ 0 →
+    0 < length old → IfSome told (IsFed c from) → IfSome told (λ whole. IsPart whole from old new count) →
+    ((text : List ℕ) → StandsForText c text → IsAnswer c.basin answer (text_verdict c.basin c.series text)) →
+    IsAnswerTo c.basin c.series told answer
+finished_whole None c from count old new answer none room fed part answers = tt
+finished_whole (Some whole) c from count old new answer none room fed part answers =
+    subst (λ text. IsAnswer c.basin answer (text_verdict c.basin c.series text)) (take_all from whole (part.ended none room))
+    (answers (take from whole) fed.stands)

@@ -1,8 +1,18 @@
 use Rattle.std.proofs.Common.{◌≡◌, ◌∙◌, subst, arith, ℕ, List, Option, length, length-take}
 use Rattle.std.specs.Prelude.{IfSome}
 use Rattle.water_edge.specs.Edge.{IsPart}
-use Rattle.basin_cli.proofs.Parts.{next_fed, refused_whole}
+use Rattle.basin_cli.proofs.Parts.{finished_whole, next_fed, refused_whole}
 use Rattle.basin_cli.proofs.checking.answer_parts.Goals as goal
+
+pub returns-then-count-eq0-clause-answer : goal.returns-then-count-eq0-clause-answer
+returns-then-count-eq0-clause-answer g c =
+    let i = c.loop-count.invariant in
+    rw (i.basin, i.series) at
+    (finished_whole (g.S.Shelf.told c.args.shelf.now c.args.name.now) c.loop-count.checker c.loop-count.from c.in-Ok.count
+    c.loop-count.part c.read_part.new.into c.finish.result c.if-count-eq0.true (omega (arith, i.part)) i.fed
+    (subst (λ (told : Option (List ℕ)). IfSome told (λ whole. IsPart whole c.loop-count.from c.loop-count.part c.read_part.new.into c.in-Ok.count))
+    (i.same.told c.args.name.now) c.in-Ok.ensures.part.1)
+    c.finish.ensures)
 
 pub returns-in-Err-feed-clause-answer : goal.returns-in-Err-feed-clause-answer
 returns-in-Err-feed-clause-answer g c =
