@@ -5,7 +5,6 @@ use Rattle.lag_returns.specs.Lags.{OnTheWay}
 use Rattle.lag_returns.specs.Lags as lag
 use Rattle.water_model.specs.History.{opening_after}
 use Rattle.water_model.specs.declared.types.Basin.{Basin}
-use Rattle.water_model.specs.declared.types.Inflows.{Inflows}
 use Rattle.water_model.specs.declared.types.MonthRecord.{MonthRecord}
 use Rattle.water_model.proofs.Histories.{one_month_more}
 use Rattle.month_terms.specs.Terms.{HasUsed}

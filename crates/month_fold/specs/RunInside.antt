@@ -1,5 +1,5 @@
 -- What a run keeps.
-use Rattle.std.specs.Prelude.{◌≡◌, length, map}
+use Rattle.std.specs.Prelude.{◌≡◌, map}
 use Rattle.water_model.specs.Valid.{IsValidBasin, IsSeriesOf}
 use Rattle.month_terms.specs.Terms.{FitsRecord}
 use Rattle.month_fold.specs.Runs.{RunSeen, HasMonths}
