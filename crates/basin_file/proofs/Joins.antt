@@ -89,7 +89,6 @@ pub valid_by : (b : Basin) → IsSoundBasin b → IsSoundNetwork b.nodes b.links
     All (λ v. IsAreaTable v.area) b.reservoirs → IsValidBasin b
 valid_by b sound network roll tables = record {
   format = sound.format;
-  year_start = sound.year_start;
   run = sound.run;
   few = sound.few;
   nodes = sound.nodes;

@@ -1,15 +1,20 @@
 -- What it means that no pass found anything.
-use Rattle.std.proofs.Common.{◌≡◌, ℕ, zero, suc, ◌+◌, List, [], ◌∷◌, ◌++◌, Bool, true, false, not, ◌&&◌, ◌||◌, Option, Some, None, option_map, option_and_then, unwrap_or, is_some, slice_get, refl, inl, inr, option_to_list}
+use Rattle.std.proofs.Common.{◌≡◌, ℕ, zero, suc, ◌+◌, List, [], ◌∷◌, ◌++◌, Bool, true, false, not, ◌&&◌, ◌||◌, Option, Some, None, option_map, option_and_then, unwrap_or, is_some, slice_get, Ordering, Less, Equal, Greater, refl, sym, ap, ◌∙◌, inl, inr, option_to_list}
 use Rattle.std.proofs.lemmas.Bool.{cases_Bool}
+use Rattle.std.proofs.lemmas.Map.Text.{is_eq-slice_cmp}
+use Rattle.std.proofs.lemmas.Slice.Eq.{bytes_eq-Decides}
+use Rattle.std.specs.Cmp.Lexicographic.{slice_cmp}
 use Rattle.std.specs.List.{find, flat_map, list_any}
 use Rattle.std.specs.Option.{option_or, option_map_or}
-use Rattle.toml.specs.Data.{Data, Items, no_items, item, Members, get_member, as_array, as_table}
+use Rattle.std.specs.Ordering.{nat_cmp, is_eq, match_ordering}
+use Rattle.std.specs.Str.{bytes_eq}
+use Rattle.toml.specs.Data.{Data, Items, no_items, item, Members, no_members, member, get_member, as_array, as_table}
 use Rattle.toml_tree.specs.Items.{items_all}
 use Rattle.basin_tree.specs.declared.tables.BasinTable.{BasinTable}
 use Rattle.basin_tree.specs.declared.tables.BasinTable.TheVariants.{Top, Node, Link, Reservoir, Diversion, Instream, Zone, Return}
 use Rattle.basin_tree.specs.declared.tables.Kind.TheVariants.{Tables}
 use Rattle.basin_tree.specs.Entries.{Entry, entry_at, entries_behind, entries_in, entries_of, items_at, found_at}
-use Rattle.basin_tree.specs.KeyFaults.{missing_key, wrong_kind, out_of_range, lacks_key, has_no_nodes, any_value}
+use Rattle.basin_tree.specs.KeyFaults.{format_of, is_known, has_unknown, unknown_key, missing_key, wrong_kind, out_of_range, lacks_key, has_no_nodes, any_value}
 use Rattle.basin_tree.specs.Kinds.{has_kind}
 use Rattle.basin_tree.specs.NameFaults.{is_bad_name, bad_name, too_many, same_name, names_none, no_such_name, stands_at_outlet, outlet_reservoir}
 use Rattle.basin_tree.specs.Order.{Pass, found_by, first_fault, passes, tree_fault}
@@ -52,6 +57,7 @@ each_pass (pass ∷ list) tree e =
 
 -- no test finds an entry
 pub record HasNoFault (tree : Members) : Type 0 where
+  pub keys : find (unknown_key tree) (entries_of tree) ≡ None
   pub missing : find (missing_key tree) (entries_of tree) ≡ None
   pub kinds : find (wrong_kind tree) (entries_of tree) ≡ None
   pub ranges : find (out_of_range tree) (entries_of tree) ≡ None
@@ -66,6 +72,7 @@ unfolding tree_fault
 no_fault tree e =
     let each = each_pass passes tree e in
     record {
+      keys = each.0;
       missing = each.1.0;
       kinds = each.1.1.0;
       ranges = each.1.1.1.0;
@@ -133,7 +140,7 @@ tables_in (Some d) k = by (as_array d) (bool_not _ k)
     by (Some items) e = e
 
 tables_at : (tree : Members) → HasNoFault tree → (table : BasinTable) (i : ℕ) (required : Bool) →
-    slice_get (keys_of Top) i ≡ Some (record { name = table_name table; is_required = required; kind = Tables }) →
+    slice_get (keys_of Top) i ≡ Some (record { name = table_name table; is_required = required; kind = Tables; since = 1 }) →
     items_all (λ x. is_some (as_table x)) (items_at tree table) ≡ true
 tables_at tree none table i required there =
     tables_in (get_member (table_name table) tree)
@@ -177,6 +184,7 @@ each_passes tree none f e table is_listed =
 
 -- an entry that has none of the faults of keys and names
 pub record IsFine (tree : Members) (table : BasinTable) (k : ℕ) (row : Members) : Type 0 where
+  pub keys : has_unknown (format_of tree) table row ≡ false
   pub present : lacks_key table row ≡ false
   pub kinds : any_value (λ kind d. not (has_kind kind d)) table row ≡ false
   pub names : any_value is_bad_name table row ≡ false
@@ -190,7 +198,8 @@ pub fine_rows : (tree : Members) → HasNoFault tree → (table : BasinTable) �
 fine_rows tree none table is_listed =
     from_then _ (IsFine tree table) 0 (rows_in tree table)
     (λ k row p. record {
-      present = (bool_or (lacks_key table row) (has_no_nodes table row) p.0.0.0).0;
+      keys = p.0.0.0.0;
+      present = (bool_or (lacks_key table row) (has_no_nodes table row) p.0.0.0.1).0;
       kinds = p.0.0.1;
       names = p.0.1.0;
       few = p.0.1.1;
@@ -200,7 +209,8 @@ fine_rows tree none table is_listed =
     })
     (from_with _ _ 0 (rows_in tree table)
     (from_with _ _ 0 (rows_in tree table)
-    (from_with _ _ 0 (rows_in tree table) (each (missing_key tree) none.missing) (each (wrong_kind tree) none.kinds))
+    (from_with _ _ 0 (rows_in tree table)
+    (from_with _ _ 0 (rows_in tree table) (each (unknown_key tree) none.keys) (each (missing_key tree) none.missing)) (each (wrong_kind tree) none.kinds))
     (from_with _ _ 0 (rows_in tree table) (each (bad_name tree) none.names) (each (too_many tree) none.many)))
     (from_with _ _ 0 (rows_in tree table) (each (same_name tree) none.same)
     (from_with _ _ 0 (rows_in tree table) (each (no_such_name tree) none.unknown) (each (outlet_reservoir tree) none.outlets))))
@@ -208,3 +218,21 @@ fine_rows tree none table is_listed =
     each : (f : Entry → Bool) → find f (entries_of tree) ≡ None →
         EachFrom (λ k row. f (record { table = table; number = k + 1; row = row }) ≡ false) 0 (rows_in tree table)
     each f e = each_passes tree none f e table is_listed
+
+-- a key that a table doesn't have in the format isn't there
+pub absent : (format : ℕ) (table : BasinTable) (key : List ℕ) (row : Members) → has_unknown format table row ≡ false →
+    is_known format (keys_of table) key ≡ false → get_member key row ≡ None
+absent format table key no_members e other = refl
+absent format table key (member name d ms) e other =
+    let both = bool_or (not (is_known format (keys_of table) name)) (has_unknown format table ms) e in
+    by (slice_cmp nat_cmp key name) refl (bool_not (is_known format (keys_of table) name) both.0) (absent format table key ms both.1 other)
+  where
+    by : (o : Ordering) → slice_cmp nat_cmp key name ≡ o → is_known format (keys_of table) name ≡ true → get_member key ms ≡ None →
+        match_ordering o (get_member key ms) (Some d) (get_member key ms) ≡ None
+    by Less e known rest = rest
+    by Greater e known rest = rest
+    by Equal e known rest =
+        let same : bytes_eq key name ≡ true = sym (is_eq-slice_cmp key name) ∙ ap is_eq e in
+        let is : key ≡ name = (bytes_eq-Decides key name).0 same in
+        let known_key : is_known format (keys_of table) key ≡ true = rw is known in
+        let never : true ≡ false = sym known_key ∙ other in cc

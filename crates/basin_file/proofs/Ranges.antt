@@ -12,9 +12,10 @@ use Rattle.toml_tree.specs.Values.{is_between, ranged, whole_of, month_number, m
 use Rattle.water_text.specs.Shapes.{has_shape}
 use Rattle.water_text.specs.Months.{IsMonth, is_month, read_month, month_after, month_within}
 use Rattle.water_text.specs.declared.month.Month.{Month}
-use Rattle.water_model.specs.Valid.{IsMonthly, IsValidInflow, IsValidCarry, IsValidPoint}
+use Rattle.water_model.specs.Valid.{IsMonthly, IsValidInflow, IsValidCarry, IsValidPoint, IsValidVolume, is_diversion_kind}
 use Rattle.water_model.specs.declared.types.Inflow.TheVariants.{Monthly, Gauged}
-use Rattle.basin_file.specs.Spelled.{inflow_of, carry_of, point_in, points_in, no_area, area_of, first_of}
+use Rattle.water_model.specs.declared.types.RightKind.{RightKind}
+use Rattle.basin_file.specs.Spelled.{inflow_of, carry_of, volume_of, point_in, points_in, no_area, area_of, first_of}
 use Rattle.basin_file.proofs.Lists.{Each, each_all, each_any, each_map}
 
 between : (least most n : ℕ) → (nat_le least n && nat_le n most) ≡ true → (least ≤ n) × (n ≤ most)
@@ -93,6 +94,10 @@ inflow_valid value = by (option_and_then as_str value)
     by : (o : Option (List ℕ)) → IsValidInflow (option_map_or (λ text. Gauged) o (Monthly (monthly_of (10 ^ 9) value)))
     by None = monthly_in (10 ^ 9) value
     by (Some text) = tt
+
+pub volume_valid : (kind : RightKind) → is_diversion_kind kind ≡ true → (value : Option Data) → IsValidVolume kind (volume_of value)
+volume_valid kind is None = tt
+volume_valid kind is (Some d) = (is, (whole_in 0 (16 * 10 ^ 9) 0 (Some d) (omega arith) (omega arith)).1)
 
 pub carry_valid : (value : Option Data) → IsValidCarry (carry_of value)
 carry_valid None = tt

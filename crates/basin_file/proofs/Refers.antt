@@ -44,7 +44,7 @@ text_in d e = by (as_str d) refl e
 
 -- a text of a fine row that should be a name is one
 pub name_there : (tree : Members) (table : BasinTable) (k : ℕ) (row : Members) (i : ℕ) (key : List ℕ) →
-    slice_get (keys_of table) i ≡ Some (record { name = key; is_required = true; kind = Name }) → IsFine tree table k row →
+    slice_get (keys_of table) i ≡ Some (record { name = key; is_required = true; kind = Name; since = 1 }) → IsFine tree table k row →
     (q : List ℕ) × (text_at key row ≡ Some q) × (is_name q ≡ true)
 name_there tree table k row i key at fine =
     let d = there_at tree table k row i _ at refl fine in
@@ -55,7 +55,7 @@ name_there tree table k row i key at fine =
 
 -- a text of a fine row that should name an entry does
 pub refers_there : (tree : Members) (table : BasinTable) (k : ℕ) (row : Members) (i : ℕ) (key : List ℕ) (space : Space) →
-    slice_get (keys_of table) i ≡ Some (record { name = key; is_required = true; kind = Refers space }) → IsFine tree table k row →
+    slice_get (keys_of table) i ≡ Some (record { name = key; is_required = true; kind = Refers space; since = 1 }) → IsFine tree table k row →
     (q : List ℕ) × (at : ℕ) × (text_at key row ≡ Some q) × (named_at tree space q ≡ Some at)
 refers_there tree table k row i key space at fine =
     let d = there_at tree table k row i _ at refl fine in

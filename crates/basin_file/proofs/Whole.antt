@@ -1,5 +1,5 @@
 -- What a document without faults spells is sound.
-use Rattle.std.proofs.Common.{◌≡◌, ◌≢◌, ℕ, zero, suc, ◌+◌, ◌*◌, ◌-◌, ◌^◌, ◌<◌, ◌≤◌, ◌==◌, List, [], ◌∷◌, ◌++◌, length, map, take, Bool, true, false, ◌&&◌, Option, Some, None, option_map, option_and_then, unwrap_or, is_some, slice_get, count_by, refl, sym, ◌∙◌, arith, nat_lt, nat_le, codes, length-append, zero-add, append_assoc, subst, not, IsTrue}
+use Rattle.std.proofs.Common.{◌≡◌, ◌≢◌, ℕ, zero, suc, ◌+◌, ◌*◌, ◌-◌, ◌^◌, ◌<◌, ◌≤◌, ◌==◌, List, [], ◌∷◌, ◌++◌, length, map, take, Bool, true, false, ◌&&◌, Option, Some, None, option_map, option_and_then, unwrap_or, is_some, slice_get, count_by, refl, sym, ap, ◌∙◌, arith, nat_lt, nat_le, codes, length-append, zero-add, append_assoc, subst, not, IsTrue}
 use Rattle.std.proofs.lemmas.Bool.Decides.{nat_tests}
 use Rattle.std.proofs.lemmas.List.{length-map, append-nil, map-append}
 use Rattle.std.proofs.lemmas.Option.{slice_get-map, slice_get_within}
@@ -9,11 +9,11 @@ use Rattle.toml.specs.Data.{Data, Items, no_items, Members, get, get_item, get_m
 use Rattle.toml.specs.Data as toml
 use Rattle.toml_tree.specs.Items.{items_all, items_len}
 use Rattle.toml_tree.specs.Texts.{texts_behind, is_the_text, earlier_like}
-use Rattle.toml_tree.specs.Values.{text_at, text_or_empty, whole_at}
+use Rattle.toml_tree.specs.Values.{text_at, text_or_empty, whole_at, whole_of}
 use Rattle.water_text.specs.Names.{is_name}
 use Rattle.water_model.specs.Basin.{is_outlet, node_name, link_name, right_name, node_of_reservoir}
 use Rattle.water_model.specs.Lookups.{of_entry}
-use Rattle.water_model.specs.Valid.{IsValidNode, IsValidLink, IsValidRight, IsValidReturn, IsValidRun, HasFewEntries, HasOwnNames, AreRanked, is_diversion_kind, rank_of_kind, rows_of}
+use Rattle.water_model.specs.Valid.{HasValidFormat, IsValidNode, IsValidLink, IsValidRight, IsValidReturn, IsValidRun, HasFewEntries, HasOwnNames, AreRanked, is_diversion_kind, rank_of_kind, rows_of}
 use Rattle.water_model.specs.declared.types.ReturnRow.{ReturnRow}
 use Rattle.water_model.specs.declared.types.Right.{Right}
 use Rattle.water_model.specs.declared.types.RightKind.TheVariants as kind
@@ -24,19 +24,19 @@ use Rattle.basin_tree.specs.declared.tables.Kind.TheVariants.{Name, Refers, Tabl
 use Rattle.basin_tree.specs.declared.tables.Space.{Space}
 use Rattle.basin_tree.specs.declared.tables.Space.TheVariants.{Nodes, Links, Reservoirs, Diversions, Rights}
 use Rattle.basin_tree.specs.Entries.{items_at}
-use Rattle.basin_tree.specs.KeyFaults.{missing_key, wrong_kind, out_of_range, lacks_key, has_no_nodes, any_value}
+use Rattle.basin_tree.specs.KeyFaults.{format_of, unknown_key, missing_key, wrong_kind, out_of_range, lacks_key, has_no_nodes, any_value}
 use Rattle.basin_tree.specs.Kinds.{has_kind}
 use Rattle.basin_tree.specs.NameFaults.{is_outlet_at, rights_before}
 use Rattle.basin_tree.specs.Places.{own_key, texts_in, texts_of, named_at}
 use Rattle.basin_tree.specs.Ranges.{in_range, ends_late}
 use Rattle.basin_tree.specs.Tables.{KeyRow, keys_of}
 use Rattle.basin_file.specs.Sound.{IsSoundReservoir, IsSoundBasin}
-use Rattle.basin_file.specs.Spelled.{name_at, rows_in, number_at, node_of, link_of, reservoir_of, right_of, diversion_of, instream_of, zone_of, return_of, rights_of, basin_of}
+use Rattle.basin_file.specs.Spelled.{name_at, rows_in, number_at, node_of, link_of, reservoir_of, volume_of, diversion_of, instream_of, zone_of, return_of, rights_of, basin_of}
 use Rattle.basin_file.proofs.Lists.{Each, EachFrom, each_all, each_append, each_from, each_map, from_at, from_then}
-use Rattle.basin_file.proofs.Passed.{IsListed, HasNoFault, IsFine, all_tables, any_none, bool_not, bool_or, fine_rows, top_passes}
+use Rattle.basin_file.proofs.Passed.{IsListed, HasNoFault, IsFine, absent, all_tables, any_none, bool_not, bool_or, fine_rows, top_passes}
 use Rattle.basin_file.proofs.Refers.{name_there, refers_there, texts_behind-rows, texts_in-rows, length-rows_in, get_item-rows, number_within, number_is}
 use Rattle.basin_file.proofs.OwnNames.{own_texts, own_name, own_names, names_of_rows, same_text, table_own, rights_own}
-use Rattle.basin_file.proofs.Ranges.{whole_in, monthly_in, points_valid, few_points, inflow_valid, carry_valid, first_valid, run_ends}
+use Rattle.basin_file.proofs.Ranges.{whole_in, volume_valid, monthly_in, points_valid, few_points, inflow_valid, carry_valid, first_valid, run_ends}
 use Rattle.basin_file.proofs.Counts.{count_where-entries, few_pass, counts_within, few_by}
 
 -- at least one node is listed
@@ -54,11 +54,11 @@ some_items (Some d) p k n = by (as_array d) (bool_not _ k) n
     by (Some items) e n = positive (items_len items) n
 
 -- the right at a place among the diversions is one
-front_diversion : (f : Members → ℕ) (rows : List Members) (more others : List Right) (k : ℕ) → k < length rows →
-    of_entry (map (λ members. right_of (kind.Diversion (f members)) members) rows ++ more ++ others) k (λ r. is_diversion_kind r.kind) false ≡ true
-front_diversion f [] more others k h = absurd (omega arith)
-front_diversion f (members ∷ rows) more others zero h = refl
-front_diversion f (members ∷ rows) more others (suc k) h = front_diversion f rows more others k (omega arith)
+front_diversion : (tree : Members) (rows : List Members) (more others : List Right) (k : ℕ) → k < length rows →
+    of_entry (map (diversion_of tree) rows ++ more ++ others) k (λ r. is_diversion_kind r.kind) false ≡ true
+front_diversion tree [] more others k h = absurd (omega arith)
+front_diversion tree (members ∷ rows) more others zero h = refl
+front_diversion tree (members ∷ rows) more others (suc k) h = front_diversion tree rows more others k (omega arith)
 
 ranked_more : (g : Members → Right) (n : ℕ) → ((members : Members) → rank_of_kind (g members).kind ≡ n) → (rows : List Members) (least : ℕ) (others : List Right) → least ≤ n →
     ((m : ℕ) → m ≤ n → AreRanked m others) → AreRanked least (map g rows ++ others)
@@ -126,7 +126,7 @@ module _ (tree : Members) (none : HasNoFault tree) where
   some_node : 1 ≤ length (rows_in tree Node)
   some_node =
       let missing = bool_or (lacks_key Top tree) (has_no_nodes Top tree) (top_passes (missing_key tree) tree none.missing) in
-      let node : KeyRow = record { name = codes "node"; is_required = true; kind = Tables } in
+      let node : KeyRow = record { name = codes "node"; is_required = true; kind = Tables; since = 1 } in
       rw (length-rows_in tree none Node tt)
       (some_items (get_member (codes "node") tree)
       (any_none (λ key. key.is_required && not (is_some (get_member key.name tree))) (keys_of Top) 3 node refl missing.0)
@@ -135,7 +135,7 @@ module _ (tree : Members) (none : HasNoFault tree) where
 
   -- a text that should name an entry has a number below so many
   number : (table : BasinTable) (k : ℕ) (members : Members) (i : ℕ) (key : List ℕ) (space : Space) (n : ℕ) →
-      slice_get (keys_of table) i ≡ Some (record { name = key; is_required = true; kind = Refers space }) → IsFine tree table k members →
+      slice_get (keys_of table) i ≡ Some (record { name = key; is_required = true; kind = Refers space; since = 1 }) → IsFine tree table k members →
       length (texts_of tree space) ≡ n → number_at tree space key members < n
   number table k members i key space n at fine len =
       let there = refers_there tree table k members i key space at fine in
@@ -151,7 +151,7 @@ module _ (tree : Members) (none : HasNoFault tree) where
   reservoir_texts : length (texts_of tree Reservoirs) ≡ length (basin_of tree).reservoirs
   reservoir_texts = length_texts Reservoir tt ∙ sym (length-map (rows_in tree Reservoir) (reservoir_of tree))
 
-  name_of_row : (table : BasinTable) (k : ℕ) (members : Members) → slice_get (keys_of table) 0 ≡ Some (record { name = codes "name"; is_required = true; kind = Name }) →
+  name_of_row : (table : BasinTable) (k : ℕ) (members : Members) → slice_get (keys_of table) 0 ≡ Some (record { name = codes "name"; is_required = true; kind = Name; since = 1 }) →
       IsFine tree table k members → (text_at (codes "name") members ≡ Some (name_at (codes "name") members)) × IsTrue (is_name (name_at (codes "name") members))
   name_of_row table k members at fine =
       let there = name_there tree table k members 0 (codes "name") at fine in
@@ -213,7 +213,7 @@ module _ (tree : Members) (none : HasNoFault tree) where
     order = order_most members;
     place = number Diversion k members 1 (codes "node") Nodes _ refl fine node_texts;
     want = monthly_in (10 ^ 9) (get_member (codes "want") members);
-    no_volume = refl;
+    volume = volume_valid (kind.Diversion (number_at tree Nodes (codes "node") members)) refl (get_member (codes "volume") members);
     no_series = refl;
   }
 
@@ -223,7 +223,7 @@ module _ (tree : Members) (none : HasNoFault tree) where
     order = order_most members;
     place = number Instream k members 1 (codes "link") Links _ refl fine link_texts;
     want = monthly_in (10 ^ 9) (get_member (codes "want") members);
-    no_volume = refl;
+    volume = tt;
     no_series = refl;
   }
 
@@ -235,7 +235,7 @@ module _ (tree : Members) (none : HasNoFault tree) where
         (let level = whole_in 1 16 1 (get_member (codes "level") members) (omega arith) (omega arith) in
         (number Zone k members 1 (codes "reservoir") Reservoirs _ refl fine reservoir_texts, level.0, level.1));
     want = monthly_in (10 ^ 9) (get_member (codes "want") members);
-    no_volume = refl;
+    volume = tt;
     no_series = refl;
   }
 
@@ -248,7 +248,7 @@ module _ (tree : Members) (none : HasNoFault tree) where
         (let own = own_diversion k members fine in
         let same = length-map (rows_in tree Diversion) (diversion_of tree) in
         rw (length-append, length-append) (omega arith));
-    diversion = front_diversion (λ d. number_at tree Nodes (codes "node") d) (rows_in tree Diversion) _ _ _ (own_diversion k members fine);
+    diversion = front_diversion tree (rows_in tree Diversion) _ _ _ (own_diversion k members fine);
     node = number Return k members 1 (codes "node") Nodes _ refl fine node_texts;
     part = whole_in 1 10000 1 (get_member (codes "part") members) (omega arith) (omega arith);
     lag = whole_in 1 120 1 (get_member (codes "lag") members) (omega arith) (omega arith);
@@ -431,10 +431,32 @@ module _ (tree : Members) (none : HasNoFault tree) where
       (λ m2 low2. rw (← append-nil (map (zone_of tree) (rows_in tree Zone)))
       (ranked_more (zone_of tree) 2 (λ members. refl) (rows_in tree Zone) m2 [] (omega arith) (λ m3 low3. tt)))))
 
+  -- in format 1 no water year begins with another month than October
+  october : format_of tree ≡ 1 → whole_at (codes "year_start") 1 12 10 tree ≡ 10
+  october first =
+      ap (whole_of 1 12 10)
+      (absent 1 Top (codes "year_start") tree (rw first at (top_passes (unknown_key tree) tree none.keys)) refl)
+
+  -- and no right has a volume
+  no_volumes : format_of tree ≡ 1 → Each (λ r. r.volume ≡ None) (rights_of tree)
+  no_volumes first =
+      each_append (λ r. r.volume ≡ None) _ _
+      (each_append (λ r. r.volume ≡ None) _ _
+      (each_valid (λ r. r.volume ≡ None) Diversion tt (diversion_of tree)
+      (λ k members fine. ap volume_of (absent 1 Diversion (codes "volume") members (rw first at fine.keys) refl)))
+      (each_valid (λ r. r.volume ≡ None) Instream tt (instream_of tree) (λ k members fine. refl)))
+      (each_valid (λ r. r.volume ≡ None) Zone tt (zone_of tree) (λ k members fine. refl))
+
+  format_valid : HasValidFormat (basin_of tree)
+  format_valid = record {
+    format = whole_in 1 2 1 (get_member (codes "format") tree) (omega arith) (omega arith);
+    year_start = whole_in 1 12 10 (get_member (codes "year_start") tree) (omega arith) (omega arith);
+    first = λ first. record { year_start = october first; volumes = each_all (λ r. r.volume ≡ None) _ (no_volumes first) };
+  }
+
   pub sound_basin : IsSoundBasin (basin_of tree)
   sound_basin = record {
-    format = refl;
-    year_start = refl;
+    format = format_valid;
     run = run_valid;
     few = few_entries;
     nodes = each_all _ _ (each_valid IsValidNode Node tt node_of node_valid);

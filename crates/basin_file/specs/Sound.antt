@@ -1,7 +1,7 @@
 -- What a basin keeps by its document alone, before its network, its rights and its area tables are looked at.
 use Rattle.std.specs.Prelude.{◌≡◌, ◌<◌, ◌≤◌, length, All, false}
 use Rattle.water_model.specs.Basin.{is_outlet}
-use Rattle.water_model.specs.Valid.{IsMonthly, IsValidPoint, IsValidRun, HasFewEntries, IsValidNode, IsValidLink, IsValidRight, AreRanked, IsValidReturn, HasOwnNames}
+use Rattle.water_model.specs.Valid.{IsMonthly, IsValidPoint, HasValidFormat, IsValidRun, HasFewEntries, IsValidNode, IsValidLink, IsValidRight, AreRanked, IsValidReturn, HasOwnNames}
 use Rattle.water_model.specs.declared.types.Basin.{Basin}
 use Rattle.water_model.specs.declared.types.Reservoir.{Reservoir}
 
@@ -16,8 +16,7 @@ pub record IsSoundReservoir (b : Basin) (v : Reservoir) : Type 0 where
 
 -- a valid basin but for its network, its roll of rights and its area tables
 pub record IsSoundBasin (b : Basin) : Type 0 where
-  pub format : b.format ≡ 1
-  pub year_start : b.year_start ≡ 10
+  pub format : HasValidFormat b
   pub run : IsValidRun b
   pub few : HasFewEntries b
   pub nodes : All IsValidNode b.nodes

@@ -1,5 +1,5 @@
 -- The basin that a document spells. What can't be there in a document without a fault has a default.
-use Rattle.std.specs.Prelude.{ℕ, ◌^◌, ◌*◌, nat_lt, List, [], ◌∷◌, ◌++◌, map, replicate, Bool, false, Option, Some, None, if◌then◌else◌, option_and_then, option_to_list, unwrap_or, codes}
+use Rattle.std.specs.Prelude.{ℕ, ◌^◌, ◌*◌, nat_lt, List, [], ◌∷◌, ◌++◌, map, replicate, Bool, false, Option, Some, None, if◌then◌else◌, option_map, option_and_then, option_to_list, unwrap_or, codes}
 use Rattle.std.specs.Option.{option_map_or}
 use Rattle.toml.specs.Data.{Data, Items, no_items, item, get_item, Members, get_member, as_bool, as_str, as_array, as_table}
 use Rattle.toml_tree.specs.Values.{whole_of, whole_at, monthly_of, text_or_empty}
@@ -22,6 +22,7 @@ use Rattle.water_model.specs.declared.types.Right.{Right}
 use Rattle.water_model.specs.declared.types.RightKind.{RightKind}
 use Rattle.water_model.specs.declared.types.RightKind.TheVariants as kind
 use Rattle.basin_tree.specs.Entries.{items_at}
+use Rattle.basin_tree.specs.KeyFaults.{format_of}
 use Rattle.basin_tree.specs.Places.{named_at}
 use Rattle.basin_tree.specs.declared.tables.BasinTable.{BasinTable}
 use Rattle.basin_tree.specs.declared.tables.BasinTable.TheVariants.{Node, Link, Reservoir, Diversion, Instream, Zone, Return}
@@ -109,27 +110,32 @@ reservoir_of tree row = record {
   rate = monthly_of 10000 (get_member (codes "rate") row);
 }
 
--- a right of format 1 has no volume, and its wants aren't in the series
-abbrev pub right_of : RightKind → Members → Right
-right_of kind row = record {
+-- a diversion that gives no volume has none
+abbrev pub volume_of : Option Data → Option ℕ
+volume_of value = option_map (λ d. whole_of 0 (16 * 10 ^ 9) 0 (Some d)) value
+
+-- a right whose wants aren't in the series
+abbrev pub right_of : RightKind → Option ℕ → Members → Right
+right_of kind volume row = record {
   name = name_at (codes "name") row;
   date = date_of (text_or_empty (codes "date") row);
   order = whole_at (codes "order") 0 1000000 0 row;
   kind = kind;
   want = monthly_of (10 ^ 9) (get_member (codes "want") row);
-  volume = None;
+  volume = volume;
   series = false;
 }
 
 abbrev pub diversion_of : Members → Members → Right
-diversion_of tree row = right_of (kind.Diversion (number_at tree Nodes (codes "node") row)) row
+diversion_of tree row =
+    right_of (kind.Diversion (number_at tree Nodes (codes "node") row)) (volume_of (get_member (codes "volume") row)) row
 
 abbrev pub instream_of : Members → Members → Right
-instream_of tree row = right_of (kind.Instream (number_at tree Links (codes "link") row)) row
+instream_of tree row = right_of (kind.Instream (number_at tree Links (codes "link") row)) None row
 
 abbrev pub zone_of : Members → Members → Right
 zone_of tree row =
-    right_of (kind.Zone (number_at tree Reservoirs (codes "reservoir") row) (whole_at (codes "level") 1 16 1 row)) row
+    right_of (kind.Zone (number_at tree Reservoirs (codes "reservoir") row) (whole_at (codes "level") 1 16 1 row)) None row
 
 -- diversions are the first rights, so the place of a diversion is that of its right
 abbrev pub return_of : Members → Members → ReturnRow
@@ -145,13 +151,13 @@ rights_of tree =
     map (diversion_of tree) (rows_in tree Diversion) ++ map (instream_of tree) (rows_in tree Instream)
     ++ map (zone_of tree) (rows_in tree Zone)
 
--- the basin. In format 1 a water year begins with October
+-- the basin. Where nothing is said of it, a water year begins with October
 abbrev pub basin_of : Members → Basin
 basin_of tree = record {
-  format = 1;
+  format = format_of tree;
   first = first_of (text_or_empty (codes "first_month") tree);
   months = whole_at (codes "months") 1 1200 1 tree;
-  year_start = 10;
+  year_start = whole_at (codes "year_start") 1 12 10 tree;
   nodes = map node_of (rows_in tree Node);
   links = map (link_of tree) (rows_in tree Link);
   reservoirs = map (reservoir_of tree) (rows_in tree Reservoir);

@@ -217,10 +217,10 @@ pub fn basin_of(alloc: Global, document: &Document) -> Result<Basin, AllocError>
     let returns = table_of::<ReturnRow, ReturnReader>(alloc, document, BasinTable::Return)?;
     let top = document.tree;
     Ok(Basin {
-        format: 1,
+        format: document.format() as u32,
         first: first_of(text_or_empty(top, "first_month").as_bytes()),
         months: whole_at(top, "months", 1, 1_200, 1) as u32,
-        year_start: 10,
+        year_start: whole_at(top, "year_start", 1, 12, 10) as u8,
         nodes,
         links,
         reservoirs,

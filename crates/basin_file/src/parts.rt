@@ -3,7 +3,7 @@ ghost use Rattle.std.specs.Prelude.{◌≡◌, ◌<◌, ◌^◌, codes};
 ghost use Rattle.toml.specs.Data.{get_member};
 ghost use Rattle.toml.specs.View.{table_view, items_view};
 ghost use Rattle.basin_tree.specs.Documents.{tree_of};
-ghost use Rattle.basin_file.specs.Spelled.{name_of, name_at, truth_at, inflow_of, carry_of, number_at, point_in, date_of, first_of, node_of, link_of, right_of, diversion_of, instream_of, zone_of, return_of};
+ghost use Rattle.basin_file.specs.Spelled.{name_of, name_at, truth_at, inflow_of, carry_of, number_at, point_in, date_of, first_of, node_of, link_of, volume_of, right_of, diversion_of, instream_of, zone_of, return_of};
 
 use basin_tree::document::Document;
 use basin_tree::tables::Space;
@@ -131,8 +131,17 @@ pub fn link_of(document: &Document, row: &Table) -> Link
     }
 }
 
-fn right_of(kind: RightKind, row: &Table) -> Right
-    ensures { result ≡ right_of kind (table_view row.now) }
+fn volume_at(row: &Table) -> Option<u64>
+    ensures { result ≡ volume_of (get_member (codes "volume") (table_view row.now)) }
+{
+    match member(row, "volume") {
+        Some(value) => Some(whole_of(Some(value), 0, 16_000_000_000, 0)),
+        None => None,
+    }
+}
+
+fn right_of(kind: RightKind, volume: Option<u64>, row: &Table) -> Right
+    ensures { result ≡ right_of kind volume (table_view row.now) }
 {
     Right {
         name: name_at(row, "name"),
@@ -140,7 +149,7 @@ fn right_of(kind: RightKind, row: &Table) -> Right
         order: whole_at(row, "order", 0, 1_000_000, 0) as u32,
         kind,
         want: monthly_at(row, "want", 1_000_000_000),
-        volume: None,
+        volume,
         series: false,
     }
 }
@@ -150,7 +159,7 @@ pub fn diversion_of(document: &Document, row: &Table) -> Right
     ensures { result ≡ diversion_of (tree_of document.now) (table_view row.now) }
 {
     let node = number_at(document, Space::Nodes, row, "node");
-    right_of(RightKind::Diversion { node }, row)
+    right_of(RightKind::Diversion { node }, volume_at(row), row)
 }
 
 /// The right of an instream right's entry.
@@ -158,7 +167,7 @@ pub fn instream_of(document: &Document, row: &Table) -> Right
     ensures { result ≡ instream_of (tree_of document.now) (table_view row.now) }
 {
     let link = number_at(document, Space::Links, row, "link");
-    right_of(RightKind::Instream { link }, row)
+    right_of(RightKind::Instream { link }, None, row)
 }
 
 /// The right of a zone's entry.
@@ -167,7 +176,7 @@ pub fn zone_of(document: &Document, row: &Table) -> Right
 {
     let reservoir = number_at(document, Space::Reservoirs, row, "reservoir");
     let level = whole_at(row, "level", 1, 16, 1) as u8;
-    right_of(RightKind::Zone { reservoir, level }, row)
+    right_of(RightKind::Zone { reservoir, level }, None, row)
 }
 
 /// The row of a return's entry.

@@ -387,7 +387,7 @@ rights_valid b size s some few made =
       order = omega arith;
       place = omega arith;
       want = same_for_months (10 ^ 9) (drawn (next (next (s.diversions d))) 300) (omega arith);
-      no_volume = refl;
+      volume = tt;
       no_series = refl;
     })
     (joined_each (λ r. IsValidRight b r) (instream_count size) (zone_count size) (instream_made size s) (zone_made s)
@@ -397,7 +397,7 @@ rights_valid b size s some few made =
       order = omega arith;
       place = omega arith;
       want = same_for_months (10 ^ 9) (drawn (next (next (s.instreams j))) 300) (omega arith);
-      no_volume = refl;
+      volume = tt;
       no_series = refl;
     })
     (λ z l. zone_by (λ r. IsValidRight b r) z (s.zones z)
@@ -406,7 +406,7 @@ rights_valid b size s some few made =
       order = omega arith;
       place = (omega arith, omega arith, omega arith);
       want = same_for_months (10 ^ 9) (100 + drawn (s.zones z) 200) (omega arith);
-      no_volume = refl;
+      volume = tt;
       no_series = refl;
     })
     (λ odd. let want = drawn_below (s.zones z) 400 (omega arith) in record {
@@ -414,7 +414,7 @@ rights_valid b size s some few made =
       order = omega arith;
       place = (omega arith, omega arith, omega arith);
       want = same_for_months (10 ^ 9) (drawn (s.zones z) 400) (omega arith);
-      no_volume = refl;
+      volume = tt;
       no_series = refl;
     }))))
 
@@ -444,3 +444,13 @@ right_has_wants size s =
     joined_each HasWants (diversion_count size) (instream_count size + zone_count size) (diversion_made size s) (other_made size s) (λ d l. refl)
     (joined_each HasWants (instream_count size) (zone_count size) (instream_made size s) (zone_made s) (λ j l. refl)
     (λ z l. zone_by HasWants z (s.zones z) (λ h. refl) (λ h. refl)))
+
+-- no right has a volume
+pub no_volumes : (b : Basin) (size : ℕ) (s : States) → IsMade b size s → All (λ r. r.volume ≡ None) b.rights
+no_volumes b size s made =
+    all_of (λ r. r.volume ≡ None) b.rights (diversion_count size + (instream_count size + zone_count size)) (right_made size s) made.rights
+    (joined_each (λ r. r.volume ≡ None) (diversion_count size) (instream_count size + zone_count size) (diversion_made size s) (other_made size s)
+    (λ d l. refl)
+    (joined_each (λ r. r.volume ≡ None) (instream_count size) (zone_count size) (instream_made size s) (zone_made s)
+    (λ j l. refl)
+    (λ z l. zone_by (λ r. r.volume ≡ None) z (s.zones z) (λ even. refl) (λ odd. refl))))

@@ -1,5 +1,5 @@
 -- Faults of keys and values: whether an entry has them. Each is one test of an entry, given the whole document.
-use Rattle.std.specs.Prelude.{ℕ, ◌==◌, List, [], ◌∷◌, Bool, false, not, ◌&&◌, ◌||◌, is_some, codes, option_and_then}
+use Rattle.std.specs.Prelude.{ℕ, nat_le, ◌==◌, List, [], ◌∷◌, Bool, false, not, ◌&&◌, ◌||◌, is_some, codes, option_and_then}
 use Rattle.std.specs.List.{list_any}
 use Rattle.std.specs.Option.{option_map_or}
 use Rattle.std.specs.Str.{bytes_eq}
@@ -10,6 +10,7 @@ use Rattle.basin_tree.specs.declared.tables.Kind.{Kind}
 use Rattle.basin_tree.specs.Tables.{KeyRow, keys_of}
 use Rattle.basin_tree.specs.Kinds.{has_kind}
 use Rattle.toml_tree.specs.Items.{items_len}
+use Rattle.toml_tree.specs.Values.{whole_at}
 use Rattle.basin_tree.specs.Ranges.{in_range, ends_late}
 use Rattle.basin_tree.specs.Entries.{Entry}
 
@@ -17,12 +18,20 @@ abbrev pub names_in : Members → List (List ℕ)
 names_in no_members = []
 names_in (member name d ms) = name ∷ names_in ms
 
-abbrev pub is_known : List KeyRow → List ℕ → Bool
-is_known keys name = list_any (λ key. bytes_eq name key.name) keys
+-- the format of a document: 2 where `format` is this number, and else 1
+abbrev pub format_of : Members → ℕ
+format_of tree = whole_at (codes "format") 1 2 1 tree
 
--- the entry has a key that its table doesn't know
+abbrev pub is_known : ℕ → List KeyRow → List ℕ → Bool
+is_known format keys name = list_any (λ key. nat_le key.since format && bytes_eq name key.name) keys
+
+-- the row has a key that its table doesn't have in the format
+abbrev pub has_unknown : ℕ → BasinTable → Members → Bool
+has_unknown format table row = list_any (λ name. not (is_known format (keys_of table) name)) (names_in row)
+
+-- the entry has a key that its table doesn't know in the document's format
 abbrev pub unknown_key : Members → Entry → Bool
-unknown_key tree e = list_any (λ name. not (is_known (keys_of e.table) name)) (names_in e.row)
+unknown_key tree e = has_unknown (format_of tree) e.table e.row
 
 abbrev pub lacks_key : BasinTable → Members → Bool
 lacks_key table row = list_any (λ key. key.is_required && not (is_some (get_member key.name row))) (keys_of table)

@@ -22,29 +22,34 @@ table_name Return = codes "return"
 abbrev pub listed : List BasinTable
 listed = Node ∷ Link ∷ Reservoir ∷ Diversion ∷ Instream ∷ Zone ∷ Return ∷ []
 
--- a key of a table: whether it has to be there, and what its value has to be
+-- a key of a table: whether it has to be there, what its value has to be, and the first format that has it
 pub record KeyRow : Type 0 where
   pub name : List ℕ
   pub is_required : Bool
   pub kind : Kind
+  pub since : ℕ
 
 -- a key without where its name lies in memory
 abbrev pub row_of : Key → KeyRow
-row_of key = record { name = key.name.now; is_required = key.is_required; kind = key.kind }
+row_of key = record { name = key.name.now; is_required = key.is_required; kind = key.kind; since = key.since }
 
 abbrev pub required : List ℕ → Kind → KeyRow
-required name kind = record { name = name; is_required = true; kind = kind }
+required name kind = record { name = name; is_required = true; kind = kind; since = 1 }
 
 abbrev pub optional : List ℕ → Kind → KeyRow
-optional name kind = record { name = name; is_required = false; kind = kind }
+optional name kind = record { name = name; is_required = false; kind = kind; since = 1 }
+
+-- a key that format 2 has besides
+abbrev pub second : List ℕ → Kind → KeyRow
+second name kind = record { name = name; is_required = false; kind = kind; since = 2 }
 
 -- the keys of each table. `Whole` has the least and the greatest number, `Monthly` the greatest
 abbrev pub keys_of : BasinTable → List KeyRow
 keys_of Top =
-    required (codes "format") (Whole 1 1) ∷ required (codes "first_month") MonthText
+    required (codes "format") (Whole 1 2) ∷ required (codes "first_month") MonthText
     ∷ required (codes "months") (Whole 1 1200) ∷ required (codes "node") Tables ∷ optional (codes "link") Tables
     ∷ optional (codes "reservoir") Tables ∷ optional (codes "diversion") Tables ∷ optional (codes "instream") Tables
-    ∷ optional (codes "zone") Tables ∷ optional (codes "return") Tables ∷ []
+    ∷ optional (codes "zone") Tables ∷ optional (codes "return") Tables ∷ second (codes "year_start") (Whole 1 12) ∷ []
 keys_of Node =
     required (codes "name") Name ∷ optional (codes "outlet") Truth ∷ optional (codes "inflow") Inflow ∷ []
 keys_of Link =
@@ -55,7 +60,8 @@ keys_of Reservoir =
     ∷ optional (codes "area") Points ∷ optional (codes "rate") (Monthly 10000) ∷ []
 keys_of Diversion =
     required (codes "name") Name ∷ required (codes "node") (Refers Nodes) ∷ required (codes "date") DateText
-    ∷ required (codes "want") (Monthly (10 ^ 9)) ∷ optional (codes "order") (Whole 0 1000000) ∷ []
+    ∷ required (codes "want") (Monthly (10 ^ 9)) ∷ optional (codes "order") (Whole 0 1000000)
+    ∷ second (codes "volume") (Whole 0 (16 * 10 ^ 9)) ∷ []
 keys_of Instream =
     required (codes "name") Name ∷ required (codes "link") (Refers Links) ∷ required (codes "date") DateText
     ∷ required (codes "want") (Monthly (10 ^ 9)) ∷ optional (codes "order") (Whole 0 1000000) ∷ []

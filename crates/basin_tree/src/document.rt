@@ -4,6 +4,7 @@ ghost use Rattle.toml.specs.View.{table_view, items_view};
 ghost use Rattle.toml_tree.specs.FirstPlaces.{KeepsPlaces, earlier_from};
 ghost use Rattle.toml_tree.specs.Texts.{texts_behind, earlier_like};
 ghost use Rattle.basin_tree.specs.Entries.{items_at};
+ghost use Rattle.basin_tree.specs.KeyFaults.{format_of};
 ghost use Rattle.basin_tree.specs.Places.{own_key, texts_in, texts_of, named_at};
 ghost use Rattle.basin_tree.specs.declared.tables.BasinTable.TheVariants.{Return};
 ghost use Rattle.basin_tree.specs.declared.tables.Space.TheVariants.{Nodes, Links, Reservoirs, Diversions, Rights};
@@ -13,7 +14,7 @@ use indexmap::IndexMap;
 use std::alloc::{AllocError, Global};
 use toml::{Table, Value};
 use toml_tree::places::{add_places, earlier_of, places_of};
-use toml_tree::values::{items_of, member};
+use toml_tree::values::{items_of, member, whole_at};
 
 /// A document with, for each name of a space, the first place that has it, and for each return row the number of
 /// earlier rows of its diversion.
@@ -139,6 +140,13 @@ impl<'a> Document<'a> {
             rights,
             earlier,
         })
+    }
+
+    /// The format of the document: 2 where `format` is this number, and else 1.
+    pub fn format(&self) -> u64
+        ensures { result ≡ format_of (tree_of self.now) }
+    {
+        whole_at(self.tree, "format", 1, 2, 1)
     }
 
     /// What a table lists, in the order of the file.

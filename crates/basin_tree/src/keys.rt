@@ -1,5 +1,5 @@
 //! Tests of keys, and of the values at the keys that a table has.
-ghost use Rattle.std.specs.Prelude.{◌≡◌, ◌&&◌, ◌||◌, ◌==◌, Bool, not, false, is_some, string_bytes};
+ghost use Rattle.std.specs.Prelude.{◌≡◌, nat_le, ◌&&◌, ◌||◌, ◌==◌, Bool, not, false, is_some, string_bytes};
 ghost use Rattle.std.specs.List.{list_any};
 ghost use Rattle.std.specs.Option.{option_map_or};
 ghost use Rattle.std.specs.Str.{bytes_eq};
@@ -24,22 +24,23 @@ pub struct UnknownKey;
 impl EntryTest for UnknownKey {
     ghost fails = { unknown_key };
 
-    fn fails_at(_document: &Document, table: BasinTable, _number: u64, row: &Table) -> bool {
-        has_unknown_key(keys(table), row)
+    fn fails_at(document: &Document, table: BasinTable, _number: u64, row: &Table) -> bool {
+        has_unknown_key(document.format(), keys(table), row)
     }
 }
 
-fn is_known(known: &[Key], name: &str) -> bool
-    ensures { result ≡ list_any (λ key. bytes_eq name.now key.name.now) known.now }
+fn is_known(format: u64, known: &[Key], name: &str) -> bool
+    ensures { result ≡ list_any (λ key. nat_le key.since format && bytes_eq name.now key.name.now) known.now }
 {
-    known.iter().any(|key| name == key.name)
+    known.iter().any(|key| key.since <= format && name == key.name)
 }
 
-fn has_unknown_key(known: &[Key], row: &Table) -> bool
+fn has_unknown_key(format: u64, known: &[Key], row: &Table) -> bool
     ensures { result ≡ list_any
-        (λ name. not (list_any (λ key. bytes_eq (string_bytes name) key.name.now) known.now)) (map_keys row.now) }
+        (λ name. not (list_any (λ key. nat_le key.since format && bytes_eq (string_bytes name) key.name.now) known.now))
+        (map_keys row.now) }
 {
-    row.keys().any(|name| !is_known(known, name.as_str()))
+    row.keys().any(|name| !is_known(format, known, name.as_str()))
 }
 
 /// The test of `BasinFault::MissingKey`.

@@ -51,12 +51,13 @@ pub enum Kind {
     Points,
 }
 
-/// A key of a table.
+/// A key of a table, and the first format that has it.
 #[derive(Clone, Copy)]
 pub struct Key {
     pub name: &'static str,
     pub is_required: bool,
     pub kind: Kind,
+    pub since: u64,
 }
 
 macro_rules! required {
@@ -65,6 +66,7 @@ macro_rules! required {
             name: $name,
             is_required: true,
             kind: $kind,
+            since: 1,
         }
     };
 }
@@ -75,17 +77,29 @@ macro_rules! optional {
             name: $name,
             is_required: false,
             kind: $kind,
+            since: 1,
         }
     };
 }
 
-/// The keys of a table.
+macro_rules! second {
+    ($name:literal, $kind:expr) => {
+        Key {
+            name: $name,
+            is_required: false,
+            kind: $kind,
+            since: 2,
+        }
+    };
+}
+
+/// The keys of a table, those of format 2 included.
 pub fn keys(table: BasinTable) -> &'static [Key]
     ensures { map row_of result.now ≡ keys_of table }
 {
     match table {
         BasinTable::Top => &[
-            required!("format", Kind::Whole(1, 1)),
+            required!("format", Kind::Whole(1, 2)),
             required!("first_month", Kind::MonthText),
             required!("months", Kind::Whole(1, 1_200)),
             required!("node", Kind::Tables),
@@ -95,6 +109,7 @@ pub fn keys(table: BasinTable) -> &'static [Key]
             optional!("instream", Kind::Tables),
             optional!("zone", Kind::Tables),
             optional!("return", Kind::Tables),
+            second!("year_start", Kind::Whole(1, 12)),
         ],
         BasinTable::Node => &[
             required!("name", Kind::Name),
@@ -119,6 +134,7 @@ pub fn keys(table: BasinTable) -> &'static [Key]
             required!("date", Kind::DateText),
             required!("want", Kind::Monthly(1_000_000_000)),
             optional!("order", Kind::Whole(0, 1_000_000)),
+            second!("volume", Kind::Whole(0, 16_000_000_000)),
         ],
         BasinTable::Instream => &[
             required!("name", Kind::Name),

@@ -6,8 +6,9 @@ use Rattle.std.proofs.lemmas.Option.{get_or_from_slice_get}
 use Rattle.place_sums.specs.Sums.{total}
 use Rattle.place_sums.proofs.Totals.{term_le_total, total_same}
 use Rattle.cut_cert.proofs.Bounds.{carry_most, all_most}
-use Rattle.month_terms.proofs.Amounts.{want_is, want_most, nothing_used, follows_small, deliveries_small, supply_small}
+use Rattle.month_terms.proofs.Amounts.{want_is, want_most, follows_small, deliveries_small, supply_small}
 use Rattle.month_terms.proofs.Bounds.{returns_small}
+use Rattle.month_terms.proofs.WaterYears.{used_most}
 use Rattle.water_model.proofs.Histories.{IsMonth-run_month}
 use Rattle.water_text.specs.Months.{IsMonth}
 use Rattle.water_model.specs.History.{IsPartialHistory, Follows, opening_after, is_zone_of}
@@ -118,7 +119,7 @@ history_amounts b series before m valid fits partial left f = record {
         omega (arith, is, opening v l)
 
     wanted : (r : ℕ) → r < length b.rights → slice_index m.want r ≤ 10 ^ 9
-    wanted r l = rw (f.want r l ∙ want_is b series r m.index (slice_index m.used r) valid l) (want_most b _ r valid l)
+    wanted r l = rw (f.want r l ∙ want_is b series r m.index (slice_index m.used r) valid l) (want_most b _ r (slice_index m.used r) valid l)
 
     listed : (q : Quantity) → AreTextAmounts (amounts_of q m)
     listed quantity.Opening = all_small m.opening (length b.reservoirs) f.fits.opening opening
@@ -130,7 +131,13 @@ history_amounts b series before m valid fits partial left f = record {
       returns_small b (map (λ k. k.delivered) before) m.index valid (deliveries_small b series before valid partial),
     ))
     listed quantity.Used = all_small m.used (length b.rights) f.fits.used
-        (λ r l. omega (arith, f.used r l, nothing_used b (map (λ k. k.delivered) before) r m.index valid l))
+        (λ r l. omega (
+      arith,
+      f.used r l,
+      used_most b (map (λ k. k.delivered) before) r m.index (10 ^ 9) (deliveries_small b series before valid partial r),
+      f.index,
+      valid.run.months.1,
+    ))
     listed quantity.Flow = all_small m.plan.flow (length b.links) f.plan.flow_len
         (λ e l. omega (arith, f.plan.carries e l, carry_most b m.month e valid month l))
     listed quantity.Outflow = all_small m.plan.out (length b.nodes) f.plan.out_len (λ n l. omega (

@@ -8,7 +8,7 @@ use Rattle.std.proofs.lemmas.List.Folds.{list_all-append}
 use Rattle.std.proofs.lemmas.List.Elements.{filter-append}
 use Rattle.lag_returns.specs.Lags as lag
 use Rattle.month_terms.specs.Blank.{blank_record}
-use Rattle.month_terms.specs.Terms.{HasReturned}
+use Rattle.month_terms.specs.Terms.{HasReturned, HasUsed}
 use Rattle.month_terms.proofs.BlankRecords.{blank_fits}
 use Rattle.water_model.specs.CutSets.{CutSets}
 use Rattle.water_model.specs.Lookups.{of_entry}
@@ -94,6 +94,7 @@ pub record Empty (b : Basin) (a : Account) : Type 0 where
   pub lags : lag.StandsFor a.lags b.returns []
   pub opens : a.opens ≡ map (λ v. v.opening) b.reservoirs
   pub comes : HasReturned b [] a.comes
+  pub used : HasUsed b [] a.used
   pub month : IsBlank b a.month
   pub calling : a.calling ≡ None
   pub has_supply : a.has_supply ≡ false
@@ -127,6 +128,7 @@ keeps_nothing b series a e = record {
   lags = e.lags;
   opens = e.opens;
   comes = e.comes.each;
+  used = e.used;
   supply = λ h. clash (sym e.has_supply ∙ h);
   closes = λ h. clash (sym e.has_closes ∙ h);
   passed = rw e.passed refl;

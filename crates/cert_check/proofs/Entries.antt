@@ -10,7 +10,7 @@ use Rattle.water_text.specs.declared.month.Month.{Month}
 use Rattle.lag_returns.specs.Lags as lag
 use Rattle.place_sums.specs.Sums.{total_where}
 use Rattle.lag_returns.specs.Lags.{OnTheWay}
-use Rattle.month_terms.specs.Terms.{HasReturned}
+use Rattle.month_terms.specs.Terms.{HasReturned, HasUsed}
 use Rattle.water_model.specs.Basin.{taking_node}
 use Rattle.water_model.specs.CutSets.{without_sets}
 use Rattle.water_model.specs.History.{is_zone_of}
@@ -55,6 +55,7 @@ keeps_amount b series a t q x amount k = record {
   lags = k.lags;
   opens = k.opens;
   comes = k.comes;
+  used = k.used;
   supply = supply_stays b series q x amount a.month t.now a.has_supply k.supply;
   closes = λ e v l. k.closes e v l
       ∙ ap (λ takes. total_where (length b.rights) (λ r. is_zone_of b r v) (λ r. slice_index takes r)) (sym told.take);
@@ -109,6 +110,7 @@ keeps_delivery b series a t x amount want none k = record {
   lags = k.lags;
   opens = k.opens;
   comes = k.comes;
+  used = k.used;
   supply = k.supply;
   closes = λ e. clash e;
   passed = refl;
@@ -195,6 +197,7 @@ keeps_month b series a t month calendar k = record {
   lags = k.lags;
   opens = k.opens;
   comes = k.comes;
+  used = k.used;
   supply = λ e. clash e;
   closes = λ e. clash e;
   passed = refl;
@@ -223,6 +226,7 @@ keeps_called b series a t x caller next l more k = record {
   lags = k.lags;
   opens = k.opens;
   comes = k.comes;
+  used = k.used;
   supply = k.supply;
   closes = k.closes;
   passed = k.passed;
@@ -238,9 +242,10 @@ months_count : (b : Basin) (a : Account) (t : Told) → length (map (λ m. m.del
 months_count b a t = length-append (map (λ m. m.delivered) t.months) (a.month.delivered ∷ []) ∙ ap (λ n. n + 1) (length-map t.months (λ m. m.delivered))
 
 -- an `end` line
-pub keeps_end : (b : Basin) (series : Inflows) (a : Account) (t : Told) (lags : List OnTheWay) (comes : List ℕ) → lag.StandsFor lags b.returns (map (λ m. m.delivered) t.months ++ a.month.delivered ∷ []) → HasReturned b (map (λ m. m.delivered) t.months ++ a.month.delivered ∷ []) comes → Keeps b series a t →
-    Keeps b series (record a { done = a.done + 1; lags = lags; opens = a.month.closing; comes = comes; calling = None }) (tell b series t (line.End))
-keeps_end b series a t lags comes stands back k = record {
+pub keeps_end : (b : Basin) (series : Inflows) (a : Account) (t : Told) (lags : List OnTheWay) (comes used : List ℕ) → lag.StandsFor lags b.returns (map (λ m. m.delivered) t.months ++ a.month.delivered ∷ []) → HasReturned b (map (λ m. m.delivered) t.months ++ a.month.delivered ∷ []) comes →
+    HasUsed b (map (λ m. m.delivered) t.months ++ a.month.delivered ∷ []) used → Keeps b series a t →
+    Keeps b series (record a { done = a.done + 1; lags = lags; opens = a.month.closing; comes = comes; used = used; calling = None }) (tell b series t (line.End))
+keeps_end b series a t lags comes used stands back spent k = record {
   fits = record {
     month = k.fits.month;
     calendar = k.fits.calendar;
@@ -259,6 +264,7 @@ keeps_end b series a t lags comes stands back k = record {
   lags = rw (delivered_more b series a t k) stands;
   opens = k.shows.closing ∙ sym (opens_with_last b t.months (with_supply b series t.now));
   comes = λ n l. back.each n l ∙ rw (delivered_more b series a t k, length-append t.months (with_supply b series t.now ∷ [])) (ap (returned_at b (map (λ m. m.delivered) t.months ++ a.month.delivered ∷ []) n) (months_count b a t));
+  used = rw (delivered_more b series a t k) spent;
   supply = k.supply;
   closes = k.closes;
   passed = k.passed;

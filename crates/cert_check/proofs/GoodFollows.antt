@@ -7,7 +7,7 @@ use Rattle.std.proofs.lemmas.Bool.Decides.{nat_tests}
 use Rattle.std.proofs.lemmas.Grind.{same_number_lists}
 use Rattle.std.proofs.lemmas.List.{length-replicate, length-map}
 use Rattle.place_sums.proofs.Totals.{total_zero}
-use Rattle.month_terms.proofs.Amounts.{nothing_used}
+use Rattle.result_reader.proofs.AllTold.{nothing_used}
 use Rattle.water_model.specs.Basin.{taking_node, taking_node_of_kind, instream_link, link_of_kind}
 use Rattle.water_model.specs.History.{Follows, cut_of, opening_after}
 use Rattle.water_model.specs.Hydrology.{run_month, inflow_at, stored_at, returned_at, returned_by, used_of}
@@ -169,7 +169,7 @@ good_follows b series before m valid a g index month opens = record {
   used = λ r l. by_filter (λ k. has_line b quantity.Used k) (in_order (space_of quantity.Used) b) r
       (slice_index m.used r) (used_of b (map (λ k. k.delivered) before) r m.index)
       (in_order-has (space_of quantity.Used) b r l) (g.used r) (unlisted quantity.Used r)
-      (λ e. nothing_used b (map (λ k. k.delivered) before) r m.index valid l);
+      (nothing_used b (map (λ k. k.delivered) before) r m.index);
   want = λ r l. (g.deliver r (seniors_have b.rights r l)).0;
   plan = record {
     flow_len = listed_len quantity.Flow;

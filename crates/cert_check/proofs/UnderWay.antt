@@ -92,7 +92,7 @@ carried_most b valid i e l = elim (cases_lt e (length b.links)) [
 
 wanted_most : (b : Basin) → IsValidBasin b → (series : Inflows) (i r used : ℕ) → want_of b series r i used ≤ 10 ^ 9
 wanted_most b valid series i r used = elim (cases_lt r (length b.rights)) [
-  | inl within ↦ rw (want_is b series r i used valid within) (want_most b (run_month b i) r valid within)
+  | inl within ↦ rw (want_is b series r i used valid within) (want_most b (run_month b i) r used valid within)
   | inr past ↦ rw (slice_get_past b.rights r past) (omega arith)
 ]
 

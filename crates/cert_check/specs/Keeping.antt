@@ -14,7 +14,7 @@ use Rattle.water_model.specs.declared.types.Basin.{Basin}
 use Rattle.water_model.specs.declared.types.Inflows.{Inflows}
 use Rattle.water_model.specs.declared.types.MonthRecord.{MonthRecord}
 use Rattle.lag_returns.specs.Lags as lag
-use Rattle.month_terms.specs.Terms.{FitsRecord}
+use Rattle.month_terms.specs.Terms.{FitsRecord, HasUsed}
 use Rattle.result_reader.specs.Telling.{Told, with_supply}
 use Rattle.cert_check.specs.Checking.{is_short, caller_due}
 use Rattle.cert_check.specs.Shows.{Shows}
@@ -62,6 +62,7 @@ pub record Keeps (b : Basin) (series : Inflows) (a : Account) (t : Told) : Type 
   pub lags : lag.StandsFor a.lags b.returns (map (λ m. m.delivered) t.months)
   pub opens : a.opens ≡ opening_after b t.months
   pub comes : (n : ℕ) → n < length b.nodes → slice_index a.comes n ≡ returned_at b (map (λ m. m.delivered) t.months) n (length t.months)
+  pub used : HasUsed b (map (λ m. m.delivered) t.months) a.used
   pub supply : a.has_supply ≡ true → a.month.supply ≡ (with_supply b series t.now).supply
   pub closes : a.has_closes ≡ true → (v : ℕ) → v < length b.reservoirs → slice_index a.closes v
       ≡ total_where (length b.rights) (λ r. is_zone_of b r v) (λ r. slice_index t.now.plan.take r)

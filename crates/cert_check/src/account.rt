@@ -32,6 +32,8 @@ pub struct Account {
     pub opens: Rows<u64>,
     /// For each node what comes back to it next.
     pub comes: Rows<u64>,
+    /// For each right with a volume what it used of it before, in the water year of the month under way.
+    pub used: Rows<u64>,
     /// What is told of the month under way.
     pub month: MonthRecord,
     /// The right whose `in` lines come.

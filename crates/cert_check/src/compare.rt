@@ -179,12 +179,13 @@ pub fn delivery_wrong(
 ) -> bool
     requires basin { IsValidBasin basin.now }
     requires flow { length month.now.plan.flow ≡ length basin.now.links }
+    requires used { length month.now.used ≡ length basin.now.rights }
     requires calendar { IsMonth month.now.month }
     requires month { month.now.month ≡ run_month basin.now month.now.index }
     requires right { right < length basin.now.rights }
     ensures { (series : Inflows) (t : Told) → Shows month.now t.now →
         result ≡ checking.delivery_wrong basin.now series t right amount want }
 {
-    !(want == want_of(basin, right, month.month))
+    !(want == want_of(basin, right, month.month, month.used[right as usize]))
         || amount_wrong(basin, month.plan.flow.as_slice(), right, amount, want)
 }

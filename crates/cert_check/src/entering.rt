@@ -1,8 +1,8 @@
 //! Enters what a line tells into an account.
-ghost use Rattle.std.specs.Prelude.{ℕ, ◌≡◌, ◌+◌, ◌^◌, ◌<◌, ◌≤◌, ◌&&◌, not, ◌++◌, ◌∷◌, [], List, Some, None, true, false, Bool, All, Option, IfSome, IsSome, length, replicate, slice_set, is_some, if◌then◌else◌};
+ghost use Rattle.std.specs.Prelude.{ℕ, ◌≡◌, ◌+◌, ◌^◌, ◌<◌, ◌≤◌, ◌&&◌, not, ◌++◌, ◌∷◌, [], List, Some, None, true, false, Bool, All, Option, IfSome, IsSome, length, replicate, slice_index, slice_set, is_some, if◌then◌else◌};
 ghost use Rattle.lag_returns.specs.Lags.{return_rows};
 ghost use Rattle.lag_returns.specs.Lags as lag;
-ghost use Rattle.month_terms.specs.Terms.{HasReturned};
+ghost use Rattle.month_terms.specs.Terms.{HasReturned, HasUsed};
 ghost use Rattle.water_model.specs.Basin.{taking_node};
 ghost use Rattle.water_model.specs.CutSets.{set_of, with_set, without_sets};
 ghost use Rattle.water_model.specs.Quantities.{amounts_of, with_amounts};
@@ -22,6 +22,7 @@ use crate::account::{Account, Means};
 use crate::answering::next_due;
 use crate::told;
 use lag_returns::Lags;
+use month_terms::used::use_month;
 use rights_roll::roll::Roll;
 use water_model::item::Item;
 use water_model::quantity::Quantity;
@@ -225,18 +226,23 @@ pub fn enter_end(basin: &Basin, account: &mut Account)
     requires opens { length account.old.opens ≡ length account.old.month.closing }
     requires delivered { length account.old.month.delivered ≡ length basin.now.rights }
     requires small { All (λ n. n ≤ 10 ^ 9) account.old.month.delivered }
-    requires done { account.old.done < 2 ^ 31 }
+    requires done { account.old.done < basin.now.months }
+    requires used { length account.old.used ≡ length basin.now.rights }
+    requires little { (r : ℕ) → r < length basin.now.rights → slice_index account.old.used r ≤ 10 ^ 15 }
     ensures rest { account.new ≡ record account.old {
       done = account.old.done + 1;
       lags = account.new.lags;
       opens = account.old.month.closing;
       comes = account.new.comes;
+      used = account.new.used;
       calling = None;
     } }
     ensures lags { (deliveries : List (List ℕ)) → lag.StandsFor account.old.lags basin.now.returns deliveries →
         lag.StandsFor account.new.lags basin.now.returns (deliveries ++ account.old.month.delivered ∷ []) }
     ensures comes { (deliveries : List (List ℕ)) → lag.StandsFor account.old.lags basin.now.returns deliveries →
         HasReturned basin.now (deliveries ++ account.old.month.delivered ∷ []) account.new.comes }
+    ensures used { (deliveries : List (List ℕ)) → length deliveries ≡ account.old.done → HasUsed basin.now deliveries account.old.used →
+        HasUsed basin.now (deliveries ++ account.old.month.delivered ∷ []) account.new.used }
 {
     account.lags.month_done(account.month.delivered.as_slice());
     account
@@ -244,6 +250,12 @@ pub fn enter_end(basin: &Basin, account: &mut Account)
         .as_mut_slice()
         .copy_from_slice(account.month.closing.as_slice());
     bring_back(basin, &account.lags, account.comes.as_mut_slice());
+    use_month(
+        basin,
+        account.done,
+        account.month.delivered.as_slice(),
+        account.used.as_mut_slice(),
+    );
     account.done += 1;
     account.calling = None;
 }

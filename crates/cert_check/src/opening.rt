@@ -62,6 +62,7 @@ pub fn blank_account(alloc: Global, basin: &Basin) -> Result<Box<Account>, Alloc
     let lags = Lags::open(alloc, basin.returns.as_slice())?;
     let comes = first_comes(alloc, basin, &lags)?;
     let opens = openings(alloc, basin)?;
+    let used = zeros(alloc, basin.rights.len())?;
     let sums = room_for_sums(alloc, basin)?;
     let month = blank_month(alloc, basin)?;
     let (closes, into, out_of) = sums;
@@ -72,6 +73,7 @@ pub fn blank_account(alloc: Global, basin: &Basin) -> Result<Box<Account>, Alloc
             lags,
             opens,
             comes,
+            used,
             month: Box::into_inner(month),
             calling: None,
             has_supply: false,

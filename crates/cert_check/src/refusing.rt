@@ -217,7 +217,7 @@ fn quantity_wrong(
             compare::evaporation_wrong(basin, &means.tables, &account.month, entry, amount)
         }
         Quantity::Returned => compare::differs(account.comes.as_slice(), entry, amount),
-        Quantity::Used => !(amount == 0),
+        Quantity::Used => compare::differs(account.used.as_slice(), entry, amount),
         Quantity::Flow => compare::flow_wrong(basin, &account.month, entry, amount),
         Quantity::Outflow => balance_wrong(means, account, entry, amount),
         Quantity::Closing => closing_wrong(means, account, entry, amount),

@@ -1,7 +1,6 @@
 -- The record of a solved month follows the records before it.
-use Rattle.std.proofs.Common.{◌≡◌, ℕ, zero, suc, ◌+◌, ◌^◌, ◌<◌, ◌≤◌, Bool, refl, sym, ◌∙◌, ap, arith, List, [], ◌∷◌, length, map, replicate, inl, inr, get_or}
+use Rattle.std.proofs.Common.{◌≡◌, ℕ, zero, suc, ◌+◌, ◌^◌, ◌<◌, ◌≤◌, Bool, refl, sym, ◌∙◌, ap, ap₂, subst, arith, List, [], ◌∷◌, length, map, inl, inr, get_or}
 use Rattle.std.specs.Prelude.{slice_index, Option, Some, None, if◌then◌else◌, All}
-use Rattle.std.proofs.lemmas.List.{get_or-replicate}
 use Rattle.place_sums.proofs.Totals.{total_same, term_le_total}
 use Rattle.water_model.specs.Cuts.{IsReach}
 use Rattle.water_model.specs.CutSets.{CutSets, set_of, without_sets}
@@ -15,8 +14,8 @@ use Rattle.water_model.specs.declared.types.Basin.{Basin}
 use Rattle.water_model.specs.declared.types.Inflows.{Inflows}
 use Rattle.water_model.specs.declared.types.MonthRecord.{MonthRecord}
 use Rattle.water_model.specs.declared.types.Plan.{Plan}
-use Rattle.month_terms.specs.Terms.{FitsRecord, HasReturned, IsSettled, IsConcluded}
-use Rattle.month_terms.proofs.Amounts.{supply_small, nothing_used, want_is, want_most, want_carried, follows_small}
+use Rattle.month_terms.specs.Terms.{FitsRecord, HasReturned, HasUsed, IsSettled, IsConcluded}
+use Rattle.month_terms.proofs.Amounts.{supply_small, want_is, want_most, want_carried, follows_small}
 use Rattle.senior_hold.specs.Solved.{IsGiven, IsSolved, AreSupplies, AreWants, FitsCuts}
 use Rattle.senior_hold.specs.Solved as sweep
 use Rattle.month_fold.specs.Runs.{RunSeen, StandsFor, IsNext}
@@ -26,7 +25,7 @@ pub record IsBegun (b : Basin) (series : Inflows) (records : List MonthRecord) (
   pub partial : IsPartialHistory b series records
   pub stored : m.closing ≡ opening_after b records
   pub returned : HasReturned b (map (λ k. k.delivered) records) m.returned
-  pub used : m.used ≡ replicate (length b.rights) 0
+  pub used : HasUsed b (map (λ k. k.delivered) records) m.used
 
 -- what is supplied to a node is within the whole supply of the month
 pub node_small : (b : Basin) (series : Inflows) (records : List MonthRecord) (m : MonthRecord) (i : ℕ) (evaporated : List ℕ) (n : ℕ) → IsValidBasin b →
@@ -189,12 +188,13 @@ made_follows b series records i begun settled planned made valid fits starts at 
 
     used : (r : ℕ) → r < length b.rights → slice_index made.used r ≡ used_of b (map (λ k. k.delivered) records) r made.index
     used r l =
-        ap (λ xs. slice_index xs r) (f.used ∙ starts.used) ∙ (get_or-replicate (length b.rights) r 0 0 l
-        ∙ sym (nothing_used b (map (λ k. k.delivered) records) r made.index valid l))
+        ap (λ xs. slice_index xs r) f.used ∙ (starts.used.each r l
+        ∙ ap (used_of b (map (λ k. k.delivered) records) r) (months records ∙ (sym at ∙ sym f.index)))
 
     wanted : (r : ℕ) → r < length b.rights → slice_index made.want r ≡ want_of b series r made.index (slice_index made.used r)
     wanted r l =
-        ap (λ xs. slice_index xs r) f.want ∙ (is.is_settled.want.each r l ∙ (ap (λ k. want_in_month b (run_month b k) r) (sym f.index)
+        ap (λ xs. slice_index xs r) f.want ∙ (is.is_settled.want.each r l
+        ∙ (ap₂ (λ k xs. want_in_month b (run_month b k) r (slice_index xs r)) (sym f.index) (sym f.used)
         ∙ sym (want_is b series r made.index (slice_index made.used r) valid l)))
 
     delivered : (r : ℕ) → r < length b.rights → slice_index made.delivered r ≡ delivery b made.want made.plan r
@@ -223,8 +223,8 @@ pub wants_given : (b : Basin) (series : Inflows) (i : ℕ) (m settled : MonthRec
     AreWants b settled.month settled.want
 wants_given b series i m settled valid is = record {
   count = is.want.count;
-  small = λ r l. rw (is.want.each r l) (want_most b (run_month b i) r valid l);
-  instream = λ r e l on. rw (is.want.each r l, is.month) (want_carried b (run_month b i) r e on);
+  small = λ r l. rw (is.want.each r l) (want_most b (run_month b i) r (slice_index m.used r) valid l);
+  instream = λ r e l on. rw (is.want.each r l, is.month) (want_carried b (run_month b i) r (slice_index m.used r) e on);
 }
 
 pub settled_given : (b : Basin) (series : Inflows) (records : List MonthRecord) (i : ℕ) (m settled : MonthRecord) (cuts : CutSets) → IsValidBasin b →
@@ -280,25 +280,25 @@ next_small b series records m valid next = deliveries_small b series records m v
 
 -- the record in which a run's next month begins, with what comes back
 pub run_begun : (run : RunSeen) (records : List MonthRecord) (m : MonthRecord) → StandsFor run records →
-    m ≡ record run.last { returned = m.returned } → HasReturned run.basin (map (λ k. k.delivered) records) m.returned →
-    run.last.used ≡ replicate (length run.basin.rights) 0 → IsBegun run.basin run.series records m
+    m ≡ record run.last { returned = m.returned; used = m.used } → HasReturned run.basin (map (λ k. k.delivered) records) m.returned →
+    m.used ≡ run.used → IsBegun run.basin run.series records m
 run_begun run records m stands is returned used = record {
   partial = stands.partial;
   stored = ap (λ k. k.closing) is ∙ stands.stored;
   returned = returned;
-  used = ap (λ k. k.used) is ∙ used;
+  used = subst (HasUsed run.basin (map (λ k. k.delivered) records)) (sym used) stands.used;
 }
 
-pub begun_fits : (b : Basin) (m begun : MonthRecord) → FitsRecord b m → begun ≡ record m { returned = begun.returned } →
-    length begun.returned ≡ length m.returned → FitsRecord b begun
-begun_fits b m begun fits is count = record {
+pub begun_fits : (b : Basin) (m begun : MonthRecord) → FitsRecord b m → begun ≡ record m { returned = begun.returned; used = begun.used } →
+    length begun.returned ≡ length m.returned → length begun.used ≡ length m.used → FitsRecord b begun
+begun_fits b m begun fits is count uses = record {
   fits = record {
     opening = ap (λ k. length k.opening) is ∙ fits.fits.opening;
     evaporated = ap (λ k. length k.evaporated) is ∙ fits.fits.evaporated;
     closing = ap (λ k. length k.closing) is ∙ fits.fits.closing;
     returned = count ∙ fits.fits.returned;
     supply = ap (λ k. length k.supply) is ∙ fits.fits.supply;
-    used = ap (λ k. length k.used) is ∙ fits.fits.used;
+    used = uses ∙ fits.fits.used;
     want = ap (λ k. length k.want) is ∙ fits.fits.want;
     delivered = ap (λ k. length k.delivered) is ∙ fits.fits.delivered;
     cuts = ap (λ k. length k.cuts.sets) is ∙ fits.fits.cuts;

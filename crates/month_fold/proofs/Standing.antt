@@ -5,9 +5,9 @@ use Rattle.lag_returns.specs.Lags.{OnTheWay}
 use Rattle.lag_returns.specs.Lags as lag
 use Rattle.water_model.specs.History.{opening_after}
 use Rattle.water_model.specs.declared.types.Basin.{Basin}
-use Rattle.water_model.specs.declared.types.Inflows.{Inflows}
 use Rattle.water_model.specs.declared.types.MonthRecord.{MonthRecord}
-use Rattle.water_model.proofs.Histories.{nothing_is_partial, one_month_more}
+use Rattle.water_model.proofs.Histories.{one_month_more}
+use Rattle.month_terms.specs.Terms.{HasUsed}
 use Rattle.month_fold.specs.Reaches.{HasReaches}
 use Rattle.month_fold.specs.Runs.{RunSeen, StandsFor, IsNext}
 
@@ -33,28 +33,16 @@ opens_with_last b records m =
     let at : slice_get (records ++ m ∷ []) (length (records ++ m ∷ []) - 1) ≡ Some m = ap (slice_get (records ++ m ∷ [])) place ∙ last_is records m in
     ap (λ o. unwrap_or (option_map (λ k. k.closing) o) (map (λ v. v.opening) b.reservoirs)) at
 
-pub stands_next : (run : RunSeen) (records : List MonthRecord) (m : MonthRecord) (lags : List OnTheWay) → StandsFor run records →
+pub stands_next : (run : RunSeen) (records : List MonthRecord) (m : MonthRecord) (lags : List OnTheWay) (used : List ℕ) → StandsFor run records →
     run.done < run.basin.months → IsNext run.basin run.series records m →
     lag.StandsFor lags run.basin.returns (map (λ k. k.delivered) records ++ m.delivered ∷ []) →
-    StandsFor (record { basin = run.basin; series = run.series; done = run.done + 1; last = m; lags = lags }) (records ++ m ∷ [])
-stands_next run records m lags stands left next way = record {
+    HasUsed run.basin (map (λ k. k.delivered) records ++ m.delivered ∷ []) used →
+    StandsFor (record { basin = run.basin; series = run.series; done = run.done + 1; last = m; lags = lags; used = used }) (records ++ m ∷ [])
+stands_next run records m lags used stands left next way spent = record {
   partial = one_month_more run.basin run.series records m stands.partial (omega (arith, stands.done)) next.follows;
   reaches = λ i k at. elim (at_end records m k i at) [ inl within ↦ stands.reaches i k within | inr last ↦ subst (HasReaches run.basin) last next.reaches ];
   done = omega (arith, stands.done, length-append records (m ∷ []));
   stored = sym (opens_with_last run.basin records m);
   lags = subst (lag.StandsFor lags run.basin.returns) (sym (mapped (λ k. k.delivered) records m)) way;
+  used = subst (λ ds. HasUsed run.basin ds used) (sym (mapped (λ k. k.delivered) records m)) spent;
 }
-
--- a run before its first month stands for none
-pub stands_first : (b : Basin) (series : Inflows) (m : MonthRecord) (lags : List OnTheWay) → m.closing ≡ map (λ v. v.opening) b.reservoirs →
-    lag.StandsFor lags b.returns [] → StandsFor (record { basin = b; series = series; done = 0; last = m; lags = lags }) []
-stands_first b series m lags stored way = record {
-  partial = nothing_is_partial b series;
-  reaches = λ i k at. none i k at;
-  done = refl;
-  stored = stored;
-  lags = way;
-}
-  where
-    none : (i : ℕ) (k : MonthRecord) → slice_get [] i ≡ Some k → HasReaches b k
-    none i k at = let never : None ≡ Some k = at in cc

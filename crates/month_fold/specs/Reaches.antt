@@ -1,7 +1,8 @@
 -- Months whose sets are the reaches of short rights.
-use Rattle.std.specs.Prelude.{◌≡◌, ℕ, ◌<◌, ◌≤◌, ◌^◌, All, Bool, List, length, slice_index, slice_get, Some, None}
+use Rattle.std.specs.Prelude.{◌≡◌, ℕ, ◌<◌, ◌≤◌, ◌^◌, All, Bool, List, length, map, take, slice_index, slice_get, Some, None}
 use Rattle.water_model.specs.Cuts.{IsReach}
 use Rattle.water_model.specs.History.{IsShort, cut_of}
+use Rattle.month_terms.specs.Terms.{HasUsed}
 use Rattle.water_model.specs.declared.types.Basin.{Basin}
 use Rattle.water_model.specs.declared.types.MonthRecord.{MonthRecord}
 
@@ -19,3 +20,16 @@ HaveReaches b records = (i : ℕ) (m : MonthRecord) → slice_get records i ≡ 
 pub record HasDeliveries (b : Basin) (m : MonthRecord) : Type 0 where
   pub count : length m.delivered ≡ length b.rights
   pub small : All (λ n. n ≤ 10 ^ 9) m.delivered
+
+-- a record says what each right with a volume used before it, by the deliveries of the records before, and what it was
+-- delivered
+pub record TellsUse (b : Basin) (before : List MonthRecord) (m : MonthRecord) : Type 0 where
+  pub index : m.index ≡ length before
+  pub within : m.index < b.months
+  pub delivered : HasDeliveries b m
+  pub used : HasUsed b (map (λ k. k.delivered) before) m.used
+  pub little : (r : ℕ) → r < length b.rights → slice_index m.used r ≤ 10 ^ 15
+
+-- each record of a list does
+abbrev pub TellUse : Basin → List MonthRecord → Type 0
+TellUse b records = (i : ℕ) (m : MonthRecord) → slice_get records i ≡ Some m → TellsUse b (take i records) m

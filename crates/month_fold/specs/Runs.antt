@@ -3,29 +3,33 @@ use Rattle.std.specs.Prelude.{◌≡◌, ℕ, ◌*◌, List, map, length}
 use Rattle.lag_returns.specs.Lags.{OnTheWay}
 use Rattle.lag_returns.specs.Lags as lag
 use Rattle.water_model.specs.History.{IsPartialHistory, Follows, opening_after}
+use Rattle.month_terms.specs.Terms.{HasUsed}
 use Rattle.month_fold.specs.Reaches.{HaveReaches, HasReaches}
 use Rattle.senior_hold.specs.MonthNetwork.{month_pushes}
 use Rattle.water_model.specs.declared.types.Basin.{Basin}
 use Rattle.water_model.specs.declared.types.Inflows.{Inflows}
 use Rattle.water_model.specs.declared.types.MonthRecord.{MonthRecord}
 
--- a run of a basin and a series: how many months are done, the record of the last one, and what is on its way back to
--- the river. Before the first month the last record has nothing but the closing storage, which is the basin's opening
+-- a run of a basin and a series: how many months are done, the record of the last one, what is on its way back to the
+-- river, and what each right with a volume used of it before the next month. Before the first month the last record has
+-- nothing but the closing storage, which is the basin's opening
 pub record RunSeen : Type 0 where
   pub basin : Basin
   pub series : Inflows
   pub done : ℕ
   pub last : MonthRecord
   pub lags : List OnTheWay
+  pub used : List ℕ
 
 -- the run went through these months: they are a partial history, with the reaches as the sets of short rights, after
--- which the next month opens with what is stored and on its way
+-- which the next month opens with what is stored, on its way and used
 pub record StandsFor (run : RunSeen) (records : List MonthRecord) : Type 0 where
   pub partial : IsPartialHistory run.basin run.series records
   pub reaches : HaveReaches run.basin records
   pub done : run.done ≡ length records
   pub stored : run.last.closing ≡ opening_after run.basin records
   pub lags : lag.StandsFor run.lags run.basin.returns (map (λ m. m.delivered) records)
+  pub used : HasUsed run.basin (map (λ m. m.delivered) records) run.used
 
 -- the run went through some months
 pub record HasMonths (run : RunSeen) : Type 0 where

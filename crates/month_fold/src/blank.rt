@@ -1,5 +1,5 @@
 //! The record that a run begins or goes on with.
-ghost use Rattle.std.specs.Prelude.{ℕ, ◌≡◌, ◌<◌, length, replicate, IfOk};
+ghost use Rattle.std.specs.Prelude.{ℕ, ◌≡◌, ◌<◌, length, IfOk};
 ghost use Rattle.water_model.specs.Valid.{IsValidBasin};
 ghost use Rattle.month_terms.specs.Terms.{FitsRecord};
 
@@ -18,7 +18,6 @@ pub fn blank_month(
     requires basin { IsValidBasin basin.now }
     requires stored { length stored ≡ length basin.now.reservoirs }
     ensures fits { IfOk result (λ m. FitsRecord basin.now m.value) }
-    ensures used { IfOk result (λ m. m.value.used ≡ replicate (length basin.now.rights) 0) }
     ensures closing { IfOk result (λ m. m.value.closing ≡ stored) }
 {
     let cuts = CutList::open(alloc, basin.rights.len() as u32, basin.nodes.len() as u32)?;

@@ -1,19 +1,22 @@
 //! One month more.
-ghost use Rattle.std.specs.Prelude.{ℕ, List, ◌≡◌, ◌+◌, ◌*◌, ◌^◌, ◌<◌, ◌≤◌, All, length, map, replicate};
+ghost use Rattle.std.specs.Prelude.{ℕ, List, ◌≡◌, ◌+◌, ◌*◌, ◌^◌, ◌<◌, ◌≤◌, ◌++◌, ◌∷◌, [], All, length, map, slice_index};
 ghost use Rattle.lag_returns.specs.Lags.{OnTheWay, return_rows};
 ghost use Rattle.lag_returns.specs.Lags as lag;
-ghost use Rattle.month_terms.specs.Terms.{FitsRecord, HasReturned};
+ghost use Rattle.month_terms.specs.Terms.{FitsRecord, HasReturned, HasUsed};
 ghost use Rattle.senior_hold.specs.MonthNetwork.{month_pushes};
 ghost use Rattle.water_model.specs.Valid.{IsValidBasin, IsSeriesOf};
 ghost use Rattle.water_model.specs.declared.types.MonthRecord.{MonthRecord};
+ghost use Rattle.month_fold.specs.Reaches.{HasDeliveries};
 ghost use Rattle.month_fold.specs.Runs.{RunSeen, StandsFor, HasMonths, IsNext};
 
 use lag_returns::Lags;
 use month_terms::month::{conclude, settle};
+use month_terms::used::use_month;
 use reservoirs::AreaTable;
 use senior_hold::Solver;
 use std::sync::ledger::Ledger;
 use steps::Steps;
+use water_model::rows::Rows;
 use water_model::types::{Basin, Inflows, MonthRecord};
 
 /// Writes what arrives at each node this month.
@@ -28,25 +31,49 @@ fn read_arrivals(basin: &Basin, lags: &Lags, returned: &mut [u64])
     lags.arrive(returned);
 }
 
-/// Writes what comes back to each node this month into its record.
-fn bring_back(basin: &Basin, lags: &Lags, month: &mut MonthRecord)
+/// Writes what comes back to each node this month into its record, and what each right used of its volume before.
+fn bring_back(basin: &Basin, lags: &Lags, used: &[u64], month: &mut MonthRecord)
     requires basin { IsValidBasin basin.now }
     requires rows { return_rows lags.now ≡ basin.now.returns }
     requires returned { length month.old.returned ≡ length basin.now.nodes }
+    requires used { length month.old.used ≡ length used.now }
     ensures each { (deliveries : List (List ℕ)) → lag.StandsFor lags.now basin.now.returns deliveries → HasReturned basin.now deliveries month.new.returned }
-    ensures rest { month.new ≡ record month.old { returned = month.new.returned } }
+    ensures used { month.new.used ≡ used.now }
+    ensures rest { month.new ≡ record month.old { returned = month.new.returned; used = month.new.used } }
     ensures length { length month.new.returned ≡ length month.old.returned }
 {
     read_arrivals(basin, lags, month.returned.as_mut_slice());
+    month.used.as_mut_slice().copy_from_slice(used);
+}
+
+/// Goes on to the month behind the one with this index and record: `used` is what each right with a volume used of it
+/// before the one month, and then before the other.
+pub fn use_volumes(basin: &Basin, index: u32, month: &MonthRecord, used: &mut Rows<u64>)
+    requires basin { IsValidBasin basin.now }
+    requires index { index < basin.now.months }
+    requires deliveries { HasDeliveries basin.now month.now }
+    requires used { length used.old ≡ length basin.now.rights }
+    requires little { (r : ℕ) → r < length basin.now.rights → slice_index used.old r ≤ 10 ^ 15 }
+    ensures { (deliveries : List (List ℕ)) → length deliveries ≡ index → HasUsed basin.now deliveries used.old →
+        HasUsed basin.now (deliveries ++ month.now.delivered ∷ []) used.new }
+{
+    use_month(
+        basin,
+        index,
+        month.delivered.as_slice(),
+        used.as_mut_slice(),
+    );
 }
 
 /// Solves the month with this index in a record that has the closing storage of the month before. `tables` has the area
-/// table of each reservoir. Each search that finds a walk ticks `searches` once. It takes no memory.
+/// table of each reservoir, and `used` what each right used of its volume before in the water year. Each search that
+/// finds a walk ticks `searches` once. It takes no memory.
 pub fn next_month<L: Ledger>(
     basin: &Basin,
     series: &Inflows,
     tables: &[AreaTable],
     lags: &Lags,
+    used: &[u64],
     solver: &mut Solver,
     index: u32,
     month: &mut MonthRecord,
@@ -58,18 +85,23 @@ pub fn next_month<L: Ledger>(
     requires solver { solver.old ≡ basin.now }
     requires index { index < basin.now.months }
     requires month { FitsRecord basin.now month.old }
-    requires used { month.old.used ≡ replicate (length basin.now.rights) 0 }
-    requires months { HasMonths (record { basin = basin.now; series = series.now; done = index; last = month.old; lags = lags.now }) }
+    requires months { HasMonths (record {
+      basin = basin.now;
+      series = series.now;
+      done = index;
+      last = month.old;
+      lags = lags.now;
+      used = used.now;
+    }) }
     ensures solver { solver.new ≡ solver.old }
     ensures fits { FitsRecord basin.now month.new }
-    ensures used { month.new.used ≡ month.old.used }
     ensures small { All (λ n. n ≤ 10 ^ 9) month.new.delivered }
     ensures next { (records : List MonthRecord) →
-        StandsFor (record { basin = basin.now; series = series.now; done = index; last = month.old; lags = lags.now }) records →
+        StandsFor (record { basin = basin.now; series = series.now; done = index; last = month.old; lags = lags.now; used = used.now }) records →
         IsNext basin.now series.now records month.new }
     ensures pushes { searches.new ≤ searches.old + month_pushes basin.now }
 {
-    bring_back(basin, lags, month);
+    bring_back(basin, lags, used, month);
     settle(basin, series, tables, index, month);
     month.cuts.clear();
     solver.solve_month(

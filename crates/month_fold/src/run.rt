@@ -8,8 +8,8 @@ ghost use Rattle.month_fold.specs.Reaches.{HaveReaches};
 ghost use Rattle.month_fold.specs.Runs.{StandsFor};
 
 use crate::blank::blank_month;
-use crate::next::next_month;
-use crate::resume::{on_the_way, stored_after};
+use crate::next::{next_month, use_volumes};
+use crate::resume::{on_the_way, stored_after, used_after};
 use lag_returns::Lags;
 use month_terms::evaporation::tables_of;
 use reservoirs::AreaTable;
@@ -18,12 +18,13 @@ use std::alloc::{AllocError, Global};
 use std::marker::Model;
 use std::sync::ledger::Ledger;
 use steps::Steps;
+use water_model::rows::Rows;
 use water_model::types::{Basin, Inflows, MonthRecord};
 
 /// A run of a basin with a series of inflows.
 ///
-/// It keeps the record of the last month and what is on its way, and no record before. It stands for all months that it
-/// went through: contracts say what holds for each list of records that it stands for.
+/// It keeps the record of the last month, what is on its way and what was used of volumes, and no record before. It
+/// stands for all months that it went through: contracts say what holds for each list of records that it stands for.
 #[derive(Drop)]
 pub struct Run<'b> {
     basin: &'b Basin,
@@ -31,6 +32,7 @@ pub struct Run<'b> {
     solver: Box<Solver<'b>>,
     tables: Vec<AreaTable>,
     lags: Lags,
+    used: Rows<u64>,
     month: Box<MonthRecord>,
     done: u32,
 }
@@ -86,6 +88,7 @@ impl<'b> Run<'b> {
         let solver = solver_of(alloc, basin)?;
         let tables = tables_of(alloc, basin)?;
         let lags = on_the_way(alloc, basin, months)?;
+        let used = used_after(alloc, basin, months)?;
         let stored = stored_after(alloc, basin, months)?;
         let month = blank_month(alloc, basin, stored)?;
         Ok(Run {
@@ -94,6 +97,7 @@ impl<'b> Run<'b> {
             solver,
             tables,
             lags,
+            used,
             month,
             done: months.len() as u32,
         })
@@ -130,12 +134,14 @@ impl<'b> Run<'b> {
             self.series,
             &self.tables,
             &self.lags,
+            self.used.as_slice(),
             &mut *self.solver,
             self.done,
             &mut *self.month,
             searches,
         );
         self.lags.month_done(self.month.delivered.as_slice());
+        use_volumes(self.basin, self.done, &self.month, &mut self.used);
         self.done += 1;
     }
 }

@@ -10,7 +10,7 @@ use Rattle.water_text.specs.declared.month.Month.{Month}
 use Rattle.water_model.specs.Lookups.{of_entry}
 use Rattle.water_model.specs.Basin.{instream_link}
 use Rattle.water_model.specs.Plans.{carry_of, delivery_by_link}
-use Rattle.water_model.specs.Hydrology.{run_month, inflow_at, returned_at, stored_at, want_in_month, want_of, used_of, want_by_volume, used_by_volume, cap_by_link, target_of, number_of, delivered_in, used_in_year}
+use Rattle.water_model.specs.Hydrology.{run_month, inflow_at, returned_at, stored_at, target_in_month, want_in_month, want_of, want_by_volume, volume_of, cap_by_link, number_of, delivered_in}
 use Rattle.water_model.specs.History.{IsPartialHistory, Follows, opening_after}
 use Rattle.water_model.specs.Valid.{IsValidBasin, IsValidRight, IsValidReservoir, IsSeriesOf}
 use Rattle.water_model.specs.declared.types.Basin.{Basin}
@@ -20,24 +20,15 @@ use Rattle.water_model.specs.declared.types.Right.{Right}
 use Rattle.water_model.proofs.Balance.{entry_holds}
 use Rattle.month_terms.proofs.Bounds.{entry_most, inflows_small, returns_small, first_stored, later_stored}
 
--- in a basin without volumes and series, nothing is used and the want is the number of the calendar month
-pub nothing_used : (b : Basin) (deliveries : List (List ℕ)) (r i : ℕ) → IsValidBasin b → r < length b.rights → used_of b deliveries r i ≡ 0
-nothing_used b deliveries r i valid l =
-    let entry = entry_holds (λ x. IsValidRight b x) b.rights r valid.rights l in
-    let at : used_of b deliveries r i ≡ used_by_volume entry.0.volume (used_in_year b deliveries r i) =
-    ap (λ o. unwrap_or (option_map (λ x. used_by_volume x.volume (used_in_year b deliveries r i)) o) 0) entry.1 in
-    at ∙ ap (λ v. used_by_volume v (used_in_year b deliveries r i)) entry.2.no_volume
-
+-- in a basin without series, the want by the month alone
 pub want_is : (b : Basin) (series : Inflows) (r i used : ℕ) → IsValidBasin b → r < length b.rights →
-    want_of b series r i used ≡ want_in_month b (run_month b i) r
+    want_of b series r i used ≡ want_in_month b (run_month b i) r used
 want_is b series r i used valid l =
     let entry = entry_holds (λ x. IsValidRight b x) b.rights r valid.rights l in
-    let volume : of_entry b.rights r (λ x. x.volume) None ≡ None = ap (λ o. unwrap_or (option_map (λ x. x.volume) o) None) entry.1 ∙ entry.2.no_volume in
     let number : of_entry b.rights r (λ x. number_of b series r i x) 0 ≡ of_entry b.rights r (λ x. slice_index x.want ((run_month b i).month - 1)) 0 =
     ap (λ o. unwrap_or (option_map (λ x. number_of b series r i x) o) 0) entry.1
     ∙ (plain entry.0 entry.2.no_series ∙ sym (ap (λ o. unwrap_or (option_map (λ x. slice_index x.want ((run_month b i).month - 1)) o) 0) entry.1)) in
-    ap (λ v. want_by_volume v (target_of b series r i) used) volume
-    ∙ ap (λ n. cap_by_link b (run_month b i) (instream_link b r) n) number
+    ap (λ n. want_by_volume (volume_of b r) (cap_by_link b (run_month b i) (instream_link b r) n) used) number
   where
     plain : (x : Right) → x.series ≡ false → number_of b series r i x ≡ slice_index x.want ((run_month b i).month - 1)
     plain x e = rw e refl
@@ -47,19 +38,27 @@ cap_most : (b : Basin) (month : Month) (o : Option ℕ) (n : ℕ) → cap_by_lin
 cap_most b month None n = omega arith
 cap_most b month (Some link) n = omega arith
 
-pub want_most : (b : Basin) (month : Month) (r : ℕ) → IsValidBasin b → r < length b.rights → want_in_month b month r ≤ 10 ^ 9
-want_most b month r valid l =
+volume_most : (v : Option ℕ) (target used : ℕ) → want_by_volume v target used ≤ target
+volume_most None target used = omega arith
+volume_most (Some volume) target used = omega arith
+
+pub want_most : (b : Basin) (month : Month) (r used : ℕ) → IsValidBasin b → r < length b.rights → want_in_month b month r used ≤ 10 ^ 9
+want_most b month r used valid l =
     let entry = entry_holds (λ x. IsValidRight b x) b.rights r valid.rights l in
     let at : of_entry b.rights r (λ x. slice_index x.want (month.month - 1)) 0 ≡ slice_index entry.0.want (month.month - 1) =
     ap (λ o. unwrap_or (option_map (λ x. slice_index x.want (month.month - 1)) o) 0) entry.1 in
     let most = entry_most entry.0.want (10 ^ 9) (month.month - 1) entry.2.want.each in
-    omega (arith, cap_most b month (instream_link b r) (of_entry b.rights r (λ x. slice_index x.want (month.month - 1)) 0))
+    omega (
+      arith,
+      volume_most (volume_of b r) (target_in_month b month r) used,
+      cap_most b month (instream_link b r) (of_entry b.rights r (λ x. slice_index x.want (month.month - 1)) 0),
+    )
 
-pub want_carried : (b : Basin) (month : Month) (r link : ℕ) → instream_link b r ≡ Some link → want_in_month b month r ≤ carry_of b month link
-want_carried b month r link e =
+pub want_carried : (b : Basin) (month : Month) (r used link : ℕ) → instream_link b r ≡ Some link → want_in_month b month r used ≤ carry_of b month link
+want_carried b month r used link e =
     let n : ℕ = of_entry b.rights r (λ x. slice_index x.want (month.month - 1)) 0 in
-    let at : want_in_month b month r ≡ min n (carry_of b month link) = ap (λ o. cap_by_link b month o n) e in
-    omega arith
+    let at : target_in_month b month r ≡ min n (carry_of b month link) = ap (λ o. cap_by_link b month o n) e in
+    omega (arith, volume_most (volume_of b r) (target_in_month b month r) used)
 
 -- what a record delivers is small, and so is what it takes
 pub record IsSmall (b : Basin) (m : MonthRecord) : Type 0 where
@@ -70,7 +69,8 @@ pub follows_small : (b : Basin) (series : Inflows) (before : List MonthRecord) (
 follows_small b series before m valid follows = record { takes = takes; delivered = delivered }
   where
     wanted : (r : ℕ) → r < length b.rights → slice_index m.want r ≤ 10 ^ 9
-    wanted r l = rw (follows.want r l ∙ want_is b series r m.index (slice_index m.used r) valid l) (want_most b (run_month b m.index) r valid l)
+    wanted r l =
+        rw (follows.want r l ∙ want_is b series r m.index (slice_index m.used r) valid l) (want_most b (run_month b m.index) r (slice_index m.used r) valid l)
 
     takes : (r : ℕ) → r < length b.rights → slice_index m.plan.take r ≤ 10 ^ 9
     takes r l = omega (arith, follows.plan.wants r l, wanted r l)

@@ -2,3 +2,4 @@ pub mod Adds
 pub mod Amounts
 pub mod Bounds
 pub mod BlankRecords
+pub mod WaterYears

@@ -9,4 +9,5 @@ pub mod evaporation;
 pub mod month;
 pub mod opening;
 pub mod supply;
+pub mod used;
 pub mod want;

@@ -12,8 +12,8 @@ use reservoirs::AreaTable;
 use water_model::types::{Basin, Inflows, MonthRecord};
 
 /// Settles in a record what is known of the month with this index before its plan: its opening, evaporation, supply and
-/// wants. The record still has the closing storage of the month before, and already what comes back to each node.
-/// `tables` has the area table of each reservoir.
+/// wants. The record still has the closing storage of the month before, and already what comes back to each node and what
+/// each right used of its volume. `tables` has the area table of each reservoir.
 pub fn settle(
     basin: &Basin,
     series: &Inflows,
@@ -57,7 +57,12 @@ pub fn settle(
         month.evaporated.as_slice(),
         month.supply.as_mut_slice(),
     );
-    read_wants(basin, calendar, month.want.as_mut_slice());
+    read_wants(
+        basin,
+        calendar,
+        month.used.as_slice(),
+        month.want.as_mut_slice(),
+    );
 }
 
 /// Concludes a record whose plan is found: what the plan delivers to each right, and what each reservoir closes with.

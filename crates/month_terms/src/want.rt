@@ -9,16 +9,18 @@ use water_model::calls::want_of;
 use water_model::types::{Basin, Plan, RightKind};
 use water_text::month::Month;
 
-/// Writes the want of each right in a month.
-pub fn read_wants(basin: &Basin, month: Month, want: &mut [u64])
+/// Writes the want of each right in a month. `used` is what each right used of its volume before in the water year.
+pub fn read_wants(basin: &Basin, month: Month, used: &[u64], want: &mut [u64])
     requires basin { IsValidBasin basin.now }
     requires month { IsMonth month }
+    requires used { length used.now ≡ length basin.now.rights }
     requires want { length want.old ≡ length basin.now.rights }
     ensures length { length want.new ≡ length want.old }
-    ensures each { (r : ℕ) → r < length basin.now.rights → slice_index want.new r ≡ want_in_month basin.now month r }
+    ensures each { (r : ℕ) → r < length basin.now.rights →
+        slice_index want.new r ≡ want_in_month basin.now month r (slice_index used.now r) }
 {
     for right in 0..basin.rights.len() {
-        want[right] = want_of(basin, right as u32, month);
+        want[right] = want_of(basin, right as u32, month, used[right]);
     }
 }
 

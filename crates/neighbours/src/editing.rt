@@ -66,6 +66,63 @@ fn shows_months_of_the_changed_series(rt: HostRuntime) -> Result<(), Fail> {
     expect(rt.alloc(), &WORDS, set, (Status::Done, SHOWN.1, ""))
 }
 
+/// The same user with a volume of 20 for the water year from March on, over four months.
+const BOUNDED: &str = r#"format = 2
+first_month = "1900-01"
+months = 4
+year_start = 3
+node = [{ name = "head", inflow = "gauged" }, { name = "mouth", outlet = true }]
+link = [{ name = "a", from = "head", to = "mouth" }]
+
+[[diversion]]
+name = "farm"
+node = "head"
+date = "1900-01-01"
+want = 12
+volume = 20
+"#;
+
+const BOUNDED_SERIES: &str =
+    "month,node,amount\n1900-01,head,4\n1900-02,head,10\n1900-03,head,19\n1900-04,head,5\n";
+
+/// What was used goes on from the months that were kept: a drier March leaves April more of the volume, and a wetter
+/// January leaves February less.
+const BOUNDED_SHOWN: (&str, &str) = (
+    "river-edit 1\nshow 1900-04\ninflow 1900-03 head 2\nshow 1900-04\ninflow 1900-01 head 12\nshow 1900-02\ndone\n",
+    r#"month 1900-04
+used farm 12
+flow a 0
+deliver farm 5 8
+out mouth 0
+call farm
+in head
+in mouth
+end
+month 1900-04
+used farm 2
+flow a 0
+deliver farm 5 12
+out mouth 0
+call farm
+in head
+in mouth
+end
+month 1900-02
+used farm 12
+flow a 2
+deliver farm 8 8
+out mouth 2
+end
+done 3
+"#,
+);
+
+#[test]
+fn goes_on_with_what_was_used(rt: HostRuntime) -> Result<(), Fail> {
+    let set = with_script(rt.alloc(), BOUNDED, BOUNDED_SERIES, BOUNDED_SHOWN.0)?;
+    expect(rt.alloc(), &WORDS, set, (Status::Done, BOUNDED_SHOWN.1, ""))
+}
+
 /// Scripts at fault, each behind `river-edit 1` unless it begins otherwise, and the line on err.
 const REFUSED: [(&str, &str); 30] = [
     ("", "script: EarlyEnd 1\n"),

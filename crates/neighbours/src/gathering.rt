@@ -93,6 +93,31 @@ fn counts_years_from_the_first_month(rt: HostRuntime) -> Result<(), Fail> {
     expect_ensemble(rt.alloc(), OCTOBER, 9, &[("top", [4, 12])], OCTOBER_TEXT)
 }
 
+/// A hundred units for the water year from July on. Each trace begins with nothing used: 120 come in its first year, in which two water
+/// years end and begin, and 100 in the second, in whose May and June the volume is used up.
+const BOUNDED: &str = r#"format = 2
+first_month = "1900-01"
+months = 24
+year_start = 7
+node = [{ name = "top", inflow = "gauged" }, { name = "mouth", outlet = true }]
+link = [{ name = "a", from = "top", to = "mouth" }]
+
+[[diversion]]
+name = "user"
+node = "top"
+date = "1900-01-01"
+want = 10
+volume = 100
+"#;
+
+const BOUNDED_TEXT: &str = "ensemble 1900-01 2\nright user\nyearly 100 2\nyearly 120 2\ndone 2\n";
+
+#[test]
+fn begins_each_trace_with_nothing_used(rt: HostRuntime) -> Result<(), Fail> {
+    let gauges = [("top", [12, 12])];
+    expect_ensemble(rt.alloc(), BOUNDED, 0, &gauges, BOUNDED_TEXT)
+}
+
 /// One year alone.
 const ONE_YEAR: &str = r#"format = 1
 first_month = "1900-01"

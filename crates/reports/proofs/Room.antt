@@ -78,7 +78,7 @@ pub wanted_small : (b : Basin) (series : Inflows) (records : List MonthRecord) (
 wanted_small b series records r valid partial l = sum_by-le (λ m. slice_index m.want r) (10 ^ 9) records (each_month _ b series records partial most)
   where
     most : (before : List MonthRecord) (m : MonthRecord) → IsPartialHistory b series before → Follows b series before m → slice_index m.want r ≤ 10 ^ 9
-    most before m front follows = rw (follows.want r l ∙ want_is b series r m.index (slice_index m.used r) valid l) (want_most b (run_month b m.index) r valid l)
+    most before m front follows = rw (follows.want r l ∙ want_is b series r m.index (slice_index m.used r) valid l) (want_most b (run_month b m.index) r (slice_index m.used r) valid l)
 
 pub delivered_small : (b : Basin) (series : Inflows) (records : List MonthRecord) (r : ℕ) → IsValidBasin b → IsPartialHistory b series records →
     delivered records r ≤ length records * 10 ^ 9

@@ -180,7 +180,7 @@ nothing_returns b deliveries n i h =
     at_row : (k : ℕ) → (row : ReturnRow) × (slice_get b.returns k ≡ Some row) → of_entry b.returns k (λ row. if row.node == n then returned_by row deliveries i else 0) 0 ≡ 0
     at_row k (row, is) = rw (is, none_passes (λ row. row.node == n) b.returns k row h is) refl
 
-nothing_used : (b : Basin) (deliveries : List (List ℕ)) (r i : ℕ) → of_entry b.rights r (λ right. is_some right.volume) false ≡ false → used_of b deliveries r i ≡ 0
+pub nothing_used : (b : Basin) (deliveries : List (List ℕ)) (r i : ℕ) → of_entry b.rights r (λ right. is_some right.volume) false ≡ false → used_of b deliveries r i ≡ 0
 nothing_used b deliveries r i h = by_right (slice_get b.rights r) refl
   where
     by_volume : (o : Option ℕ) → is_some o ≡ false → used_by_volume o (used_in_year b deliveries r i) ≡ 0

@@ -81,8 +81,11 @@ acyclic (suc (suc v)) l = absurd (omega arith)
 
 small_is_valid : IsValidBasin small
 small_is_valid = record {
-  format = refl;
-  year_start = refl;
+  format = record {
+    format = (omega arith, omega arith);
+    year_start = (omega arith, omega arith);
+    first = λ e. record { year_start = refl; volumes = λ k d l. absurd (omega arith) };
+  };
   run = record {
     first = record { year = (omega arith, omega arith); month = (omega arith, omega arith) };
     months = (omega arith, omega arith);

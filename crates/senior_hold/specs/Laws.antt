@@ -12,11 +12,11 @@ use Rattle.water_model.specs.declared.types.Basin.{Basin}
 use Rattle.water_model.specs.declared.types.Plan.{Plan}
 use Rattle.senior_hold.specs.Solved.{AreWants, IsSolved}
 
--- The wants of a valid basin in a month are wants that a solver may be given.
+-- The wants of a valid basin in a month, whatever was used of volumes, are wants that a solver may be given.
 abbrev pub WantsAreWithin : Type 0
 WantsAreWithin =
-    (b : Basin) (month : Month) (want : List ℕ) → IsValidBasin b → IsMonth month → length want ≡ length b.rights →
-    ((r : ℕ) → r < length b.rights → slice_index want r ≡ want_in_month b month r) → AreWants b month want
+    (b : Basin) (month : Month) (used want : List ℕ) → IsValidBasin b → IsMonth month → length want ≡ length b.rights →
+    ((r : ℕ) → r < length b.rights → slice_index want r ≡ want_in_month b month r (slice_index used r)) → AreWants b month want
 
 -- what a record of a month says of its plan and its cuts
 pub record HasPlanAndCuts (b : Basin) (month : Month) (supply want delivered : List ℕ) (p : Plan) (cuts : CutSets) : Type 0 where

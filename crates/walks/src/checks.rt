@@ -4,6 +4,7 @@ use crate::lakes::POOL;
 use crate::returning::RETURNS;
 use crate::rivers::{JUNIOR_DRY, OWN_BRANCHES, TROUT};
 use crate::running::SERVED;
+use crate::volumes::{DRY_FARM, MARCH, OCTOBER, TWO_VOLUMES};
 use basin_cli::Status;
 use stage::basins::{JUNIOR_SHORT, LAKE, NOTHING_WANTED};
 use stage::ordinary::{ORDINARY, ORDINARY_SERIES, ORDINARY_TEXT};
@@ -327,6 +328,31 @@ const OPENINGS: [Refuting; 12] = [
 #[test]
 fn refutes_callers_and_openings(rt: HostRuntime) -> Result<(), Fail> {
     for row in OPENINGS {
+        refutes(rt.alloc(), row)?;
+    }
+    Ok(())
+}
+
+/// What was used of volumes, and wants that are judged by it.
+const VOLUMES: [Refuting; 9] = [
+    (OCTOBER, 22, "used farm 24\n", "refuted 22 Used\n"),
+    (OCTOBER, 4, "used farm 1\n", "refuted 4 Used\n"),
+    // Where the water year begins, the volume is given back.
+    (MARCH, 16, "used farm 20\n", "refuted 16 Used\n"),
+    // What was wanted and not delivered isn't used.
+    (DRY_FARM, 13, "used farm 10\n", "refuted 13 Used\n"),
+    // The want is what is left of the volume.
+    (OCTOBER, 18, "deliver farm 5 10\n", "refuted 18 Delivery\n"),
+    (OCTOBER, 24, "deliver farm 0 10\n", "refuted 24 Delivery\n"),
+    // A line that is left out, moved, or of a right without a volume.
+    (OCTOBER, 10, "", "refuted 10 BadLine\n"),
+    (TWO_VOLUMES, 4, "used young 0\nused old 0\n", "refuted 4 BadLine\n"),
+    (TWO_VOLUMES, 6, "used last 0\nflow a 0\n", "refuted 6 BadLine\n"),
+];
+
+#[test]
+fn refutes_what_was_used(rt: HostRuntime) -> Result<(), Fail> {
+    for row in VOLUMES {
         refutes(rt.alloc(), row)?;
     }
     Ok(())

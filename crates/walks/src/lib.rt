@@ -21,3 +21,5 @@ mod returning;
 mod rivers;
 #[cfg(test)]
 mod running;
+#[cfg(test)]
+mod volumes;

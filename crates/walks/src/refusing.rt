@@ -28,7 +28,7 @@ fn many_nodes(alloc: Global) -> Result<Vec<u8>, Fail> {
 /// Files, and why they are refused.
 const REFUSED: [(&str, &str); 21] = [
     (
-        "format = 2\nfirst_month = \"1900-01\"\nmonths = 1\n[[node]]\nname = \"top\"\ninflow = 80\n[[node]]\nname = \"mid\"\n[[node]]\nname = \"mouth\"\noutlet = true\n[[link]]\nname = \"a\"\nfrom = \"top\"\nto = \"mid\"\n[[link]]\nname = \"b\"\nfrom = \"mid\"\nto = \"mouth\"\n[[diversion]]\nname = \"old\"\nnode = \"mid\"\ndate = \"1890-01-01\"\nwant = 60\n[[diversion]]\nname = \"new\"\nnode = \"top\"\ndate = \"1920-01-01\"\nwant = 50\n",
+        "format = 3\nfirst_month = \"1900-01\"\nmonths = 1\n[[node]]\nname = \"top\"\ninflow = 80\n[[node]]\nname = \"mid\"\n[[node]]\nname = \"mouth\"\noutlet = true\n[[link]]\nname = \"a\"\nfrom = \"top\"\nto = \"mid\"\n[[link]]\nname = \"b\"\nfrom = \"mid\"\nto = \"mouth\"\n[[diversion]]\nname = \"old\"\nnode = \"mid\"\ndate = \"1890-01-01\"\nwant = 60\n[[diversion]]\nname = \"new\"\nnode = \"top\"\ndate = \"1920-01-01\"\nwant = 50\n",
         "basin: OutOfRange top 0\n",
     ),
     (
@@ -113,6 +113,69 @@ const REFUSED: [(&str, &str); 21] = [
 #[test]
 fn names_what_is_refused(rt: HostRuntime) -> Result<(), Fail> {
     for (basin, line) in REFUSED {
+        refuses(rt.alloc(), files(rt.alloc(), basin, "")?, line)?;
+    }
+    Ok(())
+}
+
+/// Files with keys of format 2, and why they are refused.
+const REFUSED_VOLUMES: [(&str, &str); 12] = [
+    // The keys of format 2 are unknown in format 1, and where the format isn't that number.
+    (
+        "format = 1\nfirst_month = \"1900-01\"\nmonths = 5\nyear_start = 10\n[[node]]\nname = \"head\"\ninflow = 10\n[[node]]\nname = \"mouth\"\noutlet = true\n[[link]]\nname = \"a\"\nfrom = \"head\"\nto = \"mouth\"\n[[diversion]]\nname = \"farm\"\nnode = \"head\"\ndate = \"1900-01-01\"\nwant = 10\nvolume = 25\n",
+        "basin: UnknownKey top 0\n",
+    ),
+    (
+        "format = 1\nfirst_month = \"1900-01\"\nmonths = 5\n[[node]]\nname = \"head\"\ninflow = 10\n[[node]]\nname = \"mouth\"\noutlet = true\n[[link]]\nname = \"a\"\nfrom = \"head\"\nto = \"mouth\"\n[[diversion]]\nname = \"farm\"\nnode = \"head\"\ndate = \"1900-01-01\"\nwant = 10\nvolume = 25\n",
+        "basin: UnknownKey diversion 1\n",
+    ),
+    (
+        "format = 3\nfirst_month = \"1900-01\"\nmonths = 5\n[[node]]\nname = \"head\"\ninflow = 10\n[[node]]\nname = \"mouth\"\noutlet = true\n[[link]]\nname = \"a\"\nfrom = \"head\"\nto = \"mouth\"\n[[diversion]]\nname = \"farm\"\nnode = \"head\"\ndate = \"1900-01-01\"\nwant = 10\nvolume = 25\n",
+        "basin: UnknownKey diversion 1\n",
+    ),
+    (
+        "format = \"2\"\nfirst_month = \"1900-01\"\nmonths = 5\nyear_start = 10\n[[node]]\nname = \"head\"\ninflow = 10\n[[node]]\nname = \"mouth\"\noutlet = true\n[[link]]\nname = \"a\"\nfrom = \"head\"\nto = \"mouth\"\n[[diversion]]\nname = \"farm\"\nnode = \"head\"\ndate = \"1900-01-01\"\nwant = 10\n",
+        "basin: UnknownKey top 0\n",
+    ),
+    // And no other right has a volume.
+    (
+        "format = 2\nfirst_month = \"1900-01\"\nmonths = 5\n[[node]]\nname = \"head\"\ninflow = 10\n[[node]]\nname = \"mouth\"\noutlet = true\n[[link]]\nname = \"a\"\nfrom = \"head\"\nto = \"mouth\"\n[[instream]]\nname = \"farm\"\nlink = \"a\"\ndate = \"1900-01-01\"\nwant = 10\nvolume = 25\n",
+        "basin: UnknownKey instream 1\n",
+    ),
+    // Their ranges and kinds.
+    (
+        "format = 2\nfirst_month = \"1900-01\"\nmonths = 5\nyear_start = 0\n[[node]]\nname = \"head\"\ninflow = 10\n[[node]]\nname = \"mouth\"\noutlet = true\n[[link]]\nname = \"a\"\nfrom = \"head\"\nto = \"mouth\"\n[[diversion]]\nname = \"farm\"\nnode = \"head\"\ndate = \"1900-01-01\"\nwant = 10\n",
+        "basin: OutOfRange top 0\n",
+    ),
+    (
+        "format = 2\nfirst_month = \"1900-01\"\nmonths = 5\nyear_start = 13\n[[node]]\nname = \"head\"\ninflow = 10\n[[node]]\nname = \"mouth\"\noutlet = true\n[[link]]\nname = \"a\"\nfrom = \"head\"\nto = \"mouth\"\n[[diversion]]\nname = \"farm\"\nnode = \"head\"\ndate = \"1900-01-01\"\nwant = 10\n",
+        "basin: OutOfRange top 0\n",
+    ),
+    (
+        "format = 2\nfirst_month = \"1900-01\"\nmonths = 5\nyear_start = \"10\"\n[[node]]\nname = \"head\"\ninflow = 10\n[[node]]\nname = \"mouth\"\noutlet = true\n[[link]]\nname = \"a\"\nfrom = \"head\"\nto = \"mouth\"\n[[diversion]]\nname = \"farm\"\nnode = \"head\"\ndate = \"1900-01-01\"\nwant = 10\n",
+        "basin: WrongKind top 0\n",
+    ),
+    (
+        "format = 2\nfirst_month = \"1900-01\"\nmonths = 5\n[[node]]\nname = \"head\"\ninflow = 10\n[[node]]\nname = \"mouth\"\noutlet = true\n[[link]]\nname = \"a\"\nfrom = \"head\"\nto = \"mouth\"\n[[diversion]]\nname = \"farm\"\nnode = \"head\"\ndate = \"1900-01-01\"\nwant = 10\nvolume = 16000000001\n",
+        "basin: OutOfRange diversion 1\n",
+    ),
+    (
+        "format = 2\nfirst_month = \"1900-01\"\nmonths = 5\n[[node]]\nname = \"head\"\ninflow = 10\n[[node]]\nname = \"mouth\"\noutlet = true\n[[link]]\nname = \"a\"\nfrom = \"head\"\nto = \"mouth\"\n[[diversion]]\nname = \"farm\"\nnode = \"head\"\ndate = \"1900-01-01\"\nwant = 10\nvolume = -1\n",
+        "basin: OutOfRange diversion 1\n",
+    ),
+    (
+        "format = 2\nfirst_month = \"1900-01\"\nmonths = 5\n[[node]]\nname = \"head\"\ninflow = 10\n[[node]]\nname = \"mouth\"\noutlet = true\n[[link]]\nname = \"a\"\nfrom = \"head\"\nto = \"mouth\"\n[[diversion]]\nname = \"farm\"\nnode = \"head\"\ndate = \"1900-01-01\"\nwant = 10\nvolume = [1, 2]\n",
+        "basin: WrongKind diversion 1\n",
+    ),
+    (
+        "format = 0\nfirst_month = \"1900-01\"\nmonths = 5\n[[node]]\nname = \"head\"\ninflow = 10\n[[node]]\nname = \"mouth\"\noutlet = true\n[[link]]\nname = \"a\"\nfrom = \"head\"\nto = \"mouth\"\n[[diversion]]\nname = \"farm\"\nnode = \"head\"\ndate = \"1900-01-01\"\nwant = 10\n",
+        "basin: OutOfRange top 0\n",
+    ),
+];
+
+#[test]
+fn names_what_is_refused_of_volumes(rt: HostRuntime) -> Result<(), Fail> {
+    for (basin, line) in REFUSED_VOLUMES {
         refuses(rt.alloc(), files(rt.alloc(), basin, "")?, line)?;
     }
     Ok(())

@@ -3,6 +3,7 @@ use crate::canals::{CANAL_1900, CANAL_2000, CANAL_2001, CANAL_INSTREAM, TWO_CANA
 use crate::lakes::{EVAPORATING, POOL};
 use crate::returning::{RETURNS, TWO_LAGS};
 use crate::rivers::{ALL_DRY, JUNIOR_DRY, ONE_DATE, OWN_BRANCHES, TROUT, TWO_INSTREAM};
+use crate::volumes::{DRY_FARM, MARCH, NO_VOLUME, OCTOBER, PLAIN, TWO_VOLUMES};
 use basin_cli::Status;
 use stage::basins::{JUNIOR_SHORT, LAKE, NOTHING_WANTED, RIVER};
 use stage::{call, expect, files};
@@ -34,8 +35,8 @@ fn writes_the_run_of_the_river(rt: HostRuntime) -> Result<(), Fail> {
     Ok(())
 }
 
-/// Basins of diversions, instream rights, lakes and returns, and their whole texts.
-pub const SERVED: [(&str, &str); 18] = [
+/// Basins of diversions, instream rights, lakes, returns and volumes, and their whole texts.
+pub const SERVED: [(&str, &str); 24] = [
     JUNIOR_SHORT,
     JUNIOR_DRY,
     ALL_DRY,
@@ -54,6 +55,12 @@ pub const SERVED: [(&str, &str); 18] = [
     NOTHING_WANTED,
     EVAPORATING,
     TWO_LAGS,
+    OCTOBER,
+    MARCH,
+    DRY_FARM,
+    TWO_VOLUMES,
+    NO_VOLUME,
+    PLAIN,
 ];
 
 #[test]

@@ -1,5 +1,5 @@
 -- Inflow, evaporation, returns, supply and want.
-use Rattle.std.specs.Prelude.{ℕ, ◌+◌, ◌-◌, ◌*◌, ◌/◌, min, List, [], ◌∷◌, length, slice_index, Option, Some, None, ◌==◌, nat_lt, if◌then◌else◌}
+use Rattle.std.specs.Prelude.{ℕ, ◌+◌, ◌-◌, ◌*◌, ◌/◌, min, List, [], ◌∷◌, length, slice_index, Option, Some, None, Bool, ◌==◌, nat_lt, if◌then◌else◌}
 use Rattle.std.specs.List.{position_or_len}
 use Rattle.place_sums.specs.Sums.{total, total_where}
 use Rattle.water_model.specs.Lookups.{of_entry}
@@ -89,15 +89,18 @@ abbrev pub target_of : Basin → Inflows → ℕ → ℕ → ℕ
 target_of b series right i =
     cap_by_link b (run_month b i) (instream_link b right) (of_entry b.rights right (λ r. number_of b series right i r) 0)
 
--- the want of a right in a month of a basin without volumes or series: its number for the calendar month, and on a
--- canal at most what the canal carries
-abbrev pub want_in_month : Basin → Month → ℕ → ℕ
-want_in_month b month right =
+-- the same in a basin without series, by the month alone
+abbrev pub target_in_month : Basin → Month → ℕ → ℕ
+target_in_month b month right =
     cap_by_link b month (instream_link b right) (of_entry b.rights right (λ r. slice_index r.want (month.month - 1)) 0)
 
 -- the water year of a month, counted from year 0
 abbrev pub water_year : Basin → ℕ → ℕ
 water_year b i = let m = run_month b i in if nat_lt m.month b.year_start then m.year else m.year + 1
+
+-- whether a water year begins with a month
+abbrev pub begins_year : Basin → ℕ → Bool
+begins_year b i = (run_month b i).month == b.year_start
 
 -- what a right with a volume used before month i in its water year, and 0 for every other right
 abbrev pub used_in_year : Basin → List (List ℕ) → ℕ → ℕ → ℕ
@@ -117,6 +120,12 @@ abbrev pub want_by_volume : Option ℕ → ℕ → ℕ → ℕ
 want_by_volume None target used = target
 want_by_volume (Some volume) target used = min target (volume - used)
 
+abbrev pub volume_of : Basin → ℕ → Option ℕ
+volume_of b right = of_entry b.rights right (λ r. r.volume) None
+
 abbrev pub want_of : Basin → Inflows → ℕ → ℕ → ℕ → ℕ
-want_of b series right i used =
-    want_by_volume (of_entry b.rights right (λ r. r.volume) None) (target_of b series right i) used
+want_of b series right i used = want_by_volume (volume_of b right) (target_of b series right i) used
+
+-- the same in a basin without series, by the month alone
+abbrev pub want_in_month : Basin → Month → ℕ → ℕ → ℕ
+want_in_month b month right used = want_by_volume (volume_of b right) (target_in_month b month right) used

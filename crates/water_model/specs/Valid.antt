@@ -1,5 +1,5 @@
 -- Valid basins, and the inflows that fit one.
-use Rattle.std.specs.Prelude.{◌≡◌, ◌≢◌, ℕ, ◌+◌, ◌*◌, ◌^◌, ◌<◌, ◌≤◌, ◌==◌, List, [], ◌∷◌, length, All, IsTrue, replicate, None, Bool, true, false, filter}
+use Rattle.std.specs.Prelude.{◌≡◌, ◌≢◌, ℕ, ◌+◌, ◌*◌, ◌^◌, ◌<◌, ◌≤◌, ◌==◌, List, [], ◌∷◌, length, All, IsTrue, replicate, Option, Some, None, Bool, true, false, filter}
 use Rattle.place_sums.specs.Sums.{count_where}
 use Rattle.water_text.specs.Names.{is_name}
 use Rattle.water_text.specs.Months.{IsMonth}
@@ -74,14 +74,6 @@ HasValidPlace b (kind.Diversion node) = node < length b.nodes
 HasValidPlace b (kind.Instream link) = link < length b.links
 HasValidPlace b (kind.Zone reservoir level) = (reservoir < length b.reservoirs) × (1 ≤ level) × (level ≤ 16)
 
-pub record IsValidRight (b : Basin) (r : Right) : Type 0 where
-  pub name : IsTrue (is_name r.name)
-  pub order : r.order ≤ 1000000
-  pub place : HasValidPlace b r.kind
-  pub want : IsMonthly (10 ^ 9) r.want
-  pub no_volume : r.volume ≡ None
-  pub no_series : r.series ≡ false
-
 abbrev pub is_diversion_kind : RightKind → Bool
 is_diversion_kind (kind.Diversion node) = true
 is_diversion_kind (kind.Instream link) = false
@@ -89,6 +81,19 @@ is_diversion_kind (kind.Zone reservoir level) = false
 
 abbrev pub is_diversion : Basin → ℕ → Bool
 is_diversion b right = of_entry b.rights right (λ r. is_diversion_kind r.kind) false
+
+-- a diversion may have a volume, and no other right has one
+abbrev pub IsValidVolume : RightKind → Option ℕ → Type 0
+IsValidVolume kind None = Unit {0}
+IsValidVolume kind (Some volume) = (is_diversion_kind kind ≡ true) × (volume ≤ 16000000000)
+
+pub record IsValidRight (b : Basin) (r : Right) : Type 0 where
+  pub name : IsTrue (is_name r.name)
+  pub order : r.order ≤ 1000000
+  pub place : HasValidPlace b r.kind
+  pub want : IsMonthly (10 ^ 9) r.want
+  pub volume : IsValidVolume r.kind r.volume
+  pub no_series : r.series ≡ false
 
 -- the order of the kinds of rights in a basin: all diversions, then all instream rights, then all zones
 abbrev pub rank_of_kind : RightKind → ℕ
@@ -132,10 +137,20 @@ pub record HasFewEntries (b : Basin) : Type 0 where
   pub rights : length b.rights ≤ 2000
   pub rows : (right : ℕ) → right < length b.rights → rows_of b right ≤ 8
 
--- a valid basin of format 1: its entries by themselves, their names and numbers, its network and its rights
-pub record IsValidBasin (b : Basin) : Type 0 where
-  pub format : b.format ≡ 1
+-- a basin of format 1: water years begin with October, and no right has a volume
+pub record IsFirstFormat (b : Basin) : Type 0 where
   pub year_start : b.year_start ≡ 10
+  pub volumes : All (λ r. r.volume ≡ None) b.rights
+
+-- a basin of format 1 or 2
+pub record HasValidFormat (b : Basin) : Type 0 where
+  pub format : (1 ≤ b.format) × (b.format ≤ 2)
+  pub year_start : (1 ≤ b.year_start) × (b.year_start ≤ 12)
+  pub first : b.format ≡ 1 → IsFirstFormat b
+
+-- a valid basin: its format, its entries by themselves, their names and numbers, its network and its rights
+pub record IsValidBasin (b : Basin) : Type 0 where
+  pub format : HasValidFormat b
   pub run : IsValidRun b
   pub few : HasFewEntries b
   pub nodes : All IsValidNode b.nodes

@@ -4,7 +4,7 @@ ghost use Rattle.std.specs.List.Sorted.{IsStrictlyIncreasing};
 ghost use Rattle.water_text.specs.Months.{IsMonth};
 ghost use Rattle.water_model.specs.Basin.{taking_node};
 ghost use Rattle.water_model.specs.Plans.{carry_of, carry_of_kind};
-ghost use Rattle.water_model.specs.Hydrology.{inflow_at, in_year, place_in, want_in_month};
+ghost use Rattle.water_model.specs.Hydrology.{begins_year, inflow_at, in_year, place_in, target_in_month, want_in_month};
 ghost use Rattle.water_model.specs.Valid.{IsValidBasin, IsValidCarry, IsSeriesOf};
 
 use crate::types::{Basin, Carry, Inflow, Inflows, RightKind};
@@ -39,13 +39,13 @@ pub fn carry_of(basin: &Basin, link: u32, month: Month) -> u64
     carry_in_month(&basin.links[link as usize].carry, month)
 }
 
-/// The want of a right in a month, in units of 1,000 cubic metres: its number for the calendar month, and of an instream
-/// right on a canal at most what the canal carries, because the canal can't hold more.
-pub fn want_of(basin: &Basin, right: u32, month: Month) -> u64
+/// The target of a right in a month: its number for the calendar month, and of an instream right on a canal at most what
+/// the canal carries, because the canal can't hold more.
+fn target_of(basin: &Basin, right: u32, month: Month) -> u64
     requires basin { IsValidBasin basin.now }
     requires month { IsMonth month }
     requires right { right < length basin.now.rights }
-    ensures { result ≡ want_in_month basin.now month right }
+    ensures { result ≡ target_in_month basin.now month right }
 {
     let entry = &basin.rights[right as usize];
     let number = entry.want[month.month as usize - 1];
@@ -53,6 +53,21 @@ pub fn want_of(basin: &Basin, right: u32, month: Month) -> u64
         RightKind::Instream { link } => number.min(carry_of(basin, link, month)),
         RightKind::Diversion { .. } => number,
         RightKind::Zone { .. } => number,
+    }
+}
+
+/// The want of a right in a month, in units of 1,000 cubic metres: its target, and of a diversion with a volume at most
+/// what is left of the volume. `used` is what the right used of it before in the water year.
+pub fn want_of(basin: &Basin, right: u32, month: Month, used: u64) -> u64
+    requires basin { IsValidBasin basin.now }
+    requires month { IsMonth month }
+    requires right { right < length basin.now.rights }
+    ensures { result ≡ want_in_month basin.now month right used }
+{
+    let target = target_of(basin, right, month);
+    match basin.rights[right as usize].volume {
+        Some(volume) => target.min(volume.saturating_sub(used)),
+        None => target,
     }
 }
 
@@ -77,6 +92,14 @@ fn place_in_year(basin: &Basin, index: u32) -> usize
     ensures twelve { result < 12 }
 {
     ((u64::from(basin.first.month) - 1 + u64::from(index)) % 12) as usize
+}
+
+/// Whether a water year begins with the month with this index. Indices past the run's last month count on.
+pub fn begins_year(basin: &Basin, index: u32) -> bool
+    requires basin { IsValidBasin basin.now }
+    ensures { result ≡ begins_year basin.now index }
+{
+    place_in_year(basin, index) + 1 == usize::from(basin.year_start)
 }
 
 /// The place of a node in a list of nodes in rising order, or the list's length where it isn't there.

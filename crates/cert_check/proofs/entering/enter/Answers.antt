@@ -1,14 +1,18 @@
-use Rattle.std.proofs.Common.{◌≡◌, ℕ, ◌<◌, refl, ap, subst, ◌∙◌, Some, None, List, Bool, false, map, arith}
+use Rattle.std.proofs.Common.{◌≡◌, ℕ, ◌^◌, ◌<◌, length, refl, sym, ap, subst, ◌∙◌, Some, None, List, Bool, false, map, arith}
 use Rattle.std.specs.Prelude.{Option, IsSome}
+use Rattle.std.proofs.lemmas.List.{length-map}
+use Rattle.month_terms.proofs.Amounts.{deliveries_small}
+use Rattle.month_terms.proofs.WaterYears.{used_most}
 use Rattle.water_model.specs.CutSets.{set_of}
 use Rattle.water_model.specs.Entries.{count_in}
 use Rattle.water_model.specs.OfBasin.{IsOfBasin}
 use Rattle.water_model.specs.Quantities.{space_of}
+use Rattle.water_model.specs.declared.types.MonthRecord.{MonthRecord}
 use Rattle.result_reader.specs.Telling.{Told, tell}
 use Rattle.cert_check.specs.Checking.{first_row}
 use Rattle.cert_check.specs.Coming.{is_before_called}
 use Rattle.cert_check.specs.Keeping.{Keeps}
-use Rattle.cert_check.proofs.Entries.{along, keeps_amount, keeps_month, keeps_next, keeps_end}
+use Rattle.cert_check.proofs.Entries.{along, keeps_amount, keeps_delivery, keeps_month, keeps_next, keeps_end}
 use Rattle.cert_check.proofs.SetEntries.{keeps_call, keeps_stray, keeps_member}
 use Rattle.cert_check.proofs.Fitting.{amounts_sized}
 use Rattle.cert_check.proofs.entering.enter.Goals as goal
@@ -35,6 +39,11 @@ returns-in-Month c = λ t k m good.
     along c.args.means.now.basin.now c.args.means.now.series.now t _ _ _ _ c.in-Month.is (c.enter_month.ensures.rest ∙ ap (λ n. record c.args.account.now { month = n; calling = None; has_supply = false; has_closes = false; passed = 0; answered = 0 }) c.enter_month.ensures.month)
     (keeps_month c.args.means.now.basin.now c.args.means.now.series.now c.args.account.now t c.in-Month.month (subst (λ i. IsOfBasin c.args.means.now.basin.now i) c.in-Month.is c.requires.item) k)
 
+pub returns-in-Deliver : goal.returns-in-Deliver
+returns-in-Deliver c = λ t k m good.
+    along c.args.means.now.basin.now c.args.means.now.series.now t _ _ _ _ c.in-Deliver.is c.enter_delivery.ensures
+    (keeps_delivery c.args.means.now.basin.now c.args.means.now.series.now c.args.account.now t c.in-Deliver.right c.in-Deliver.amount c.in-Deliver.want (m.uncalled (ap is_before_called c.in-Deliver.is)) k)
+
 pub returns-in-Call : goal.returns-in-Call
 returns-in-Call c = λ t k m good.
     along c.args.means.now.basin.now c.args.means.now.series.now t _ _ _ _ c.in-Call.is c.enter_call.ensures
@@ -59,8 +68,24 @@ returns-in-Called c = λ t k m good.
     along c.args.means.now.basin.now c.args.means.now.series.now t _ _ _ _ c.in-Called.is c.enter_called.ensures.2 (keeps_next c.args.means.now.basin.now c.args.means.now.series.now c.args.account.now t c.in-Called.right c.in-Called.by c.enter_called.ensures.0 k
     (subst (λ i. first_row c.args.means.now.basin.now c.args.means.now.series.now t i ≡ None) c.in-Called.is good) c.enter_called.ensures.1)
 
+-- what was used is little, as all that was delivered is
+pub enter_end-requires-clause-little : goal.enter_end-requires-clause-little
+enter_end-requires-clause-little c = λ r l.
+    let told = c.requires.awaits.told in
+    let partial = c.requires.awaits.comes.partial in
+    omega (
+      arith,
+      c.requires.awaits.keeps.used.each r l,
+      used_most c.args.means.now.basin.now (map (λ n. n.delivered) told.months) r (length (map (λ (n : MonthRecord). n.delivered) told.months)) (10 ^ 9)
+          (deliveries_small c.args.means.now.basin.now c.args.means.now.series.now told.months c.requires.means.valid partial r),
+      length-map told.months (λ (n : MonthRecord). n.delivered),
+      partial.within,
+      c.requires.means.valid.run.months.1,
+    )
+
 pub returns-in-End : goal.returns-in-End
 returns-in-End c = λ t k m good.
     along c.args.means.now.basin.now c.args.means.now.series.now t _ _ _ _ c.in-End.is c.enter_end.ensures.rest
-    (keeps_end c.args.means.now.basin.now c.args.means.now.series.now c.args.account.now t c.enter_end.new.account.lags c.enter_end.new.account.comes (c.enter_end.ensures.lags (map (λ n. n.delivered) t.months) k.lags)
-    (c.enter_end.ensures.comes (map (λ n. n.delivered) t.months) k.lags) k)
+    (keeps_end c.args.means.now.basin.now c.args.means.now.series.now c.args.account.now t c.enter_end.new.account.lags c.enter_end.new.account.comes c.enter_end.new.account.used (c.enter_end.ensures.lags (map (λ n. n.delivered) t.months) k.lags)
+    (c.enter_end.ensures.comes (map (λ n. n.delivered) t.months) k.lags)
+    (c.enter_end.ensures.used (map (λ n. n.delivered) t.months) (length-map t.months (λ n. n.delivered) ∙ sym k.done) k.used) k)

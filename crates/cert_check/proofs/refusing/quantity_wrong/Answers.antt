@@ -1,6 +1,7 @@
-use Rattle.std.proofs.Common.{◌<◌, length, not, sym, ap, subst, map}
-use Rattle.std.specs.Prelude.{◌==◌}
-use Rattle.month_terms.proofs.Amounts.{nothing_used}
+use Rattle.std.proofs.Common.{◌<◌, ◌∙◌, List, ℕ, length, not, sym, ap, subst, map}
+use Rattle.std.specs.Prelude.{◌==◌, slice_index}
+use Rattle.std.proofs.lemmas.List.{length-map}
+use Rattle.water_model.specs.Hydrology.{used_of}
 use Rattle.water_model.specs.Entries.{count_in}
 use Rattle.water_model.specs.Quantities.{space_of}
 use Rattle.cert_check.proofs.refusing.quantity_wrong.Goals as goal
@@ -13,9 +14,11 @@ pub returns-in-Used : goal.returns-in-Used
 returns-in-Used c = λ t k way.
     let right : c.args.entry < length c.args.means.now.basin.now.rights =
     subst (λ q. c.args.entry < count_in (space_of q) c.args.means.now.basin.now) c.in-Used.is c.requires.entry in
-    rw c.in-Used.is (ap (λ n. not (c.args.amount == n))
-    (sym (nothing_used c.args.means.now.basin.now (map (λ m. m.delivered) t.months) c.args.entry t.now.index
-    c.requires.means.valid right)))
+    rw c.in-Used.is (c.differs-in-Used.ensures ∙ ap (λ n. not (c.args.amount == n))
+    (ap (λ (xs : List ℕ). slice_index xs c.args.entry) c.as_slice-in-Used.ensures
+    ∙ (k.used.each c.args.entry right
+    ∙ ap (used_of c.args.means.now.basin.now (map (λ m. m.delivered) t.months) c.args.entry)
+    (length-map t.months (λ m. m.delivered) ∙ sym way.index))))
 
 pub returns-in-Flow : goal.returns-in-Flow
 returns-in-Flow c = λ t k way.

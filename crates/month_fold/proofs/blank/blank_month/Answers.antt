@@ -1,4 +1,4 @@
-use Rattle.std.proofs.Common.{◌≡◌, ◌∙◌, sym, ap, subst}
+use Rattle.std.proofs.Common.{◌≡◌, ◌∙◌, sym, subst}
 use Rattle.month_terms.specs.Blank.{blank_record}
 use Rattle.month_terms.specs.Terms.{FitsRecord}
 use Rattle.month_terms.proofs.BlankRecords.{blank_fits, fits_with_closing}
@@ -12,6 +12,3 @@ returns-clause-fits c =
     (subst (FitsRecord c.args.basin.now) (sym same) (blank_fits c.args.basin.now c.in_ok-cuts.cuts
     (no_sets_count _ _ _ _ c.in_ok-cuts.ensures c.len.ensures) (no_sets_nodes _ _ _ _ c.in_ok-cuts.ensures c.len-2.ensures)))
     c.requires.stored
-
-pub returns-clause-used : goal.returns-clause-used
-returns-clause-used c = ap (λ m. m.used) (c.deref_mut.ensures.value ∙ c.in_ok-month.ensures)
