@@ -123,7 +123,7 @@ fn use_places<'a>(
 impl<'a> Document<'a> {
     ghost use Rattle.basin_tree.specs.Documents.{tree_of};
 
-    /// The document with this top table.
+    /// The document with this top table. Its maps of names take memory, and AllocError comes where that is lacking.
     pub fn of(alloc: Global, tree: &'a Table) -> Result<Document<'a>, AllocError>
         ensures { IfOk result (λ document. tree_of document ≡ table_view tree.now) }
     {

@@ -100,7 +100,8 @@ fn read_behind(
 }
 
 /// What a script asks for, line by line between its first and its last, or its first line at fault. No line behind that is
-/// looked at. A name is looked up in a map.
+/// looked at. A name is looked up in a map. Maps and edits take memory: OutOfMemory comes only where that is lacking, and
+/// says nothing of the text.
 pub fn read_script(
     alloc: Global,
     basin: &Basin,

@@ -109,6 +109,9 @@ fn put_answers<K: Sink, L: Ledger>(
 /// Answers a script: puts for each `show` the lines of its month, of the series as it is by then, and at the end the number
 /// of months shown. Kept months before a change are not solved again: the searches push at most so often as the cost of
 /// the script in months allows.
+///
+/// Kept months take memory. OutOfMemory comes where that is lacking, and the whole lines of the months shown so far stand
+/// then; SinkFailed comes only where the sink counted a fault, and a front of the answer stands.
 pub fn put_shows<K: Sink, L: Ledger>(
     alloc: Global,
     basin: &Basin,

@@ -10,7 +10,7 @@ use std::alloc::{AllocError, Global};
 use water_model::types::Basin;
 use water_text::month::Month;
 
-/// The area table of each reservoir.
+/// The area table of each reservoir. AllocError comes where memory is lacking.
 pub fn tables_of(alloc: Global, basin: &Basin) -> Result<Vec<AreaTable>, AllocError>
     requires { IsValidBasin basin.now }
     ensures { IfOk result (λ tables. tables.items ≡ map (λ v. v.area) basin.now.reservoirs) }

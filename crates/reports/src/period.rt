@@ -18,6 +18,9 @@ use water_edge::Sink;
 use water_model::types::{Basin, Inflows};
 
 /// Runs all months of a basin with a series, and then puts the report of the run.
+///
+/// It takes memory before the first month is solved, and none behind that. OutOfMemory comes where that is lacking, and
+/// nothing was solved or put then; SinkFailed comes only where the sink counted a fault, and a front of the text stands.
 pub fn period_report<K: Sink, L: Ledger>(
     alloc: Global,
     basin: &Basin,

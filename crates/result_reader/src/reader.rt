@@ -58,6 +58,7 @@ fn most_lines(basin: &Basin, dues: &[Shape]) -> u64
 
 impl<'b> ResultReader<'b> {
     /// A reader that accepted no line yet, and may accept at most 5 * 10^9. The roll is that of the basin's rights.
+    /// AllocError comes where memory is lacking; no other call takes any.
     pub fn open(
         alloc: Global,
         basin: &'b Basin,

@@ -12,6 +12,7 @@ pub record ChainsFrom (rights : List Right) (first_on next_on : List (Option ℕ
   pub firsts : (link : ℕ) → IsNextOn rights link at (get_or first_on link None)
   pub nexts : (right link : ℕ) → at ≤ right → right < length rights → link_in rights right ≡ Some link →
       IsNextOn rights link (right + 1) (get_or next_on right None)
+  pub others : (right : ℕ) → link_in rights right ≡ None → get_or next_on right None ≡ None
 
 -- the answer from the place after one that is not on the link
 skip : (rights : List Right) (link k : ℕ) (o : Option ℕ) → link_in rights k ≢ Some link → IsNextOn rights link (k + 1) o → IsNextOn rights link k o
@@ -38,8 +39,15 @@ chains-more rights first_on next_on at k link further after below on is h = reco
   links = λ right its e. let b = h.links right its e in omega (arith, b, length-set first_on link (Some k));
   firsts = first;
   nexts = next;
+  others = λ right e. elim (cases_eq right k) [
+    | inl same ↦ absurd (none_or_link (link_in rights right) e (ap (link_in rights) same ∙ on))
+    | inr other ↦ get_or-set_other next_on k right further None other ∙ h.others right e
+  ];
 }
   where
+    none_or_link : (o : Option ℕ) → o ≡ None → o ≡ Some link → ⊥
+    none_or_link o none some = cc
+
     same_link : (its : ℕ) → link_in rights k ≡ Some its → its ≡ link
     same_link its e = let both : Some its ≡ Some link = sym e ∙ on in cc
 

@@ -113,7 +113,8 @@ impl Roll {
         self.first_on.get(link as usize).copied().flatten()
     }
 
-    /// The next instream right on the link of an instream right, or `None` where there is none.
+    /// The next instream right on the link of an instream right, or `None` where there is none, or the right is no instream
+    /// right.
     pub fn next_on(&self, right: u32) -> Option<u32>
         requires { right < length self.now.wants }
         ensures { result ≡ slice_index_or self.now.next_on right None }

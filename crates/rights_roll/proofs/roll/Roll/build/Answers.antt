@@ -30,6 +30,7 @@ returns-clause-ok c = record {
   wants = c.in_ok-wants.ensures;
   firsts = c.in_ok-first_on.ensures.firsts;
   nexts = c.in_ok-first_on.ensures.nexts;
+  others = c.in_ok-first_on.ensures.others;
 }
 
 pub returns-clause-sound : goal.returns-clause-sound
