@@ -87,9 +87,13 @@ behind_told None o r b series Q P fits from_basin from_series known holds = tt
 behind_told (Some bytes) None r b series Q P fits from_basin from_series known holds = (from_basin.good, tt)
 behind_told (Some bytes) (Some s) None b series Q P fits from_basin from_series known holds =
     (from_basin.good, (good_series bytes s b series from_basin from_series, tt))
-behind_told (Some bytes) (Some s) (Some text) b series Q P fits from_basin from_series known holds =
-    (from_basin.good, (good_series bytes s b series from_basin from_series,
-    holds bytes s text (spelled_by bytes s b series fits from_basin from_series) known))
+behind_told (Some bytes) (Some s) (Some text) b series Q P fits from_basin from_series known holds = (
+  from_basin.good,
+  (
+    good_series bytes s b series from_basin from_series,
+    holds bytes s text (spelled_by bytes s b series fits from_basin from_series) known,
+  ),
+)
 
 -- what holds of the bytes that are read holds as far as they are told
 pub behind : (t o r : Option (List ℕ)) (b : Basin) (series : Inflows) (text : List ℕ) (P : List ℕ → List ℕ → List ℕ → Type 0) → IsSeriesOf b series →

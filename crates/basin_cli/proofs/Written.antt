@@ -200,8 +200,8 @@ begun_grows b records n =
       ap (λ rs. length (begun_bytes b rs)) (sym (take-append-drop n records)),
       ap length (ap (flat_map (whole_line b)) (ap (λ items. items_of_head b ++ items)
           (flat_map-append (items_of_month b) (take n records) (drop n records))
-      ∙ sym (append_assoc (items_of_head b) (flat_map (items_of_month b) (take n records)) (flat_map (items_of_month b) (drop n records))))
-      ∙ flat_map-append (whole_line b) (items_of_head b ++ flat_map (items_of_month b) (take n records)) (flat_map (items_of_month b) (drop n records))),
+          ∙ sym (append_assoc (items_of_head b) (flat_map (items_of_month b) (take n records)) (flat_map (items_of_month b) (drop n records))))
+          ∙ flat_map-append (whole_line b) (items_of_head b ++ flat_map (items_of_month b) (take n records)) (flat_map (items_of_month b) (drop n records))),
       length-append (begun_bytes b (take n records)) (flat_map (whole_line b) (flat_map (items_of_month b) (drop n records))),
     )
 

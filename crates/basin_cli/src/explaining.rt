@@ -65,11 +65,7 @@ fn right_named(basin: &Basin, name: &[u8]) -> Option<u32>
 }
 
 /// Solves so many months of a run that had none yet.
-fn solve_months<L: Ledger>(
-    run: &mut Run,
-    count: u32,
-    searches: &mut Steps<L>,
-)
+fn solve_months<L: Ledger>(run: &mut Run, count: u32, searches: &mut Steps<L>)
     requires first { StandsFor run.old [] }
     requires within { count ≤ run.old.basin.months }
     ensures basin { run.new.basin ≡ run.old.basin }
@@ -84,11 +80,7 @@ fn solve_months<L: Ledger>(
 }
 
 /// Solves the months of a run up to the one of this index, whose record `month` then gives.
-fn solve_up_to<L: Ledger>(
-    run: &mut Run,
-    index: u32,
-    searches: &mut Steps<L>,
-)
+fn solve_up_to<L: Ledger>(run: &mut Run, index: u32, searches: &mut Steps<L>)
     requires first { StandsFor run.old [] }
     requires within { index < run.old.basin.months }
     ensures basin { run.new.basin ≡ run.old.basin }

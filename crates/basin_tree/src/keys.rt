@@ -32,7 +32,9 @@ impl EntryTest for UnknownKey {
 fn is_known(format: u64, known: &[Key], name: &str) -> bool
     ensures { result ≡ list_any (λ key. nat_le key.since format && bytes_eq name.now key.name.now) known.now }
 {
-    known.iter().any(|key| key.since <= format && name == key.name)
+    known
+        .iter()
+        .any(|key| key.since <= format && name == key.name)
 }
 
 fn has_unknown_key(format: u64, known: &[Key], row: &Table) -> bool
@@ -40,7 +42,8 @@ fn has_unknown_key(format: u64, known: &[Key], row: &Table) -> bool
         (λ name. not (list_any (λ key. nat_le key.since format && bytes_eq (string_bytes name) key.name.now) known.now))
         (map_keys row.now) }
 {
-    row.keys().any(|name| !is_known(format, known, name.as_str()))
+    row.keys()
+        .any(|name| !is_known(format, known, name.as_str()))
 }
 
 /// The test of `BasinFault::MissingKey`.

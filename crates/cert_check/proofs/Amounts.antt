@@ -132,12 +132,12 @@ history_amounts b series before m valid fits partial left f = record {
     ))
     listed quantity.Used = all_small m.used (length b.rights) f.fits.used
         (λ r l. omega (
-      arith,
-      f.used r l,
-      used_most b (map (λ k. k.delivered) before) r m.index (10 ^ 9) (deliveries_small b series before valid partial r),
-      f.index,
-      valid.run.months.1,
-    ))
+          arith,
+          f.used r l,
+          used_most b (map (λ k. k.delivered) before) r m.index (10 ^ 9) (deliveries_small b series before valid partial r),
+          f.index,
+          valid.run.months.1,
+        ))
     listed quantity.Flow = all_small m.plan.flow (length b.links) f.plan.flow_len
         (λ e l. omega (arith, f.plan.carries e l, carry_most b m.month e valid month l))
     listed quantity.Outflow = all_small m.plan.out (length b.nodes) f.plan.out_len (λ n l. omega (

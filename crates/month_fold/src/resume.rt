@@ -46,11 +46,7 @@ pub fn on_the_way(
 }
 
 /// What each right with a volume used of it before the month behind this one. AllocError comes where memory is lacking.
-fn used_behind(
-    alloc: Global,
-    basin: &Basin,
-    month: &MonthRecord,
-) -> Result<Rows<u64>, AllocError>
+fn used_behind(alloc: Global, basin: &Basin, month: &MonthRecord) -> Result<Rows<u64>, AllocError>
     requires basin { IsValidBasin basin.now }
     requires index { month.now.index < basin.now.months }
     requires deliveries { HasDeliveries basin.now month.now }

@@ -346,8 +346,18 @@ const VOLUMES: [Refuting; 9] = [
     (OCTOBER, 24, "deliver farm 0 10\n", "refuted 24 Delivery\n"),
     // A line that is left out, moved, or of a right without a volume.
     (OCTOBER, 10, "", "refuted 10 BadLine\n"),
-    (TWO_VOLUMES, 4, "used young 0\nused old 0\n", "refuted 4 BadLine\n"),
-    (TWO_VOLUMES, 6, "used last 0\nflow a 0\n", "refuted 6 BadLine\n"),
+    (
+        TWO_VOLUMES,
+        4,
+        "used young 0\nused old 0\n",
+        "refuted 4 BadLine\n",
+    ),
+    (
+        TWO_VOLUMES,
+        6,
+        "used last 0\nflow a 0\n",
+        "refuted 6 BadLine\n",
+    ),
 ];
 
 #[test]

@@ -13,9 +13,20 @@ returns-in_err-put_head-clause-stops g c =
 pub write_months-requires : goal.write_months-requires
 write_months-requires g c = λ lifetimes lives. (
   lives.0,
-  (lives.1, (c.requires.1.1.0, (c.requires.1.1.1.0, (c.requires.1.1.1.1.1.0.done,
-  rw c.requires.1.1.1.1.1.1 (head_written c.args.basin.now c.args.run.now (g.K.Sink.taken c.args.out.now)
-  (g.K.Sink.taken c.put_head.new.sink) c.requires.1.1.1.1.0 c.requires.1.1.1.1.1.0 c.in_ok-put_head.ensures.text))))),
+  (
+    lives.1,
+    (
+      c.requires.1.1.0,
+      (
+        c.requires.1.1.1.0,
+        (
+          c.requires.1.1.1.1.1.0.done,
+          rw c.requires.1.1.1.1.1.1 (head_written c.args.basin.now c.args.run.now (g.K.Sink.taken c.args.out.now)
+              (g.K.Sink.taken c.put_head.new.sink) c.requires.1.1.1.1.0 c.requires.1.1.1.1.1.0 c.in_ok-put_head.ensures.text),
+        ),
+      ),
+    ),
+  ),
 )
 
 pub returns-in_err-put_tail-clause-stops : goal.returns-in_err-put_tail-clause-stops

@@ -42,7 +42,7 @@ returns-clause-month g c = λ records was.
     (subst (λ (delivered : List ℕ). lag.StandsFor c.month_done.new.self c.self.inside.basin.now.returns (map (λ k. k.delivered) records ++ delivered ∷ [])) (c.as_slice-2.ensures ∙ ap (λ (m : MonthRecord). m.delivered) c.deref-2.ensures)
     (c.month_done.ensures.stands c.self.inside.basin.now.returns (map (λ k. k.delivered) records) stands.lags))
     (subst (λ (delivered : List ℕ). HasUsed c.self.inside.basin.now (map (λ k. k.delivered) records ++ delivered ∷ []) c.use_volumes.new.used) (ap (λ (m : MonthRecord). m.delivered) c.deref-3.ensures)
-            (c.use_volumes.ensures (map (λ k. k.delivered) records) (length-map records (λ (k : MonthRecord). k.delivered) ∙ sym stands.done) stands.used))
+    (c.use_volumes.ensures (map (λ k. k.delivered) records) (length-map records (λ (k : MonthRecord). k.delivered) ∙ sym stands.done) stands.used))
 
 pub use_volumes-requires-clause-index : goal.use_volumes-requires-clause-index
 use_volumes-requires-clause-index g c = rw (sym c.self.view_is) at c.requires.left
