@@ -51,3 +51,13 @@ loop-month-preserved g c = record {
 pub returns-clause-kept : goal.returns-clause-kept
 returns-clause-kept g c =
     kept_of_run c.loop-month.run c.args.basin.now c.args.series.now _ c.loop-month.invariant.basin c.loop-month.invariant.series c.loop-month.invariant.stands
+
+pub returns-in_err-add_month-clause-kept : goal.returns-in_err-add_month-clause-kept
+returns-in_err-add_month-clause-kept g c =
+    rw c.in_err-add_month.ensures.same
+    (kept_of_run c.loop-month.run c.args.basin.now c.args.series.now _ c.loop-month.invariant.basin c.loop-month.invariant.series c.loop-month.invariant.stands)
+
+pub returns-clause-pushes : goal.returns-clause-pushes
+returns-clause-pushes g c =
+    pushes_within c.args.searches.now c.loop-month.searches c.loop-month._month c.args.kept.now.len c.args.count (month_pushes c.args.basin.now)
+    (omega arith) c.loop-month.invariant.pushes
