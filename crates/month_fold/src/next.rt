@@ -66,7 +66,8 @@ pub fn use_volumes(basin: &Basin, index: u32, month: &MonthRecord, used: &mut Ro
 }
 
 /// Solves the month with this index in a record that has the closing storage of the month before. `tables` has the area
-/// table of each reservoir, and `used` what each right used of its volume before in the water year. Each search that finds a walk ticks `searches` once. It takes no memory.
+/// table of each reservoir, and `used` what each right used of its volume before in the water year. Each search that
+/// finds a walk ticks `searches` once. It takes no memory.
 pub fn next_month<L: Ledger>(
     basin: &Basin,
     series: &Inflows,

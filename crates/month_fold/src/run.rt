@@ -23,8 +23,8 @@ use water_model::types::{Basin, Inflows, MonthRecord};
 
 /// A run of a basin with a series of inflows.
 ///
-/// It keeps the record of the last month, what is on its way and what was used of volumes, and no record before. It stands for all months that it
-/// went through: contracts say what holds for each list of records that it stands for.
+/// It keeps the record of the last month, what is on its way and what was used of volumes, and no record before. It
+/// stands for all months that it went through: contracts say what holds for each list of records that it stands for.
 #[derive(Drop)]
 pub struct Run<'b> {
     basin: &'b Basin,
