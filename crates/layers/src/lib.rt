@@ -35,3 +35,5 @@ mod texts;
 mod trials;
 #[cfg(test)]
 mod turned;
+#[cfg(test)]
+mod volumes;
