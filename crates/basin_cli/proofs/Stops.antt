@@ -1,5 +1,5 @@
 -- How the reading of a comparison's files ends.
-use Rattle.std.proofs.Common.{◌≡◌, refl, subst, ℕ, ◌≤◌, List, Option, Some, None, length, arith}
+use Rattle.std.proofs.Common.{◌≡◌, refl, sym, subst, ℕ, ◌≤◌, List, Option, Some, None, length, arith}
 use Rattle.std.specs.Prelude.{IfSome, IfErr, Result, Ok, Err}
 use Rattle.water_edge.specs.Edge.{Rose}
 use Rattle.water_model.specs.declared.types.Basin.{Basin}
@@ -13,7 +13,7 @@ use Rattle.basin_cli.specs.Command.{Files}
 use Rattle.basin_cli.specs.Comparison.{HaveSameMonths, IsGoodSecond, StopsComparing, BehindFirst, BehindBoth, ComparisonWrites, WritesComparison}
 use Rattle.basin_cli.specs.Ending.{status_of}
 use Rattle.basin_cli.specs.Out.{MayWrite}
-use Rattle.basin_cli.specs.Pairs.{BothSeriesEnd, BothSeriesReadEnd}
+use Rattle.basin_cli.specs.Pairs.{BothSeriesEnd, BothSeriesReadEnd, IsOtherRun}
 use Rattle.basin_cli.specs.Series.{IsBasinText}
 
 -- bytes that were read are refused as they are
@@ -69,6 +69,20 @@ module _ (files : Files) (second : List ℕ) (told : Told) (read : Type 0) where
         same = same;
       };
     })
+
+    pub other_run : (how : Ending) → IsOtherRun b c how → StopsComparing files second how told read
+    other_run how is =
+        subst (λ how. StopsComparing files second how told read) (sym is.0)
+        (both_told _ (λ bytes other text other_text. (
+          other_text.good,
+          record {
+            first = b;
+            second = c;
+            first_spelled = text.spelled;
+            second_spelled = other_text.spelled;
+            differ = is.1;
+          },
+        )))
 
     behind_both : (Q : List ℕ → List ℕ → List ℕ → Type 0) (S : List ℕ → Type 0) → HaveSameMonths b c → IfSome (series_told told files.series) S →
         ((bytes other series : List ℕ) → IsBasinText b bytes → IsBasinText c other → S series → Q bytes other series) → BehindBoth told files second Q

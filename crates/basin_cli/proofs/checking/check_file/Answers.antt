@@ -1,3 +1,6 @@
+use Rattle.std.proofs.Common.{subst}
+use Rattle.basin_cli.specs.Ending.{status_of}
+use Rattle.basin_cli.specs.Out.{MayWrite}
 use Rattle.basin_cli.proofs.Judged.{answer_ends, answer_leaves, answer_writes}
 use Rattle.basin_cli.proofs.checking.check_file.Goals as goal
 
@@ -18,3 +21,8 @@ returns-in-Ok-answer_parts-clause-leaves g c =
 pub returns-in-Ok-answer_parts-clause-out_stays : goal.returns-in-Ok-answer_parts-clause-out_stays
 returns-in-Ok-answer_parts-clause-out_stays g c = λ silent.
     absurd (silent (answer_writes c.in-Ok-answer_parts.answer c.tell_answer.result _ c.tell_answer.ensures.ends))
+
+pub returns-in-Ok-answer_parts-clause-unread : goal.returns-in-Ok-answer_parts-clause-unread
+returns-in-Ok-answer_parts-clause-unread g c = λ lacking.
+    absurd (subst (λ how. MayWrite (status_of how)) lacking
+    (answer_writes c.in-Ok-answer_parts.answer c.tell_answer.result _ c.tell_answer.ensures.ends))
