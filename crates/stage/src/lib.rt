@@ -15,7 +15,7 @@ use steps::Steps;
 use water_edge::{MemoryShelf, MemorySink};
 
 /// The bytes of the files BASIN, BASIN2, SERIES, RESULT and SCRIPT, how many bytes a part of a file has at most, where 0
-/// counts as 1, and the numbers of the calls of the shelf and of out that fail.
+/// counts as 1, and the numbers of the calls of the shelf, of out and of err that fail.
 #[derive(Drop)]
 pub struct Set {
     pub basin: Vec<u8>,
@@ -26,6 +26,7 @@ pub struct Set {
     pub part: usize,
     pub shelf_fails: u64,
     pub out_fails: u64,
+    pub err_fails: u64,
 }
 
 /// The number of a call that is never made.
@@ -42,6 +43,7 @@ pub fn files(alloc: Global, basin: &str, series: &str) -> Result<Set, Fail> {
         part: usize::MAX,
         shelf_fails: NEVER,
         out_fails: NEVER,
+        err_fails: NEVER,
     })
 }
 
@@ -74,7 +76,7 @@ fn call_over<L: Ledger>(
 {
     let mut searches = Steps::<L>::new(blank);
     let mut out = MemorySink::new(alloc, 131_072, vec![in alloc; set.out_fails; 1]?)?;
-    let mut err = MemorySink::new(alloc, 4096, Vec::new(alloc))?;
+    let mut err = MemorySink::new(alloc, 4096, vec![in alloc; set.err_fails; 1]?)?;
     let (words, mut shelf) = set_up(alloc, words, set)?;
     let status = basin_main(alloc, &words, &mut shelf, &mut out, &mut err, &mut searches);
     Ok((status, out, err))

@@ -1,4 +1,5 @@
 //! Words that are no command, and files and streams that fail.
+use crate::lakes::POOL;
 use basin_cli::Status;
 use stage::basins::{JUNIOR_SHORT, RIVER};
 use stage::ordinary::{ORDINARY, ORDINARY_SERIES};
@@ -67,6 +68,42 @@ fn tells_what_fails(rt: HostRuntime) -> Result<(), Fail> {
     Ok(())
 }
 
+/// Of a check, too: its files in their order, and out, which is told of a refutation.
+#[test]
+fn tells_what_fails_of_a_check(rt: HostRuntime) -> Result<(), Fail> {
+    let words = ["check", "BASIN", "SERIES", "RESULT"];
+    let table = [
+        (0, NEVER, Status::ReadFault, "read: BASIN\n"),
+        (1, NEVER, Status::ReadFault, "read: SERIES\n"),
+        (2, NEVER, Status::ReadFault, "read: RESULT\n"),
+        (NEVER, 0, Status::WriteFault, "write: failed\n"),
+    ];
+    for (shelf_fails, out_fails, status, line) in table {
+        let mut set = files(rt.alloc(), ORDINARY, ORDINARY_SERIES)?;
+        set.result.extend_from_slice(b"x\n")?;
+        set.shelf_fails = shelf_fails;
+        set.out_fails = out_fails;
+        expect(rt.alloc(), &words, set, (status, "", line))?;
+    }
+    Ok(())
+}
+
+/// Where err fails, the status is the same and its line is missing.
+#[test]
+fn ends_the_same_where_err_fails(rt: HostRuntime) -> Result<(), Fail> {
+    let table: [(&[&str], Status); 3] = [
+        (&[], Status::Usage),
+        (&["run", "ABSENT"], Status::ReadFault),
+        (&["run", "SERIES"], Status::BasinRefused),
+    ];
+    for (words, status) in table {
+        let mut set = files(rt.alloc(), RIVER, "no basin")?;
+        set.err_fails = 0;
+        expect(rt.alloc(), words, set, (status, "", ""))?;
+    }
+    Ok(())
+}
+
 /// So many lines of a text, from its first on.
 fn front(alloc: Global, text: &str, count: u64) -> Result<String, Fail> {
     let mut front = String::new(alloc);
@@ -82,20 +119,25 @@ fn front(alloc: Global, text: &str, count: u64) -> Result<String, Fail> {
     Ok(front)
 }
 
-/// A run puts line by line: where a put fails, the lines before it stand.
+/// Runs a basin, whose text has so many lines, once for each of them with its put failing, and once more.
+fn stops_at_each_line(alloc: Global, (basin, text): (&str, &str), lines: u64) -> Result<(), Fail> {
+    for fails in 0..lines {
+        let mut set = files(alloc, basin, "")?;
+        set.out_fails = fails;
+        let before = front(alloc, text, fails)?;
+        let want = (Status::WriteFault, before.as_str(), "write: failed\n");
+        expect(alloc, &["run", "BASIN"], set, want)?;
+    }
+    let mut set = files(alloc, basin, "")?;
+    set.out_fails = lines;
+    expect(alloc, &["run", "BASIN"], set, (Status::Done, text, ""))
+}
+
+/// A run puts line by line, each month's behind its step: where a put fails, the lines before it stand.
 #[test]
 fn leaves_the_lines_before_a_fault(rt: HostRuntime) -> Result<(), Fail> {
-    let (basin, text) = JUNIOR_SHORT;
-    for fails in 0..14u64 {
-        let mut set = files(rt.alloc(), basin, "")?;
-        set.out_fails = fails;
-        let before = front(rt.alloc(), text, fails)?;
-        let want = (Status::WriteFault, before.as_str(), "write: failed\n");
-        expect(rt.alloc(), &["run", "BASIN"], set, want)?;
-    }
-    let mut set = files(rt.alloc(), basin, "")?;
-    set.out_fails = 14;
-    expect(rt.alloc(), &["run", "BASIN"], set, (Status::Done, text, ""))
+    stops_at_each_line(rt.alloc(), JUNIOR_SHORT, 14)?;
+    stops_at_each_line(rt.alloc(), POOL, 19)
 }
 
 /// A file of one byte more than the limit.
