@@ -1,4 +1,8 @@
+pub mod Apart
+pub mod Links
+pub mod Pairs
 pub mod Opened
+pub mod Lends
 pub mod Pushing
 pub mod Kept
 pub mod RowLists

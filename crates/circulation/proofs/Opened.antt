@@ -1,22 +1,23 @@
 -- A circulation that was just opened keeps its invariant.
-use Rattle.std.proofs.Common.{ℕ, Bool, true, false, ◌==◌, replicate, ◌≡◌, ◌≢◌, ◌+◌, ◌*◌, ◌^◌, ◌<◌, ◌≤◌, List, length, get_or, map, refl, arith, ap, sym, subst, ◌∙◌}
+use Rattle.std.proofs.Common.{ℕ, Bool, true, false, ◌==◌, replicate, ◌≡◌, ◌≢◌, ◌+◌, ◌-◌, ◌*◌, ◌^◌, ◌<◌, ◌≤◌, List, ◌++◌, length, take, drop, slice_index, get_or, map, refl, arith, ap, sym, subst, ◌∙◌}
 use Rattle.std.specs.Prelude.{All}
 use Rattle.std.proofs.lemmas.Grind.{common_steps}
-use Rattle.std.proofs.lemmas.List.{get_or-map, length-map, get_or-replicate}
+use Rattle.std.proofs.lemmas.List.{get_or-map, length-map, get_or-replicate, length-append, replicate-append-replicate}
 use Rattle.circulation.specs.declared.Ends.{Ends}
 use Rattle.place_sums.specs.Sums.{when}
 use Rattle.circulation.specs.Network.{HasEnds, inflow, outflow}
 use Rattle.circulation.specs.Rows.{Rows, AreRows}
-use Rattle.circulation.specs.Contents.{network, flow_of, IsCirculation, empty_contents}
+use Rattle.circulation.specs.Contents.{Contents, network, flow_of, IsCirculation, empty_contents, emptied}
+use Rattle.circulation.specs.declared.Circulation.{Circulation}
+use Rattle.circulation.specs.Places.{tail_of, head_of, tails, heads, word_count, fixed_count, AreWordsOf, HasWords}
+use Rattle.circulation.specs.Chains.{tails_of}
+use Rattle.circulation.specs.Laid.{IsLaid}
 use Rattle.place_sums.proofs.Totals.{total_zero}
+use Rattle.circulation.proofs.Pairs.{no_ends}
 
 -- each end is a node, and no arc goes from a node to itself
 abbrev pub AreWithin : ℕ → List Ends → Type 0
 AreWithin nodes es = All (λ e. (e.from ≤ nodes) × (e.to ≤ nodes) × (e.from ≢ e.to)) es
-
--- what stands past the end of a list of ends
-abbrev no_ends : Ends
-no_ends = record { from = 0; to = 0 }
 
 -- each tail is a node
 pub from_within : (nodes : ℕ) (es : List Ends) (keys : List ℕ) → keys ≡ map (λ e. e.from) es → AreWithin nodes es →
@@ -87,32 +88,108 @@ empty-circulation nodes from to rows few_nodes few_arcs same ends are_rows = rec
   rows = are_rows;
 }
 
--- the lists as they were made one by one
-pub circulation_when_empty : (nodes : ℕ) (from to supply lower upper flow scratch : List ℕ) (rows : Rows) →
-    supply ≡ replicate nodes 0 → lower ≡ replicate (length from) 0 → upper ≡ replicate (length from) 0 →
-    flow ≡ replicate (length from) 0 → scratch ≡ replicate (4 * nodes + 8) 0 → nodes < 2 ^ 32 → length from < 2 ^ 32 →
-    length to ≡ length from → HasEnds (network (empty_contents nodes from to rows)) →
-    AreRows nodes from to rows → IsCirculation record {
-      nodes = nodes;
-      from = from;
-      to = to;
-      supply = supply;
-      lower = lower;
-      upper = upper;
-      flow = flow;
-      scratch = scratch;
-      rows = rows;
+-- a row of zeros in parts
+zeros_in_parts : (arcs nodes count : ℕ) →
+    count ≡ arcs + (arcs + (arcs + (nodes + (4 * nodes + 8 + (2 * nodes + 6))))) →
+    replicate {A = ℕ} count 0 ≡ replicate arcs 0
+    ++ (replicate arcs 0
+    ++ (replicate arcs 0 ++ (replicate nodes 0 ++ (replicate (4 * nodes + 8) 0 ++ replicate (2 * nodes + 6) 0))))
+zeros_in_parts arcs nodes count is =
+    ap (λ (n : ℕ). replicate {A = ℕ} n 0) is
+    ∙ sym (replicate-append-replicate {A = ℕ} arcs (arcs + (arcs + (nodes + (4 * nodes + 8 + (2 * nodes + 6))))) 0)
+    ∙ ap (λ (xs : List ℕ). replicate arcs 0 ++ xs)
+    (sym (replicate-append-replicate {A = ℕ} arcs (arcs + (nodes + (4 * nodes + 8 + (2 * nodes + 6)))) 0)
+    ∙ ap (λ (xs : List ℕ). replicate arcs 0 ++ xs)
+    (sym (replicate-append-replicate {A = ℕ} arcs (nodes + (4 * nodes + 8 + (2 * nodes + 6))) 0)
+    ∙ ap (λ (xs : List ℕ). replicate arcs 0 ++ xs)
+    (sym (replicate-append-replicate {A = ℕ} nodes (4 * nodes + 8 + (2 * nodes + 6)) 0)
+    ∙ ap (λ (xs : List ℕ). replicate nodes 0 ++ xs)
+    (sym (replicate-append-replicate {A = ℕ} (4 * nodes + 8) (2 * nodes + 6) 0)))))
+
+-- zeros in the place of two lists
+zeros_append : (xs ys : List ℕ) (n : ℕ) → length xs ≡ n →
+    replicate {A = ℕ} (length (xs ++ ys)) 0 ≡ replicate n 0 ++ replicate (length ys) 0
+zeros_append xs ys n is =
+    ap (λ (k : ℕ). replicate {A = ℕ} k 0) (length-append xs ys ∙ ap (λ (k : ℕ). k + length ys) is)
+    ∙ sym (replicate-append-replicate {A = ℕ} n (length ys) 0)
+
+-- the words of a circulation that is empty
+pub empty-words : (circ : Circulation) (c : Contents) (kept moved : List ℕ) → c.nodes ≡ circ.nodes →
+    length c.from ≡ circ.arcs → IsCirculation c →
+    c ≡ empty_contents c.nodes c.from c.to c.rows →
+    moved ≡ replicate (word_count circ.nodes circ.arcs - fixed_count circ.nodes circ.arcs) 0 →
+    (pairs : List ℕ) → length pairs ≡ circ.arcs → c.from ≡ map tail_of pairs → c.to ≡ map head_of pairs →
+    length c.rows.step ≡ 2 * circ.arcs → ((p : ℕ) → slice_index c.rows.end p < 2 ^ 32) →
+    kept ≡ pairs ++ (c.rows.step ++ (c.rows.end ++ c.rows.first)) → AreWordsOf circ c kept moved
+empty-words circ c kept moved nodes arcs k is none pairs count from to steps small fixed = record {
+  pairs = pairs;
+  unused = replicate (2 * c.nodes + 6) 0;
+  nodes = nodes;
+  arcs = count;
+  from = from;
+  to = to;
+  steps = steps;
+  small = small;
+  fixed = fixed;
+  moving = none
+      ∙ zeros_in_parts (length c.from) c.nodes (word_count circ.nodes circ.arcs - fixed_count circ.nodes circ.arcs)
+      (omega (arith, nodes, arcs))
+      ∙ ap (λ (e : Contents). e.flow ++ (e.upper ++ (e.lower ++ (e.supply ++ (e.scratch ++ replicate (2 * c.nodes + 6) 0)))))
+      (sym is);
+  circulation = k;
+}
+
+-- the words of a circulation that was just opened
+pub laid-words : (circ : Circulation) (es : List Ends) (words : List ℕ) → circ.arcs ≡ length es →
+    circ.nodes < 2 ^ 32 → length es < 2 ^ 32 → AreWithin circ.nodes es →
+    IsLaid circ.nodes es (take (fixed_count circ.nodes circ.arcs) words) →
+    drop (fixed_count circ.nodes circ.arcs) words ≡ replicate
+    (word_count circ.nodes circ.arcs - fixed_count circ.nodes circ.arcs) 0 →
+    (rows : Rows) × HasWords circ (empty_contents circ.nodes (tails es) (heads es) rows) words
+laid-words circ es words arcs few_nodes few_arcs within laid none =
+    let count = length-map es (λ (e : Ends). e.from) in
+    let same = lengths_agree es (tails es) (heads es) refl refl in
+    let rows : AreRows circ.nodes (tails es) (heads es) laid.rows =
+    subst (λ (xs : List ℕ). AreRows circ.nodes xs (heads es) laid.rows) laid.from
+    (subst (λ (xs : List ℕ). AreRows circ.nodes (tails_of laid.pairs) xs laid.rows) laid.to laid.laid.rows) in
+    let kept = empty-circulation circ.nodes (tails es) (heads es) laid.rows few_nodes (omega (arith, count)) same
+    record {
+      from_in = from_within circ.nodes es (tails es) refl within;
+      to_in = λ a b. to_within circ.nodes es (heads es) refl within a (omega (arith, same));
+      apart = ends_apart circ.nodes es (tails es) (heads es) refl refl within;
+    } rows in (
+      laid.rows,
+      empty-words circ (empty_contents circ.nodes (tails es) (heads es) laid.rows)
+          (take (fixed_count circ.nodes circ.arcs) words) (drop (fixed_count circ.nodes circ.arcs) words)
+          refl (omega (arith, count, arcs)) kept refl none laid.pairs (omega (arith, laid.count, arcs)) (sym laid.from)
+          (sym laid.to) (omega (arith, laid.laid.steps, laid.count, arcs)) laid.laid.small
+          (laid.words ∙ ap (λ (xs : List ℕ). laid.pairs ++ xs) laid.laid.is),
+    )
+
+-- the words of a circulation that was emptied
+pub emptied-words : (circ : Circulation) (c : Contents) (kept moved cleared : List ℕ) → AreWordsOf circ c kept moved →
+    cleared ≡ replicate (length moved) 0 → AreWordsOf circ (emptied c) kept cleared
+emptied-words circ c kept moved cleared w none =
+    let shape = w.circulation.shape in
+    let arcs = ap length w.from ∙ (length-map w.pairs tail_of ∙ w.arcs) in
+    record {
+      pairs = w.pairs;
+      unused = replicate (length w.unused) 0;
+      nodes = w.nodes;
+      arcs = w.arcs;
+      from = w.from;
+      to = w.to;
+      steps = w.steps;
+      small = w.small;
+      fixed = w.fixed;
+      moving = none ∙ ap (λ (n : ℕ). replicate {A = ℕ} n 0) (ap length w.moving)
+          ∙ zeros_append c.flow _ (length c.from) shape.flow
+          ∙ ap (λ (xs : List ℕ). replicate (length c.from) 0 ++ xs) (zeros_append c.upper _ (length c.from) shape.upper
+          ∙ ap (λ (xs : List ℕ). replicate (length c.from) 0 ++ xs) (zeros_append c.lower _ (length c.from) shape.lower
+          ∙ ap (λ (xs : List ℕ). replicate (length c.from) 0 ++ xs) (zeros_append c.supply _ c.nodes shape.supply
+          ∙ ap (λ (xs : List ℕ). replicate c.nodes 0 ++ xs)
+          (zeros_append c.scratch w.unused (4 * c.nodes + 8) shape.scratch))));
+      circulation = empty-circulation c.nodes c.from c.to c.rows shape.few_nodes shape.few_arcs shape.to
+          record { from_in = w.circulation.ends.from_in; to_in = w.circulation.ends.to_in; apart = w.circulation.ends.apart }
+          w.circulation.rows;
     }
-circulation_when_empty nodes from to supply lower upper flow scratch rows s l u f w few few_arcs same ends are_rows =
-    let is : empty_contents nodes from to rows ≡ record {
-      nodes = nodes;
-      from = from;
-      to = to;
-      supply = supply;
-      lower = lower;
-      upper = upper;
-      flow = flow;
-      scratch = scratch;
-      rows = rows;
-    } = cc in
-    subst IsCirculation is (empty-circulation nodes from to rows few few_arcs same ends are_rows)

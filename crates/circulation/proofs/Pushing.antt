@@ -1,6 +1,7 @@
 -- A push along a closed walk keeps the flow: what holds when the steps before `at` are done.
-use Rattle.std.proofs.Common.{ℕ, Bool, true, false, not, ◌==◌, ◌≡◌, ◌≢◌, ◌+◌, ◌-◌, ◌<◌, ◌≤◌, List, length, slice_index, refl, arith, ap, sym, subst, inl, inr, ◌∙◌}
+use Rattle.std.proofs.Common.{ℕ, Bool, true, false, not, ◌==◌, ◌≡◌, ◌≢◌, ◌+◌, ◌-◌, ◌^◌, ◌<◌, ◌≤◌, List, length, slice_index, slice_set, refl, arith, ap, sym, subst, inl, inr, ◌∙◌}
 use Rattle.std.proofs.lemmas.Bool.Decides.{eqb_tells}
+use Rattle.std.proofs.lemmas.List.{get_or-set_same, get_or-set_other, length-set}
 use Rattle.place_sums.specs.Sums.{when}
 use Rattle.circulation.specs.Contents.{Contents, network, flow_of, step_of, IsCirculation}
 use Rattle.circulation.specs.Network.{Network, IsFlow, inflow, outflow}
@@ -156,3 +157,75 @@ pushed-kept c x written flow first last at amount view k same is end p =
     let own_flow = subst (λ (y : Contents). IsFlow (network y) (λ a. slice_index flow a)) (sym view) last_flow in
     let length_now : length flow ≡ length c.from = omega (arith, same, k.shape.flow) in
     subst (λ (xs : List ℕ). IsCirculation (record c { flow = xs })) (sym is) (flow-kept c flow k length_now own_flow)
+
+-- a circulation in which the steps before `at` are done
+pub record IsPushState (x y : Contents) (first last at amount : ℕ) : Type 0 where
+  pub rest : y ≡ record x { flow = y.flow }
+  pub size : length y.flow ≡ length x.flow
+  pub pushing : IsPushing (network x) (flow_of x) (flow_of y) (step_of x) first last at amount
+
+pub push_start : (x y : Contents) (first last amount : ℕ) → y ≡ x → IsCirculation x → first < last →
+    IsPushState x y first last first amount
+push_start x y first last amount is k some = subst (λ (z : Contents). IsPushState x z first last first amount) (sym is)
+    record { rest = refl; size = refl; pushing = pushing_start (network x) (flow_of x) (step_of x) first last amount some k.flow }
+
+-- the step that is next is still the same
+next_same : (x y : Contents) (first last at amount : ℕ) → IsPushState x y first last at amount → step_of x at ≡ step_of y at
+next_same x y first last at amount p = ap (λ (z : Contents). step_of z at) (sym p.rest)
+
+-- its arc has a flow
+pub push_inside : (x y : Contents) (first last at amount : ℕ) → IsCirculation x →
+    IsClosedWalk (network x) (flow_of x) (step_of x) first last amount → IsPushState x y first last at amount →
+    first ≤ at → at < last → arc_of (step_of y at) < length y.flow
+push_inside x y first last at amount k walk p a b =
+    subst (λ (s : ℕ). arc_of s < length y.flow) (next_same x y first last at amount p)
+    (omega (arith, walk.arc at a b, k.shape.flow, p.size))
+
+-- which it can change
+pub push_fits : (x y : Contents) (first last at amount : ℕ) → IsCirculation x →
+    IsClosedWalk (network x) (flow_of x) (step_of x) first last amount → IsPushState x y first last at amount →
+    first ≤ at → at < last →
+    (is_back (step_of y at) ≡ true → amount ≤ flow_of y (arc_of (step_of y at))) ×
+    (is_back (step_of y at) ≡ false → flow_of y (arc_of (step_of y at)) + amount < 2 ^ 64)
+push_fits x y first last at amount k walk p a b =
+    let fits = change_fits _ _ _ _ _ _ _ _ k.flow walk p.pushing a b in
+    let small = k.shape.small (arc_of (step_of x at)) (walk.arc at a b) in
+    subst (λ (s : ℕ). (is_back s ≡ true → amount ≤ flow_of y (arc_of s)) ×
+    (is_back s ≡ false → flow_of y (arc_of s) + amount < 2 ^ 64)) (next_same x y first last at amount p)
+    (fits.0, λ e. omega (arith, fits.1 e, small))
+
+-- and that was done
+pub push_next : (x y : Contents) (first last at amount new : ℕ) → IsCirculation x →
+    IsClosedWalk (network x) (flow_of x) (step_of x) first last amount → IsPushState x y first last at amount →
+    first ≤ at → at < last →
+    new + when (is_back (step_of y at)) amount ≡ flow_of y (arc_of (step_of y at)) + when
+    (not (is_back (step_of y at))) amount →
+    IsPushState x (record y { flow = slice_set y.flow (arc_of (step_of y at)) new }) first last (at + 1) amount
+push_next x y first last at amount new k walk p a b change =
+    let same = next_same x y first last at amount p in
+    let inside = push_inside x y first last at amount k walk p a b in
+    let arc = arc_of (step_of y at) in
+    let flow = slice_set y.flow arc new in
+    let here = get_or-set_same y.flow arc new 0 inside in
+    let done : slice_index flow arc + when (is_back (step_of y at)) amount ≡ flow_of y arc + when
+    (not (is_back (step_of y at))) amount = ap (λ (n : ℕ). n + when (is_back (step_of y at)) amount) here ∙ change in
+    record {
+      rest = ap (λ (z : Contents). record z { flow = flow }) p.rest;
+      size = length-set y.flow arc new ∙ p.size;
+      pushing = pushing_next (network x) (flow_of x) (flow_of y) (slice_index flow) (step_of x) first last at amount k.flow
+          walk p.pushing a b
+          (subst (λ (s : ℕ). slice_index flow (arc_of s) + when (is_back s) amount ≡ flow_of y (arc_of s) + when
+          (not (is_back s)) amount) (sym same) done)
+          (λ c ne. get_or-set_other y.flow arc c new 0 (λ e. ne (e ∙ ap arc_of (sym same))));
+    }
+
+-- when all steps are done it is a circulation again
+pub push_kept : (x y : Contents) (first last at amount : ℕ) → IsCirculation x → IsPushState x y first last at amount →
+    at ≡ last → IsCirculation y
+push_kept x y first last at amount k p end =
+    subst IsCirculation (sym p.rest) (pushed-kept x x y.flow y.flow first last at amount refl k p.size refl end p.pushing)
+
+pub push_done : (x y : Contents) (first last at amount : ℕ) → IsPushState x y first last at amount → at ≡ last →
+    IsPushed (flow_of x) (flow_of y) (step_of x) first last amount
+push_done x y first last at amount p end =
+    subst (λ (n : ℕ). IsPushed (flow_of x) (flow_of y) (step_of x) first n amount) end p.pushing.pushed

@@ -1,10 +1,13 @@
 -- Rows are written, one step after another and one row after another.
-use Rattle.std.proofs.Common.{ℕ, Bool, true, false, ◌≡◌, ◌+◌, ◌*◌, ◌%◌, ◌<◌, ◌≤◌, ◌++◌, ◌∷◌, [], List, length, slice_index, refl, arith, ap, sym, subst, inl, inr, ◌∙◌}
+use Rattle.std.proofs.Common.{ℕ, Bool, true, false, ◌≡◌, ◌≢◌, ◌+◌, ◌*◌, ◌%◌, ◌^◌, ◌<◌, ◌≤◌, ◌++◌, List, length, take, drop, slice_index, slice_set, arith, ap, sym, subst, inl, inr, ◌∙◌}
 use Rattle.std.proofs.lemmas.Bool.{cases_eq, cases_lt, cases_Bool, eqb-true, eqb-false}
-use Rattle.std.proofs.lemmas.List.{get_or_append_left, get_or-append-add, get_or_push, length_push, length-append}
+use Rattle.std.proofs.lemmas.List.{get_or_append_left, get_or-append-add, get_or-set_same, get_or-set_other, get_or-take, get_or-drop, get_or_past, length-append, length-take, length-map}
 use Rattle.circulation.specs.Residual.{arc_of, is_back, by_way, start_of, end_of}
 use Rattle.circulation.specs.Rows.{Rows, over, Leads, IsInRow, IsRow, AreRows}
-use Rattle.circulation.specs.Chains.{IsNext, turn_of, IsPartRow}
+use Rattle.circulation.specs.Chains.{IsNext, turn_of, IsPartRow, AreApart, AreSameBelow, AreSmall, tails_of, heads_of, keys_of}
+use Rattle.circulation.specs.Places.{tail_of}
+use Rattle.circulation.proofs.Links.{turns_are}
+use Rattle.circulation.proofs.Apart.{room_for_one}
 
 -- what the number of a step says of its turn
 record IsForward (arcs s : ℕ) : Type 0 where
@@ -59,113 +62,156 @@ key_of_turn from to s b = elim (cases_Bool (is_back s)) [
       ∙ sym (ap (λ (t : Bool). by_way t (slice_index from (arc_of s)) (slice_index to (arc_of s))) e)
 ]
 
+-- a lesser number is another
+pub less_other : (p q : ℕ) → p < q → p ≢ q
+less_other p q b e = omega (arith, e)
+
+-- what stands in a list after one of its places was written
+record IsWrittenAt (xs ys : List ℕ) (at x : ℕ) : Type 0 where
+  here : slice_index ys at ≡ x
+  other : (p : ℕ) → p ≢ at → slice_index ys p ≡ slice_index xs p
+
+written_at : (xs : List ℕ) (at x : ℕ) → at < length xs → IsWrittenAt xs (slice_set xs at x) at x
+written_at xs at x b = record {
+  here = get_or-set_same xs at x 0 b;
+  other = λ p ne. get_or-set_other xs at p x 0 ne;
+}
+
 -- nothing was written yet
-pub part_start : (from to : List ℕ) (v : ℕ) (steps ends : List ℕ) → length ends ≡ length steps →
-    IsPartRow from to v 0 steps ends steps ends
-part_start from to v steps ends same = record {
-  longer = omega arith;
-  sizes = same;
-  same = λ p b. refl;
-  same_ends = λ p b. refl;
+pub part_start : (from to : List ℕ) (v first : ℕ) (steps ends : List ℕ) →
+    IsPartRow from to v 0 first first steps ends
+part_start from to v first steps ends = record {
+  order = omega arith;
   leads = λ p b d. absurd (omega arith);
   turns = λ p b d. absurd (omega arith);
   once = λ p q b d e. absurd (omega arith);
   all = λ s b e less. absurd (omega arith);
 }
 
--- a place of a longer list is one of the list before, or the last
-old_at : (xs : List ℕ) (x p : ℕ) → p < length xs → slice_index (xs ++ x ∷ []) p ≡ slice_index xs p
-old_at xs x p b = get_or_append_left xs (x ∷ []) 0 p b
+-- a step that is next in its chain
+pub record IsNextStep (from to : List ℕ) (v upto at s : ℕ) : Type 0 where
+  pub next : IsNext (from ++ to) v upto at
+  pub short : at < length (from ++ to)
+  pub arc : arc_of s < length from
+  pub turn : turn_of (length from) s ≡ at
 
-new_at : (xs : List ℕ) (x n p : ℕ) → length xs ≡ n → n ≤ p → p < length (xs ++ x ∷ []) →
-    (p ≡ n) × (slice_index (xs ++ x ∷ []) p ≡ x)
-new_at xs x n p is b d =
-    let e : p ≡ n = omega (arith, length_push xs x) in
-    (e, ap (slice_index (xs ++ x ∷ [])) e ∙ get_or_push xs x 0 n is)
+-- the same over arcs whose ends are packed in words
+pub next_step : (pairs : List ℕ) (v upto at s : ℕ) → IsNext (keys_of pairs) v upto at → at < 2 * length pairs →
+    arc_of s < length pairs → turn_of (length pairs) s ≡ at → IsNextStep (tails_of pairs) (heads_of pairs) v upto at s
+next_step pairs v upto at s next short arc turn =
+    let count = length-map pairs tail_of in
+    record {
+      next = next;
+      short = omega (arith, turns_are pairs, short);
+      arc = omega (arith, count, arc);
+      turn = ap (λ (n : ℕ). turn_of n s) count ∙ turn;
+    }
+
+-- it leaves the node of the chain
+pub next_start : (from to : List ℕ) (v upto turn s : ℕ) → IsNextStep from to v upto turn s →
+    start_of (over from to) s ≡ v
+next_start from to v upto turn s n =
+    sym (key_of_turn from to s n.arc) ∙ ap (slice_index (from ++ to)) n.turn ∙ n.next.here n.short
+
+-- and was not written before
+pub next_is_new : (from to : List ℕ) (v upto turn first last s : ℕ) (steps ends : List ℕ) →
+    IsPartRow from to v upto first last steps ends → AreApart from to v first steps →
+    IsNextStep from to v upto turn s → (p : ℕ) → p < last → slice_index steps p ≢ s
+next_is_new from to v upto turn first last s steps ends part before n p b same = elim (cases_lt p first) [
+  | inl early ↦
+      omega (
+        arith,
+        before.starts p early,
+        ap (start_of (over from to)) same,
+        next_start from to v upto turn s n,
+      )
+  | inr late ↦ omega (arith, part.turns p late b, ap (turn_of (length from)) same, n.turn, n.next.after)
+]
+
+-- so there is room for it
+pub next_has_room : (from to : List ℕ) (v upto turn first last s : ℕ) (steps ends : List ℕ) →
+    IsPartRow from to v upto first last steps ends → AreApart from to v first steps →
+    AreApart from to (v + 1) last steps → IsNextStep from to v upto turn s → last < 2 * length from
+next_has_room from to v upto turn first last s steps ends part before apart n =
+    room_for_one last (2 * length from) (slice_index steps) s (λ p b. omega (arith, apart.arcs p b)) (omega (arith, n.arc))
+    apart.once (next_is_new from to v upto turn first last s steps ends part before n)
 
 -- one more step was written
-pub part_next : (from to : List ℕ) (v upto turn s u : ℕ) (steps ends steps' ends' : List ℕ) →
-    IsPartRow from to v upto steps ends steps' ends' → IsNext (from ++ to) v upto turn → turn < length (from ++ to) →
-    arc_of s < length from → turn_of (length from) s ≡ turn → u ≡ end_of (over from to) s →
-    IsPartRow from to v (turn + 1) steps ends (steps' ++ s ∷ []) (ends' ++ u ∷ [])
-part_next from to v upto turn s u steps ends steps' ends' part next short arc is end =
-    let start : start_of (over from to) s ≡ v = sym (key_of_turn from to s arc) ∙ ap (slice_index (from ++ to)) is ∙
-    next.here short in
-    let longer = part.longer in
-    let after = next.after in
-    let size = length_push steps' s in
-    let size_ends = length_push ends' u in
-    let same_size = part.sizes in
+pub part_next : (from to : List ℕ) (v upto turn first last s u : ℕ) (steps ends : List ℕ) →
+    IsPartRow from to v upto first last steps ends → IsNextStep from to v upto turn s → u ≡ end_of (over from to) s →
+    last < length steps → length ends ≡ length steps →
+    IsPartRow from to v (turn + 1) first (last + 1) (slice_set steps last s) (slice_set ends last u)
+part_next from to v upto turn first last s u steps ends part n end room sizes =
+    let start = next_start from to v upto turn s n in
+    let w = written_at steps last s room in
+    let e = written_at ends last u (omega arith) in
+    let steps' = slice_set steps last s in
+    let ends' = slice_set ends last u in
+    let order = part.order in
+    let after = n.next.after in
+    let is = n.turn in
     record {
-      longer = omega arith;
-      sizes = omega arith;
-      same = λ p b. old_at steps' s p (omega arith) ∙ part.same p b;
-      same_ends = λ p b. old_at ends' u p (omega arith) ∙ part.same_ends p b;
-      leads = λ p b d. elim (cases_lt p (length steps')) [
+      order = omega arith;
+      leads = λ p b d. elim (cases_lt p last) [
         | inl before ↦
-            subst (λ (x : ℕ). Leads from to v x (slice_index (ends' ++ u ∷ []) p)) (sym (old_at steps' s p before))
-            (subst (λ (x : ℕ). Leads from to v (slice_index steps' p) x) (sym (old_at ends' u p (omega arith)))
-            (part.leads p b before))
-        | inr last ↦
-            let here = new_at steps' s (length steps') p refl last d in
-            let there = new_at ends' u (length steps') p same_size last (omega arith) in
-            subst (λ (x : ℕ). Leads from to v x (slice_index (ends' ++ u ∷ []) p)) (sym here.1)
-            (subst (λ (x : ℕ). Leads from to v s x) (sym there.1) record { arc = arc; start = start; end = sym end })
+            let ne = less_other p last before in
+            subst (λ (x : ℕ). Leads from to v x (slice_index ends' p)) (sym (w.other p ne))
+            (subst (λ (x : ℕ). Leads from to v (slice_index steps p) x) (sym (e.other p ne)) (part.leads p b before))
+        | inr at_last ↦
+            let here : last ≡ p = omega arith in
+            subst (λ (q : ℕ). Leads from to v (slice_index steps' q) (slice_index ends' q)) here
+            (subst (λ (x : ℕ). Leads from to v x (slice_index ends' last)) (sym w.here)
+            (subst (λ (x : ℕ). Leads from to v s x) (sym e.here) record { arc = n.arc; start = start; end = sym end }))
       ];
-      turns = λ p b d. elim (cases_lt p (length steps')) [
-        | inl before ↦ omega (arith, part.turns p b before, ap (turn_of (length from)) (old_at steps' s p before))
-        | inr last ↦ omega (arith, is, ap (turn_of (length from)) (new_at steps' s (length steps') p refl last d).1)
+      turns = λ p b d. elim (cases_lt p last) [
+        | inl before ↦
+            omega (
+              arith,
+              part.turns p b before,
+              ap (turn_of (length from)) (w.other p (less_other p last before)),
+            )
+        | inr at_last ↦
+            let here : p ≡ last = omega arith in
+            omega (arith, is, ap (turn_of (length from)) (ap (slice_index steps') here ∙ w.here))
       ];
-      once = λ p q b d e same. elim (cases_lt q (length steps')) [
+      once = λ p q b d f same. elim (cases_lt q last) [
         | inl before ↦ part.once p q b d before
-            (sym (old_at steps' s p (omega arith)) ∙ same ∙ old_at steps' s q before)
-        | inr last ↦
-            let here = new_at steps' s (length steps') q refl last e in
-            let before : p < length steps' = omega (arith, here.0) in
-            absurd (omega (
+            (sym (w.other p (less_other p last (omega arith))) ∙ same ∙ w.other q (less_other q last before))
+        | inr at_last ↦
+            let here : q ≡ last = omega arith in
+            let before : p < last = omega arith in
+            omega (
               arith,
               part.turns p b before,
               is,
               ap (turn_of (length from))
-                  (sym (old_at steps' s p before) ∙ same ∙ here.1),
-            ))
+                  (sym (w.other p (less_other p last before)) ∙ same ∙ (ap (slice_index steps') here ∙ w.here)),
+            )
       ];
-      all = λ t b e less. elim (cases_lt (turn_of (length from) t) upto) [
+      all = λ t b f less. elim (cases_lt (turn_of (length from) t) upto) [
         | inl before ↦
-            let old = part.all t b e before in
-            (old.0, (old.1.0, (omega (arith, old.1.1.0), old_at steps' s old.0 old.1.1.0 ∙ old.1.1.1)))
+            let old = part.all t b f before in
+            (old.0, (old.1.0, (omega (arith, old.1.1.0), w.other old.0 (less_other old.0 last old.1.1.0) ∙ old.1.1.1)))
         | inr later ↦ elim (cases_eq (turn_of (length from) t) turn) [
-          | inl same ↦ (
-            length steps',
-            (
-              omega arith,
-              (
-                omega arith,
-                (new_at steps' s (length steps') (length steps') refl (omega arith) (omega arith)).1
-                    ∙ turn_apart (length from) s t arc b (is ∙ sym same),
-              ),
-            ),
-          )
-          | inr ne ↦ absurd (next.skipped (turn_of (length from) t) later (omega arith) (key_of_turn from to t b ∙ e))
+          | inl same ↦
+              (last, (order, (omega arith, w.here ∙ turn_apart (length from) s t n.arc b (is ∙ sym same))))
+          | inr ne ↦ absurd (n.next.skipped (turn_of (length from) t) later (omega arith) (key_of_turn from to t b ∙ f))
         ]
       ];
     }
 
 -- past the end of the chain all steps were written
-pub part_end : (from to : List ℕ) (v upto turn : ℕ) (steps ends steps' ends' : List ℕ) → length to ≡ length from →
-    IsPartRow from to v upto steps ends steps' ends' → IsNext (from ++ to) v upto turn → 2 * length from ≤ turn →
-    IsPartRow from to v (2 * length from) steps ends steps' ends'
-part_end from to v upto turn steps ends steps' ends' heads part next past =
+pub part_end : (from to : List ℕ) (v upto turn first last turns : ℕ) (steps ends : List ℕ) → length to ≡ length from →
+    turns ≡ 2 * length from → IsPartRow from to v upto first last steps ends → IsNext (from ++ to) v upto turn →
+    turns ≤ turn → IsPartRow from to v turns first last steps ends
+part_end from to v upto turn first last turns steps ends sizes are part next past =
     let all = length-append from to in
     let within = next.within in
     let after = next.after in
     record {
-      longer = part.longer;
-      sizes = part.sizes;
-      same = part.same;
-      same_ends = part.same_ends;
+      order = part.order;
       leads = part.leads;
-      turns = λ p b d. turn_below (length from) (slice_index steps' p) (part.leads p b d).arc;
+      turns = λ p b d. omega (arith, are, turn_below (length from) (slice_index steps p) (part.leads p b d).arc);
       once = part.once;
       all = λ s b e less. elim (cases_lt (turn_of (length from) s) upto) [
         | inl before ↦ part.all s b e before
@@ -173,95 +219,193 @@ part_end from to v upto turn steps ends steps' ends' heads part next past =
       ];
     }
 
--- the rows of the nodes below n are written
-pub record AreRowsUpTo (from to : List ℕ) (n : ℕ) (r : Rows) : Type 0 where
-  pub firsts : length r.first ≡ n + 1
-  pub last : slice_index r.first n ≡ length r.step
-  pub ends : length r.end ≡ length r.step
+-- words stay small when a small one is written
+pub small_stays : (xs : List ℕ) (at x : ℕ) → at < length xs → x < 2 ^ 32 → AreSmall xs → AreSmall (slice_set xs at x)
+small_stays xs at x room small before p =
+    let w = written_at xs at x room in
+    elim (cases_eq p at) [
+      | inl same ↦ omega (arith, small, ap (slice_index (slice_set xs at x)) same, w.here)
+      | inr ne ↦ omega (arith, before p, w.other p ne)
+    ]
+
+-- words that are 0 are small, and so is a part of them
+pub zeros_small : (xs : List ℕ) (n m : ℕ) → ((p : ℕ) → slice_index xs p ≡ 0) → AreSmall (take n (drop m xs))
+zeros_small xs n m none p = elim (cases_lt p n) [
+  | inl less ↦ omega (arith, get_or-take n (drop m xs) p 0 less, get_or-drop m xs p 0, none (m + p))
+  | inr more ↦ omega (arith, get_or_past (take n (drop m xs)) p 0 (omega (arith, length-take n (drop m xs), more)))
+]
+
+-- steps that are apart stay so when one more is written
+pub apart_more : (from to : List ℕ) (n last s : ℕ) (steps : List ℕ) → AreApart from to n last steps →
+    last < length steps → arc_of s < length from → start_of (over from to) s < n →
+    ((p : ℕ) → p < last → slice_index steps p ≢ s) → AreApart from to n (last + 1) (slice_set steps last s)
+apart_more from to n last s steps apart room arc start is_new =
+    let w = written_at steps last s room in
+    let steps' = slice_set steps last s in
+    record {
+      arcs = λ p b. elim (cases_lt p last) [
+        | inl before ↦
+            subst (λ (x : ℕ). arc_of x < length from) (sym (w.other p (less_other p last before))) (apart.arcs p before)
+        | inr at_last ↦
+            let here : last ≡ p = omega arith in
+            subst (λ (q : ℕ). arc_of (slice_index steps' q) < length from) here
+            (subst (λ (x : ℕ). arc_of x < length from) (sym w.here) arc)
+      ];
+      starts = λ p b. elim (cases_lt p last) [
+        | inl before ↦
+            subst (λ (x : ℕ). start_of (over from to) x < n) (sym (w.other p (less_other p last before)))
+            (apart.starts p before)
+        | inr at_last ↦
+            let here : last ≡ p = omega arith in
+            subst (λ (q : ℕ). start_of (over from to) (slice_index steps' q) < n) here
+            (subst (λ (x : ℕ). start_of (over from to) x < n) (sym w.here) start)
+      ];
+      once = λ p q d b same. elim (cases_lt q last) [
+        | inl before ↦ apart.once p q d before
+            (sym (w.other p (less_other p last (omega arith))) ∙ same ∙ w.other q (less_other q last before))
+        | inr at_last ↦
+            let here : q ≡ last = omega arith in
+            let before : p < last = omega arith in
+            is_new p before
+            (sym (w.other p (less_other p last before)) ∙ same ∙ (ap (slice_index steps') here ∙ w.here))
+      ];
+    }
+
+-- and when a later place is written
+pub apart_stays : (from to : List ℕ) (n last at s : ℕ) (steps : List ℕ) → AreApart from to n last steps →
+    last ≤ at → AreApart from to n last (slice_set steps at s)
+apart_stays from to n last at s steps apart behind =
+    let other : (p : ℕ) → p < last → slice_index (slice_set steps at s) p ≡ slice_index steps p =
+    λ p b. get_or-set_other steps at p s 0 (less_other p at (omega arith)) in
+    record {
+      arcs = λ p b. subst (λ (x : ℕ). arc_of x < length from) (sym (other p b)) (apart.arcs p b);
+      starts = λ p b. subst (λ (x : ℕ). start_of (over from to) x < n) (sym (other p b)) (apart.starts p b);
+      once = λ p q d b same. apart.once p q d b (sym (other p (omega arith)) ∙ same ∙ other q b);
+    }
+
+-- steps that leave nodes below n leave nodes below n + 1
+pub apart_weak : (from to : List ℕ) (n last : ℕ) (steps : List ℕ) → AreApart from to n last steps →
+    AreApart from to (n + 1) last steps
+apart_weak from to n last steps apart = record {
+  arcs = apart.arcs;
+  starts = λ p b. omega (arith, apart.starts p b);
+  once = apart.once;
+}
+
+-- no step is written yet
+pub apart_start : (from to steps : List ℕ) → AreApart from to 0 0 steps
+apart_start from to steps = record {
+  arcs = λ p b. absurd (omega arith);
+  starts = λ p b. absurd (omega arith);
+  once = λ p q d b. absurd (omega arith);
+}
+
+-- lists that were the same below a place stay so when a later place is written
+pub same_stays : (last at s u : ℕ) (steps ends steps' ends' : List ℕ) → AreSameBelow last steps ends steps' ends' →
+    last ≤ at → AreSameBelow last steps ends (slice_set steps' at s) (slice_set ends' at u)
+same_stays last at s u steps ends steps' ends' same behind = record {
+  same_steps = λ p b. get_or-set_other steps' at p s 0 (less_other p at (omega arith)) ∙ same.same_steps p b;
+  same_ends = λ p b. get_or-set_other ends' at p u 0 (less_other p at (omega arith)) ∙ same.same_ends p b;
+}
+
+-- the rows of the nodes below n are written, and end before a place
+pub record AreRowsUpTo (from to : List ℕ) (n last : ℕ) (r : Rows) : Type 0 where
+  pub place : slice_index r.first n ≡ last
+  pub inside : last ≤ length r.step
   pub rows : (v : ℕ) → v < n → IsRow from to r v
+  pub before : (v : ℕ) → v < n → slice_index r.first (v + 1) ≤ last
 
 -- none is written yet
-pub rows_start : (from to : List ℕ) → AreRowsUpTo from to 0 record { first = 0 ∷ []; step = []; end = [] }
-rows_start from to = record { firsts = refl; last = refl; ends = refl; rows = λ v b. absurd (omega arith) }
+pub rows_start : (from to first step end : List ℕ) → 0 < length first →
+    AreRowsUpTo from to 0 0 record { first = slice_set first 0 0; step = step; end = end }
+rows_start from to first step end some = record {
+  place = get_or-set_same first 0 0 0 some;
+  inside = omega arith;
+  rows = λ v b. absurd (omega arith);
+  before = λ v b. absurd (omega arith);
+}
 
 -- a row stays when more is written behind it
-row_stays : (from to : List ℕ) (r : Rows) (v x : ℕ) (step end : List ℕ) → v + 1 < length r.first →
-    length r.end ≡ length r.step → length r.step ≤ length step →
-    ((p : ℕ) → p < length r.step → slice_index step p ≡ slice_index r.step p) →
-    ((p : ℕ) → p < length r.step → slice_index end p ≡ slice_index r.end p) → IsRow from to r v →
-    IsRow from to record { first = r.first ++ x ∷ []; step = step; end = end } v
-row_stays from to r v x step end b sizes longer same same_end row =
-    let more : Rows = record { first = r.first ++ x ∷ []; step = step; end = end } in
-    let first = old_at r.first x v (omega arith) in
-    let last = old_at r.first x (v + 1) b in
+row_stays : (from to : List ℕ) (r more : Rows) (v last : ℕ) → slice_index more.first v ≡ slice_index r.first v →
+    slice_index more.first (v + 1) ≡ slice_index r.first (v + 1) → slice_index r.first (v + 1) ≤ last →
+    length more.step ≡ length r.step → AreSameBelow last r.step r.end more.step more.end → IsRow from to r v →
+    IsRow from to more v
+row_stays from to r more v last first next inside sizes same row =
     let within = row.within in
     let order = row.order in
     let before : (p : ℕ) → IsInRow more v p → IsInRow r v p =
-    λ p i. record { from = omega (arith, i.from, first); below = omega (arith, i.below, last) } in
-    let short : (p : ℕ) → IsInRow more v p → p < length r.step = λ p i. omega (arith, i.below, last) in
+    λ p i. record { from = omega (arith, i.from, first); below = omega (arith, i.below, next) } in
+    let short : (p : ℕ) → IsInRow more v p → p < last = λ p i. omega (arith, i.below, next) in
     record {
       order = omega arith;
       within = omega arith;
       leads = λ p i.
-          subst (λ (y : ℕ). Leads from to v y (slice_index end p)) (sym (same p (short p i)))
-          (subst (λ (y : ℕ). Leads from to v (slice_index r.step p) y) (sym (same_end p (short p i)))
+          subst (λ (y : ℕ). Leads from to v y (slice_index more.end p)) (sym (same.same_steps p (short p i)))
+          (subst (λ (y : ℕ). Leads from to v (slice_index r.step p) y) (sym (same.same_ends p (short p i)))
           (row.leads p (before p i)));
-      once = λ p q i j e. row.once p q (before p i) (before q j) (sym (same p (short p i)) ∙ e ∙ same q (short q j));
+      once = λ p q i j e. row.once p q (before p i) (before q j)
+          (sym (same.same_steps p (short p i)) ∙ e ∙ same.same_steps q (short q j));
       all = λ s d e.
           let old = row.all s d e in
           let here : IsInRow more v old.0 = record
-          { from = omega (arith, old.1.0.from, first); below = omega (arith, old.1.0.below, last) } in
-          (old.0, (here, same old.0 (omega (arith, old.1.0.below)) ∙ old.1.1));
+          { from = omega (arith, old.1.0.from, first); below = omega (arith, old.1.0.below, next) } in
+          (old.0, (here, same.same_steps old.0 (omega (arith, old.1.0.below)) ∙ old.1.1));
     }
 
 -- the row of one more node is written
-pub rows_next : (from to : List ℕ) (n x : ℕ) (r : Rows) (step end : List ℕ) → AreRowsUpTo from to n r →
-    IsPartRow from to n (2 * length from) r.step r.end step end → x ≡ length step →
-    AreRowsUpTo from to (n + 1) record { first = r.first ++ x ∷ []; step = step; end = end }
-rows_next from to n x r step end rows part is =
-    let more : Rows = record { first = r.first ++ x ∷ []; step = step; end = end } in
-    let firsts = rows.firsts in
-    let size = length_push r.first x in
-    let before = rows.last in
-    let first = old_at r.first x n (omega arith) in
-    let last = get_or_push r.first x 0 (n + 1) firsts in
-    let longer = part.longer in
+pub rows_next : (from to : List ℕ) (n last last' turns : ℕ) (first step end step' end' : List ℕ) → n + 1 < length first →
+    AreRowsUpTo from to n last record { first = first; step = step; end = end } → turns ≡ 2 * length from →
+    IsPartRow from to n turns last last' step' end' → AreSameBelow last step end step' end' →
+    length step' ≡ length step → last' ≤ length step' →
+    AreRowsUpTo from to (n + 1) last' record { first = slice_set first (n + 1) last'; step = step'; end = end' }
+rows_next from to n last last' turns first step end step' end' room rows are part same sizes inside =
+    let r : Rows = record { first = first; step = step; end = end } in
+    let more : Rows = record { first = slice_set first (n + 1) last'; step = step'; end = end' } in
+    let w = written_at first (n + 1) last' room in
+    let here : slice_index more.first n ≡ last = w.other n (less_other n (n + 1) (omega arith)) ∙ rows.place in
+    let next : slice_index more.first (n + 1) ≡ last' = w.here in
+    let order = part.order in
     record {
-      firsts = omega arith;
-      last = last ∙ is;
-      ends = part.sizes;
-      rows = λ v b. elim (cases_lt v n) [
-        | inl old ↦ row_stays from to r v x step end (omega arith) rows.ends part.longer part.same part.same_ends
-            (rows.rows v old)
+      place = next;
+      inside = inside;
+      before = λ v b. elim (cases_lt v n) [
+        | inl old ↦ omega (arith, rows.before v old, w.other (v + 1) (less_other (v + 1) (n + 1) (omega arith)))
         | inr new ↦
             let e : v ≡ n = omega arith in
-            subst (λ (u : ℕ). IsRow from to more u) (sym e) record {
+            omega (arith, next, ap (λ (u : ℕ). slice_index more.first (u + 1)) e)
+      ];
+      rows = λ v b. elim (cases_lt v n) [
+        | inl old ↦ row_stays from to r more v last (w.other v (less_other v (n + 1) (omega arith)))
+            (w.other (v + 1) (less_other (v + 1) (n + 1) (omega arith))) (rows.before v old) sizes same (rows.rows v old)
+        | inr new ↦
+            let e : n ≡ v = omega arith in
+            subst (λ (u : ℕ). IsRow from to more u) e record {
               order = omega arith;
               within = omega arith;
               leads = λ p i. part.leads p (omega (arith, i.from)) (omega (arith, i.below));
-              once = λ p q i j same. elim (cases_lt p q) [
-                | inl less ↦ absurd (part.once p q (omega (arith, i.from)) less (omega (arith, j.below)) same)
+              once = λ p q i j twice. elim (cases_lt p q) [
+                | inl less ↦ absurd (part.once p q (omega (arith, i.from)) less (omega (arith, j.below)) twice)
                 | inr other ↦ elim (cases_lt q p) [
-                  | inl less ↦ absurd (part.once q p (omega (arith, j.from)) less (omega (arith, i.below)) (sym same))
+                  | inl less ↦ absurd (part.once q p (omega (arith, j.from)) less (omega (arith, i.below)) (sym twice))
                   | inr neither ↦ omega arith
                 ]
               ];
               all = λ s d f.
-                  let w = part.all s d f (turn_below (length from) s d) in
-                  let here : IsInRow more n w.0 = record {
-                    from = omega (arith, w.1.0);
-                    below = omega (arith, w.1.1.0);
+                  let x = part.all s d f (omega (arith, are, turn_below (length from) s d)) in
+                  let in_row : IsInRow more n x.0 = record {
+                    from = omega (arith, x.1.0);
+                    below = omega (arith, x.1.1.0);
                   } in
-                  (w.0, (here, w.1.1.1));
+                  (x.0, (in_row, x.1.1.1));
             }
       ];
     }
 
 -- all rows are written
-pub rows_end : (from to : List ℕ) (nodes n : ℕ) (r : Rows) → n ≡ nodes + 1 → AreRowsUpTo from to n r → AreRows nodes
-    from to r
-rows_end from to nodes n r is rows = record {
-  firsts = omega (arith, rows.firsts);
-  ends = rows.ends;
+pub rows_end : (from to : List ℕ) (nodes n last : ℕ) (r : Rows) → n ≡ nodes + 1 → length r.first ≡ nodes + 2 →
+    length r.end ≡ length r.step → AreRowsUpTo from to n last r → AreRows nodes from to r
+rows_end from to nodes n last r is firsts ends rows = record {
+  firsts = firsts;
+  ends = ends;
   rows = λ v b. rows.rows v (omega arith);
 }

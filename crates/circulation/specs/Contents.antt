@@ -72,6 +72,10 @@ empty_contents nodes from to rows = record {
   rows = rows;
 }
 
+-- the contents without supplies, bounds and flow
+abbrev pub emptied : Contents → Contents
+emptied c = empty_contents c.nodes c.from c.to c.rows
+
 -- the contents with an amount held on an arc, which raises its lower bound if it is greater
 abbrev pub held_contents : Contents → ℕ → ℕ → Contents
 held_contents c arc amount = record c { lower = slice_set c.lower arc (max (slice_index c.lower arc) amount) }

@@ -3,4 +3,6 @@ pub mod Residual
 pub mod Rows
 pub mod Chains
 pub mod Contents
-pub mod Circulation
+pub mod Places
+pub mod Laid
+pub mod Lent

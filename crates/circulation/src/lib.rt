@@ -4,21 +4,29 @@
 //! the residual network, forward or backward, and its room is its residual capacity. Basin nodes are
 //! numbered 0, 1, .. and the one node outside the basin, which need not be in balance, comes after
 //! them. All amounts are in units of 1,000 cubic metres.
+//!
+//! A circulation lies in one place of a region of words. A month works on its words through `Lent`, which borrows them:
+//! no call takes memory.
 #![tactic(auto)]
 
-ghost use Rattle.std.specs.Prelude.{IsTrue, ◌↔◌, ◌≡◌, true, false, not, ℕ, ◌+◌, ◌-◌, ◌*◌, ◌^◌, ◌<◌, ◌≤◌, ◌≢◌, length, slice_index, slice_set, map, IfOk, IfSome, IfNone, All};
-ghost use Rattle.circulation.specs.Contents.{arcs, flow_of, step_of, empty_contents, held_contents, month_contents, network, IsCirculation, IsStart};
+ghost use Rattle.std.specs.Prelude.{IsTrue, ◌↔◌, ◌≡◌, true, false, not, ℕ, ◌+◌, ◌-◌, ◌*◌, ◌^◌, ◌<◌, ◌≤◌, ◌≢◌, List, length, slice_index, slice_set, map, IfOk, OnOk, OnErr, All};
+ghost use Rattle.circulation.specs.Contents.{Contents, arcs, flow_of, step_of, empty_contents, emptied, held_contents, month_contents, network, IsCirculation, IsStart};
 ghost use Rattle.circulation.specs.Network.{inflow, outflow};
 ghost use Rattle.circulation.specs.Residual.{arc_of, is_back, IsClosedWalk, IsPushed};
+ghost use Rattle.circulation.specs.Rows.{Rows};
+ghost use Rattle.circulation.specs.Places.{word_count, fixed_count, tails, heads, AreWordsOf, Holds};
 ghost use Rattle.place_sums.specs.Sums.{when};
+ghost use Rattle.word_region.specs.Words.{words_at};
+ghost use Rattle.word_region.specs.declared.Place.{Place};
 
+mod laying;
 mod rows;
 
-use crate::rows::{StepRows, make_rows};
-use std::alloc::{AllocError, Global};
+use crate::laying::lay;
 use std::marker::Model;
 use std::sync::ledger::Ledger;
 use steps::Steps;
+use word_region::{Full, Place, Region};
 
 /// The greatest upper bound that an arc may have, in units of 1,000 cubic metres.
 const MOST_UPPER: u64 = 1_000_000_000_000_000;
@@ -32,73 +40,139 @@ pub struct Ends {
     pub to: u32,
 }
 
-/// The tails of arcs.
-fn from_ends(alloc: Global, ends: &[Ends]) -> Result<Vec<u32>, AllocError>
-    ensures { IfOk result (λ v. v.items ≡ map (λ e. e.from) ends.now) }
-{
-    ends.iter().map(|e| e.from).collect(alloc)
+/// Where a circulation lies in a region: its place, and how many basin nodes and arcs it has.
+#[derive(Clone, Copy, Debug, PartialEq, Eq)]
+pub struct Circulation {
+    /// Its place, of `words(nodes, arcs)` words.
+    pub place: Place,
+    /// The basin nodes.
+    pub nodes: u32,
+    /// The arcs.
+    pub arcs: u32,
 }
 
-/// The heads of arcs.
-fn to_ends(alloc: Global, ends: &[Ends]) -> Result<Vec<u32>, AllocError>
-    ensures { IfOk result (λ v. v.items ≡ map (λ e. e.to) ends.now) }
+/// How many words a circulation of so many basin nodes and arcs takes.
+pub fn words(nodes: u32, arcs: u32) -> usize
+    ensures { result ≡ word_count nodes arcs }
 {
-    ends.iter().map(|e| e.to).collect(alloc)
+    8 * arcs as usize + 8 * nodes as usize + 16
 }
+
+/// How many of them, the first, never change: ends, and the rows of the steps.
+fn fixed_words(nodes: u32, arcs: u32) -> usize
+    ensures { result ≡ fixed_count nodes arcs }
+{
+    5 * arcs as usize + nodes as usize + 2
+}
+
+impl Circulation {
+    /// A circulation of `nodes` basin nodes and of arcs with these ends, which may name the outside node, in a place of its
+    /// own, which is the region's next. All supplies, bounds and flows are 0. Full comes exactly where fewer than
+    /// `words(nodes, arcs)` words are free; then the region is unchanged. All other places stay, and no memory is taken.
+    pub fn open(nodes: u32, ends: &[Ends], region: &mut Region) -> Result<Circulation, Full>
+        requires few { length ends.now < 2 ^ 32 }
+        requires ends { All (λ e. (e.from ≤ nodes) × (e.to ≤ nodes) × (e.from ≢ e.to)) ends.now }
+        ensures numbers { IfOk result (λ c. c ≡ record {
+          place = record { from = region.old.used; len = word_count nodes (length ends.now) };
+          nodes = nodes;
+          arcs = length ends.now;
+        }) }
+        ensures held { IfOk result (λ c. (rows : Rows) ×
+            Holds region.new c (empty_contents nodes (tails ends.now) (heads ends.now) rows)) }
+        ensures fitted { OnOk result (region.old.used + word_count nodes (length ends.now) ≤ length region.old.words) }
+        ensures used { OnOk result (region.new.used ≡ region.old.used + word_count nodes (length ends.now)) }
+        ensures size { OnOk result (length region.new.words ≡ length region.old.words) }
+        ensures others { OnOk result ((place : Place) → place.from + place.len ≤ region.old.used →
+            words_at region.new.words place ≡ words_at region.old.words place) }
+        ensures full { OnErr result (length region.old.words < region.old.used + word_count nodes (length ends.now)) }
+        ensures unchanged { OnErr result (region.new ≡ region.old) }
+    {
+        let arcs = ends.len() as u32;
+        let place = region.take(words(nodes, arcs))?;
+        lay(nodes, ends, region.words_mut(place));
+        Ok(Circulation { place, nodes, arcs })
+    }
+
+    /// How many words of its place, the first, never change.
+    pub fn fixed(&self) -> usize
+        ensures { result ≡ fixed_count self.now.nodes self.now.arcs }
+    {
+        fixed_words(self.nodes, self.arcs)
+    }
+
+    /// The circulation whose words these are: those that never change, and those that do. A month works on it.
+    pub fn lend<'r>(&self, fixed: &'r [u64], moving: &'r mut [u64]) -> Lent<'r>
+        requires { (c : Contents) × AreWordsOf self.now c fixed.now moving.old }
+        ensures { (c : Contents) → AreWordsOf self.now c fixed.now moving.old → result ≡ c }
+    {
+        let arcs = self.arcs as usize;
+        let basin = self.nodes as usize;
+        let (ends, rows) = fixed.split_at(arcs);
+        let (step, rows) = rows.split_at(2 * arcs);
+        let (end, first) = rows.split_at(2 * arcs);
+        let (flow, moving) = moving.split_at_mut(arcs);
+        let (upper, moving) = moving.split_at_mut(arcs);
+        let (lower, moving) = moving.split_at_mut(arcs);
+        let (supply, moving) = moving.split_at_mut(basin);
+        let (scratch, _unused) = moving.split_at_mut(4 * basin + 8);
+        Lent {
+            nodes: self.nodes,
+            ends,
+            step,
+            end,
+            first,
+            flow,
+            upper,
+            lower,
+            supply,
+            scratch,
+        }
+    }
+
+    /// Gives back words that were lent: the supplies, the bounds and the flow are 0 again.
+    pub fn give_back(&self, fixed: &[u64], moving: &mut [u64])
+        requires { (c : Contents) × ((moved : List ℕ) ×
+            (AreWordsOf self.now c fixed.now moved × (length moving.old ≡ length moved))) }
+        ensures { (c : Contents) (moved : List ℕ) → AreWordsOf self.now c fixed.now moved →
+            length moving.old ≡ length moved → AreWordsOf self.now (emptied c) fixed.now moving.new }
+    {
+        let _fixed = fixed;
+        moving.fill(0);
+    }
+}
+
+/// Every end of an arc is less than this: a word has the tail of an arc times this, plus its head.
+const END: u64 = 4_294_967_296;
 
 /// Basin nodes with supplies, arcs with bounds, a flow that keeps them and is in balance at each basin
-/// node, and `4 * nodes + 8` scratch words for a search. Only `open` takes memory.
+/// node, and `4 * nodes + 8` scratch words for a search. They lie in words that are borrowed.
 #[derive(Drop)]
-pub struct Circulation {
+pub struct Lent<'r> {
     nodes: u32,
-    from: Vec<u32>,
-    to: Vec<u32>,
-    supply: Vec<u64>,
-    lower: Vec<u64>,
-    upper: Vec<u64>,
-    flow: Vec<u64>,
-    scratch: Vec<u64>,
-    rows: StepRows,
+    ends: &'r [u64],
+    step: &'r [u64],
+    end: &'r [u64],
+    first: &'r [u64],
+    flow: &'r mut [u64],
+    upper: &'r mut [u64],
+    lower: &'r mut [u64],
+    supply: &'r mut [u64],
+    scratch: &'r mut [u64],
 }
 
-impl Model for Circulation {
+impl<'r> Model for Lent<'r> {
     ghost use Rattle.circulation.specs.Contents.{Contents};
 
     ghost Value = { Contents };
 
-    ghost use Rattle.circulation.specs.Circulation.{contents, IsKept};
+    ghost use Rattle.circulation.specs.Lent.{contents, IsKept};
 
     ghost view = { contents };
 
     ghost invariant = { IsKept };
 }
 
-impl Circulation {
-    /// A circulation of `nodes` basin nodes and of arcs with these ends, which may name the outside node.
-    /// All supplies, bounds and flows are 0. AllocError comes where memory is lacking.
-    pub fn open(alloc: Global, nodes: u32, ends: &[Ends]) -> Result<Circulation, AllocError>
-        requires few { length ends.now < 2 ^ 32 }
-        requires ends { All (λ e. (e.from ≤ nodes) × (e.to ≤ nodes) × (e.from ≢ e.to)) ends.now }
-        ensures { IfOk result (λ c.
-            c ≡ empty_contents nodes (map (λ e. e.from) ends.now) (map (λ e. e.to) ends.now) c.rows) }
-    {
-        let from = from_ends(alloc, ends)?;
-        let to = to_ends(alloc, ends)?;
-        let rows = make_rows(alloc, nodes, &from, &to)?;
-        let basin = nodes as usize;
-        Ok(Circulation {
-            nodes,
-            supply: vec![in alloc; 0; basin]?,
-            lower: vec![in alloc; 0; ends.len()]?,
-            upper: vec![in alloc; 0; ends.len()]?,
-            flow: vec![in alloc; 0; ends.len()]?,
-            scratch: vec![in alloc; 0; 4 * basin + 8]?,
-            from,
-            to,
-            rows,
-        })
-    }
-
+impl Lent<'_> {
     /// How many basin nodes there are, which is also the number of the outside node.
     pub fn nodes(&self) -> u32
         ensures number { result ≡ self.now.nodes }
@@ -111,7 +185,7 @@ impl Circulation {
     pub fn arcs(&self) -> u32
         ensures { result ≡ arcs self.now }
     {
-        self.from.len() as u32
+        self.ends.len() as u32
     }
 
     /// The ends of an arc.
@@ -121,9 +195,10 @@ impl Circulation {
         ensures to { result.to ≡ slice_index self.now.to arc }
         ensures kept { IsCirculation self.now }
     {
+        let word = self.ends[arc as usize];
         Ends {
-            from: self.from[arc as usize],
-            to: self.to[arc as usize],
+            from: (word / END) as u32,
+            to: (word % END) as u32,
         }
     }
 
@@ -264,10 +339,12 @@ impl Circulation {
         ensures kept { IsCirculation self.new }
         ensures ticked { searches.new ≡ searches.old + 1 }
     {
-        let flow: &mut [u64] = &mut self.flow;
-        let scratch: &[u64] = &self.scratch;
+        // The number of nodes bounds the sum.
+        let _nodes = self.nodes;
         for at in first..first + count {
-            step_over(flow, scratch[at], amount);
+            let step = self.scratch[at];
+            let arc = (step / 2) as usize;
+            self.flow[arc] = stepped(self.flow[arc], step, amount);
         }
         searches.tick();
     }
@@ -279,7 +356,7 @@ impl Circulation {
         ensures place { result ≡ slice_index self.now.rows.first node }
         ensures kept { IsCirculation self.now }
     {
-        self.rows.first[node as usize]
+        self.first[node as usize] as usize
     }
 
     /// The place before which the row of a node ends.
@@ -288,7 +365,7 @@ impl Circulation {
         ensures place { result ≡ slice_index self.now.rows.first (node + 1) }
         ensures kept { IsCirculation self.now }
     {
-        self.rows.first[node as usize + 1]
+        self.first[node as usize + 1] as usize
     }
 
     /// The step at a place of a row: 2 * a goes over the arc a forward, and 2 * a + 1 backward.
@@ -296,7 +373,8 @@ impl Circulation {
         requires { place < length self.now.rows.step }
         ensures { result ≡ slice_index self.now.rows.step place }
     {
-        self.rows.step[place]
+        let step = self.step;
+        step[place]
     }
 
     /// The node that the step at a place of a row enters.
@@ -304,7 +382,8 @@ impl Circulation {
         requires { place < length self.now.rows.step }
         ensures { result ≡ slice_index self.now.rows.end place }
     {
-        self.rows.end[place]
+        let end = self.end;
+        end[place] as u32
     }
 
     /// A scratch word.
@@ -312,7 +391,8 @@ impl Circulation {
         requires { at < 4 * self.now.nodes + 8 }
         ensures { result ≡ step_of self.now at }
     {
-        self.scratch[at]
+        let scratch: &[u64] = &*self.scratch;
+        scratch[at]
     }
 
     /// Writes a scratch word.
@@ -321,24 +401,21 @@ impl Circulation {
         ensures kept { IsCirculation self.new }
         ensures written { self.new ≡ record self.old { scratch = slice_set self.old.scratch at value } }
     {
-        self.scratch[at] = value;
+        let scratch: &mut [u64] = &mut *self.scratch;
+        scratch[at] = value;
     }
 }
 
-/// Changes the flow of the arc that a step goes over.
-fn step_over(flow: &mut [u64], step: u64, amount: u64)
-    requires arc { arc_of step < length flow.old }
-    requires back { is_back step ≡ true → amount ≤ slice_index flow.old (arc_of step) }
-    requires forward { is_back step ≡ false → slice_index flow.old (arc_of step) + amount < 2 ^ 64 }
-    ensures on { slice_index flow.new (arc_of step) + when (is_back step) amount ≡
-        slice_index flow.old (arc_of step) + when (not (is_back step)) amount }
-    ensures off { (a : ℕ) → a ≢ arc_of step → slice_index flow.new a ≡ slice_index flow.old a }
+/// The flow of an arc after a step over it.
+fn stepped(flow: u64, step: u64, amount: u64) -> u64
+    requires back { is_back step ≡ true → amount ≤ flow }
+    requires forward { is_back step ≡ false → flow + amount < 2 ^ 64 }
+    ensures { result + when (is_back step) amount ≡ flow + when (not (is_back step)) amount }
 {
-    let arc = (step / 2) as usize;
     if step % 2 == 1 {
-        flow[arc] -= amount;
+        flow - amount
     } else {
-        flow[arc] += amount;
+        flow + amount
     }
 }
 

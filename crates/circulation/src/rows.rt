@@ -2,65 +2,41 @@
 //!
 //! Rows are made once, in time linear in nodes and arcs: the steps are chained by the nodes that they leave, and each
 //! chain is then written down.
-ghost use Rattle.std.specs.Prelude.{◌≡◌, ◌++◌, ℕ, ◌+◌, ◌*◌, ◌^◌, ◌<◌, ◌≤◌, length, slice_index, IfOk, OnOk};
+ghost use Rattle.std.specs.Prelude.{◌≡◌, ◌++◌, ℕ, ◌+◌, ◌*◌, ◌^◌, ◌<◌, ◌≤◌, length, slice_index};
 ghost use Rattle.circulation.specs.Residual.{arc_of, end_of};
 ghost use Rattle.circulation.specs.Rows.{over, AreRows};
-ghost use Rattle.circulation.specs.Chains.{turn_of, IsNext, AreChains, IsPartRow};
+ghost use Rattle.circulation.specs.Chains.{turn_of, tails_of, heads_of, keys_of, IsNext, AreChains, IsPartRow, AreApart, AreSameBelow, AreSmall};
 
-use std::alloc::{AllocError, Global};
+use crate::END;
 
-/// The steps of all rows, one row after another, the node that each of them enters, and the place at which each row
-/// begins. Behind the row of the last node stands where another one would begin.
-#[derive(Drop)]
-pub struct StepRows {
-    pub first: Vec<usize>,
-    pub step: Vec<u64>,
-    pub end: Vec<u32>,
-}
-
-/// Places chained by their keys, least first: the first place with each key, and after each place the next one with its
-/// key. The number of places stands for none.
-#[derive(Drop)]
-struct Chains {
-    first: Vec<u64>,
-    next: Vec<u64>,
-}
-
-/// Chains each place to the next one with its key, from the last place to the first.
-fn link(first: &mut [u64], next: &mut [u64], keys: &[u32])
-    requires nexts { length next.old ≡ length keys.now }
-    requires within { (a : ℕ) → a < length keys.now → slice_index keys.now a < length first.old }
-    requires none { (v : ℕ) → v < length first.old → slice_index first.old v ≡ length keys.now }
-    ensures starts { (v : ℕ) → v < length first.new → IsNext keys.now v 0 (slice_index first.new v) }
-    ensures follows { (a : ℕ) → a < length keys.now →
-        IsNext keys.now (slice_index keys.now a) (a + 1) (slice_index next.new a) }
+/// The node that the step of a turn leaves: the tails of arcs come first, and then the heads.
+fn key(pairs: &[u64], turn: usize) -> usize
+    requires { turn < 2 * length pairs.now }
+    ensures { result ≡ slice_index (keys_of pairs.now) turn }
 {
-    for a in (0..keys.len()).rev() {
-        let key = keys[a] as usize;
-        next[a] = first[key];
-        first[key] = a as u64;
+    let arcs = pairs.len();
+    if turn < arcs {
+        (pairs[turn] / END) as usize
+    } else {
+        (pairs[turn - arcs] % END) as usize
     }
 }
 
-/// The chains of places by key.
-fn make_chains(alloc: Global, nodes: u32, keys: &[u32]) -> Result<Chains, AllocError>
-    requires { (a : ℕ) → a < length keys.now → slice_index keys.now a ≤ nodes }
-    ensures { IfOk result (λ c. AreChains keys.now nodes c.first.items c.next.items) }
+/// Chains each turn to the next one with its key, from the last turn to the first. The number of turns stands for none.
+fn link(first: &mut [u64], next: &mut [u64], pairs: &[u64])
+    requires few { length pairs.now < 2 ^ 32 }
+    requires nexts { length next.old ≡ 2 * length pairs.now }
+    requires within { (a : ℕ) → a < length (keys_of pairs.now) → slice_index (keys_of pairs.now) a < length first.old }
+    requires none { (v : ℕ) → v < length first.old → slice_index first.old v ≡ length (keys_of pairs.now) }
+    ensures starts { (v : ℕ) → v < length first.new → IsNext (keys_of pairs.now) v 0 (slice_index first.new v) }
+    ensures follows { (a : ℕ) → a < length (keys_of pairs.now) →
+        IsNext (keys_of pairs.now) (slice_index (keys_of pairs.now) a) (a + 1) (slice_index next.new a) }
 {
-    let none = keys.len() as u64;
-    let mut first = vec![in alloc; none; nodes as usize + 1]?;
-    let mut next = vec![in alloc; none; keys.len()]?;
-    link(&mut first, &mut next, keys);
-    Ok(Chains { first, next })
-}
-
-/// The nodes that steps leave, by their turns: the tails of arcs, and then the heads.
-fn starts(alloc: Global, from: &[u32], to: &[u32]) -> Result<Vec<u32>, AllocError>
-    ensures { IfOk result (λ keys. keys.items ≡ from.now ++ to.now) }
-{
-    let mut keys = Vec::from_slice(alloc, from)?;
-    keys.extend_from_slice(to)?;
-    Ok(keys)
+    for a in (0..2 * pairs.len()).rev() {
+        let key = key(pairs, a);
+        next[a] = first[key];
+        first[key] = a as u64;
+    }
 }
 
 /// The step of a turn, among so many arcs.
@@ -78,87 +54,105 @@ fn step_in_turn(arcs: u64, turn: u64) -> u64
 }
 
 /// The node that a step enters.
-fn end(from: &[u32], to: &[u32], step: u64) -> u32
-    requires arc { arc_of step < length from.now }
-    requires heads { length to.now ≡ length from.now }
-    ensures { result ≡ end_of (over from.now to.now) step }
+fn end(pairs: &[u64], step: u64) -> u64
+    requires arc { arc_of step < length pairs.now }
+    ensures end { result ≡ end_of (over (tails_of pairs.now) (heads_of pairs.now)) step }
+    ensures small { result < 2 ^ 32 }
 {
-    let arc = (step / 2) as usize;
-    if step % 2 == 1 { from[arc] } else { to[arc] }
+    let pair = pairs[(step / 2) as usize];
+    if step % 2 == 1 { pair / END } else { pair % END }
 }
 
-/// Writes the row of a node behind what was written, along its chain.
-fn push_row(
-    from: &[u32],
-    to: &[u32],
-    chains: &Chains,
+/// Writes the row of a node from a place on, along its chain. Answers where it ends.
+fn write_row(
+    pairs: &[u64],
+    heads: &[u64],
+    next: &[u64],
     node: u32,
-    steps: &mut Vec<u64>,
-    ends: &mut Vec<u32>,
-) -> Result<(), AllocError>
-    requires few { length from.now < 2 ^ 32 }
-    requires heads { length to.now ≡ length from.now }
-    requires node { node < length chains.now.first.items }
-    requires chains { (n : ℕ) × AreChains (from.now ++ to.now) n chains.now.first.items chains.now.next.items }
-    requires ends { length ends.old.items ≡ length steps.old.items }
-    ensures { OnOk result (IsPartRow from.now to.now node (2 * length from.now)
-        steps.old.items ends.old.items steps.new.items ends.new.items) }
+    step: &mut [u64],
+    ends: &mut [u64],
+    first: usize,
+) -> usize
+    requires few { length pairs.now < 2 ^ 32 }
+    requires node { node < length heads.now }
+    requires chains { (n : ℕ) × AreChains (keys_of pairs.now) n heads.now next.now }
+    requires steps { length step.old ≡ 2 * length pairs.now }
+    requires ends { length ends.old ≡ length step.old }
+    requires inside { first ≤ length step.old }
+    requires apart { AreApart (tails_of pairs.now) (heads_of pairs.now) node first step.old }
+    requires small { AreSmall ends.old }
+    ensures row { IsPartRow (tails_of pairs.now) (heads_of pairs.now) node (2 * length pairs.now) first result step.new ends.new }
+    ensures apart { AreApart (tails_of pairs.now) (heads_of pairs.now) (node + 1) result step.new }
+    ensures same { AreSameBelow first step.old ends.old step.new ends.new }
+    ensures small { AreSmall ends.new }
+    ensures inside { result ≤ length step.new }
 {
-    let arcs = from.len() as u64;
-    let mut turn = chains.first[node as usize];
+    let arcs = pairs.len() as u64;
+    let mut place = first;
+    let mut turn = heads[node as usize];
     while turn < 2 * arcs {
-        let step = step_in_turn(arcs, turn);
-        steps.push(step)?;
-        ends.push(end(from, to, step))?;
-        turn = chains.next[turn as usize];
+        let here = step_in_turn(arcs, turn);
+        step[place] = here;
+        ends[place] = end(pairs, here);
+        place += 1;
+        turn = next[turn as usize];
     }
-    Ok(())
+    place
 }
 
-/// Writes the rows of all nodes.
+/// Writes the rows of all nodes along their chains.
 fn write_rows(
-    alloc: Global,
     nodes: u32,
-    from: &[u32],
-    to: &[u32],
-    chains: &Chains,
-) -> Result<StepRows, AllocError>
-    requires few { length from.now < 2 ^ 32 }
-    requires heads { length to.now ≡ length from.now }
-    requires chains { AreChains (from.now ++ to.now) nodes chains.now.first.items chains.now.next.items }
-    ensures { IfOk result (λ r. AreRows nodes from.now to.now
-        record { first = r.first.items; step = r.step.items; end = r.end.items }) }
+    pairs: &[u64],
+    heads: &[u64],
+    next: &[u64],
+    step: &mut [u64],
+    ends: &mut [u64],
+    first: &mut [u64],
+)
+    requires few { length pairs.now < 2 ^ 32 }
+    requires chains { AreChains (keys_of pairs.now) nodes heads.now next.now }
+    requires steps { length step.old ≡ 2 * length pairs.now }
+    requires ends { length ends.old ≡ length step.old }
+    requires first { length first.old ≡ nodes + 2 }
+    requires none { AreSmall ends.old }
+    ensures rows { AreRows nodes (tails_of pairs.now) (heads_of pairs.now)
+        record { first = first.new; step = step.new; end = ends.new } }
+    ensures small { AreSmall ends.new }
 {
-    let mut first = Vec::new(alloc);
-    let mut steps = Vec::with_capacity(alloc, 2 * from.len())?;
-    let mut ends = Vec::with_capacity(alloc, 2 * from.len())?;
-    first.push(0)?;
+    let mut place = 0;
+    first[0] = 0;
     for node in 0..nodes as usize + 1 {
-        push_row(from, to, chains, node as u32, &mut steps, &mut ends)?;
-        first.push(steps.len())?;
+        place = write_row(pairs, heads, next, node as u32, step, ends, place);
+        first[node + 1] = place as u64;
     }
-    Ok(StepRows {
-        first,
-        step: steps,
-        end: ends,
-    })
 }
 
-/// The rows of the steps over the arcs with these tails and heads, which may be the outside node.
+/// Writes the rows of the steps over the arcs whose ends are packed in words and may be the outside node. The chains of
+/// which they are made lie in `heads` and `next`.
 pub fn make_rows(
-    alloc: Global,
     nodes: u32,
-    from: &[u32],
-    to: &[u32],
-) -> Result<StepRows, AllocError>
-    requires few { length from.now < 2 ^ 32 }
-    requires heads { length to.now ≡ length from.now }
-    requires from { (a : ℕ) → a < length from.now → slice_index from.now a ≤ nodes }
-    requires to { (a : ℕ) → a < length to.now → slice_index to.now a ≤ nodes }
-    ensures { IfOk result (λ r. AreRows nodes from.now to.now
-        record { first = r.first.items; step = r.step.items; end = r.end.items }) }
+    pairs: &[u64],
+    heads: &mut [u64],
+    next: &mut [u64],
+    step: &mut [u64],
+    ends: &mut [u64],
+    first: &mut [u64],
+)
+    requires few { length pairs.now < 2 ^ 32 }
+    requires from { (a : ℕ) → a < length pairs.now → slice_index (tails_of pairs.now) a ≤ nodes }
+    requires to { (a : ℕ) → a < length pairs.now → slice_index (heads_of pairs.now) a ≤ nodes }
+    requires heads { length heads.old ≡ nodes + 1 }
+    requires next { length next.old ≡ 2 * length pairs.now }
+    requires steps { length step.old ≡ 2 * length pairs.now }
+    requires ends { length ends.old ≡ length step.old }
+    requires first { length first.old ≡ nodes + 2 }
+    requires none { AreSmall ends.old }
+    ensures rows { AreRows nodes (tails_of pairs.now) (heads_of pairs.now)
+        record { first = first.new; step = step.new; end = ends.new } }
+    ensures small { AreSmall ends.new }
 {
-    let keys = starts(alloc, from, to)?;
-    let chains = make_chains(alloc, nodes, &keys)?;
-    write_rows(alloc, nodes, from, to, &chains)
+    heads.fill(2 * pairs.len() as u64);
+    link(heads, next, pairs);
+    write_rows(nodes, pairs, heads, next, step, ends, first);
 }

@@ -1,55 +1,49 @@
-use Rattle.std.proofs.Common.{List, ℕ, length, replicate, arith, ap, ◌∙◌, subst, sym}
-use Rattle.std.proofs.lemmas.List.{length-map}
-use Rattle.circulation.specs.declared.Ends.{Ends}
-use Rattle.circulation.specs.Rows.{Rows, AreRows}
-use Rattle.circulation.proofs.Opened.{from_within, to_within, ends_apart, lengths_agree, circulation_when_empty}
+use Rattle.std.proofs.Common.{◌≡◌, ◌+◌, ◌≤◌, length, refl, arith, ap, sym, subst, ◌∙◌}
+use Rattle.word_region.specs.Words.{Words, words_at}
+use Rattle.word_region.specs.declared.Place.{Place}
+use Rattle.circulation.specs.declared.Circulation.{Circulation}
+use Rattle.circulation.specs.Contents.{empty_contents}
+use Rattle.circulation.specs.Places.{tails, heads, HasWords}
+use Rattle.circulation.proofs.Opened.{laid-words}
+use Rattle.word_region.proofs.Words.{length-zeroed}
+use Rattle.circulation.proofs.Lends.{written_place, written_other, zeroed_other}
 use Rattle.circulation.proofs.Circulation.open.Goals as goal
 
-pub make_rows-requires-clause-from : goal.make_rows-requires-clause-from
-make_rows-requires-clause-from c =
-    from_within _ c.args.ends.now _ (c.deref.ensures.value ∙ c.in_ok-from.ensures) c.requires.ends
-
-pub make_rows-requires-clause-to : goal.make_rows-requires-clause-to
-make_rows-requires-clause-to c =
-    to_within _ c.args.ends.now _ (c.deref-2.ensures.value ∙ c.in_ok-to.ensures) c.requires.ends
-
-pub make_rows-requires-clause-heads : goal.make_rows-requires-clause-heads
-make_rows-requires-clause-heads c =
-    lengths_agree c.args.ends.now _ _ (c.deref.ensures.value ∙ c.in_ok-from.ensures)
-    (c.deref-2.ensures.value ∙ c.in_ok-to.ensures)
-
-pub make_rows-requires-clause-few : goal.make_rows-requires-clause-few
-make_rows-requires-clause-few c =
-    omega (
-      arith,
-      ap length (c.deref.ensures.value ∙ c.in_ok-from.ensures),
-      length-map c.args.ends.now
-          (λ (e : Ends). e.from),
-      c.requires.few,
+pub returns-clause-held : goal.returns-clause-held
+returns-clause-held c =
+    let arcs = length c.args.ends.now in
+    let place = c.in_ok-place.place in
+    let at = c.in_ok-place.ensures.place in
+    let from = ap (λ (p : Place). p.from) at in
+    let len = ap (λ (p : Place). p.len) at ∙ c.words.ensures in
+    let used = ap (λ (r : Words). r.used) c.in_ok-place.ensures.taken in
+    let size = ap (λ (r : Words). length r.words) c.in_ok-place.ensures.taken
+    ∙ length-zeroed c.args.region.now.words c.args.region.now.used c.words.result c.in_ok-place.ensures.fitted in
+    let circ : Circulation = record { place = place; nodes = c.args.nodes; arcs = arcs } in
+    let has = laid-words circ c.args.ends.now c.lay.new.words refl c.ranges.nodes.fits c.requires.few c.requires.ends
+    c.lay.ensures.fixed c.lay.ensures.moving in
+    let fits : place.from + place.len ≤ length c.take.new.self.words = omega
+    (arith, from, ap (λ (p : Place). p.len) at, size, c.in_ok-place.ensures.fitted) in
+    (
+      has.0,
+      record {
+        used = omega (arith, from, ap (λ (p : Place). p.len) at, used);
+        size = len;
+        words = subst (HasWords circ (empty_contents c.args.nodes (tails c.args.ends.now) (heads c.args.ends.now) has.0))
+            (sym (written_place c.take.new.self.words c.lay.new.words place (c.lay.ensures.count ∙ sym len) fits)) has.1;
+      },
     )
 
-pub invariant_of-result : goal.invariant_of-result
-invariant_of-result c =
-    let supply = c.in_ok-vec.ensures.items_if_clones_equal (λ y h. h) in
-    let lower = c.in_ok-vec-2.ensures.items_if_clones_equal (λ y h. h) in
-    let upper = c.in_ok-vec-3.ensures.items_if_clones_equal (λ y h. h) in
-    let flow = c.in_ok-vec-4.ensures.items_if_clones_equal (λ y h. h) in
-    let scratch = c.in_ok-vec-5.ensures.items_if_clones_equal (λ y h. h) in
-    let from = c.in_ok-from.ensures in
-    let to = c.in_ok-to.ensures in
-    let arcs = ap length from ∙ length-map c.args.ends.now (λ (e : Ends). e.from) in
-    let of_arcs = ap (λ (n : ℕ). replicate {A = ℕ} n 0) (sym arcs) in
-    let same = lengths_agree _ _ _ from to in
-    let rows : Rows = record
-    { first = c.in_ok-rows.rows.first.items; step = c.in_ok-rows.rows.step.items; end = c.in_ok-rows.rows.end.items } in
-    circulation_when_empty c.args.nodes c.in_ok-from.from.items c.in_ok-to.to.items _ _ _ _ _ rows supply
-    (lower ∙ of_arcs) (upper ∙ of_arcs) (flow ∙ of_arcs) scratch c.ranges.nodes.fits
-    (omega (arith, arcs, c.requires.few)) same
-    record {
-      from_in = from_within _ _ _ from c.requires.ends;
-      to_in = λ a b. to_within _ _ _ to c.requires.ends a (omega (arith, same));
-      apart = ends_apart _ _ _ _ from to c.requires.ends;
-    }
-    (subst (λ (keys : List ℕ). AreRows c.args.nodes keys c.in_ok-to.to.items rows) c.deref.ensures.value
-    (subst (λ (keys : List ℕ). AreRows c.args.nodes c.deref.result.now keys rows) c.deref-2.ensures.value
-    c.in_ok-rows.ensures))
+pub returns-clause-others : goal.returns-clause-others
+returns-clause-others c = λ other before.
+    let place = c.in_ok-place.place in
+    let at = c.in_ok-place.ensures.place in
+    let from = ap (λ (p : Place). p.from) at in
+    let len = ap (λ (p : Place). p.len) at in
+    let count : length c.lay.new.words ≡ c.words.result = c.lay.ensures.count ∙ sym c.words.ensures in
+    let size = ap (λ (r : Words). length r.words) c.in_ok-place.ensures.taken
+    ∙ length-zeroed c.args.region.now.words c.args.region.now.used c.words.result c.in_ok-place.ensures.fitted in
+    written_other c.take.new.self.words c.lay.new.words place.from other
+    (omega (arith, from, count, size, c.in_ok-place.ensures.fitted)) (omega (arith, from, before))
+    ∙ ap (λ (r : Words). words_at r.words other) c.in_ok-place.ensures.taken
+    ∙ zeroed_other c.args.region.now.words c.args.region.now.used c.words.result other c.in_ok-place.ensures.fitted before

@@ -1,12 +1,33 @@
-use Rattle.std.proofs.Common.{List, ℕ, ◌+◌, sym, subst, ◌∙◌}
-use Rattle.circulation.proofs.RowLists.{AreRowsUpTo, rows_next}
+use Rattle.std.proofs.Common.{◌+◌, ◌*◌, length, arith, ◌∙◌}
+use Rattle.std.proofs.lemmas.List.{length-map, length-set}
+use Rattle.circulation.specs.Places.{tail_of}
+use Rattle.circulation.proofs.RowLists.{rows_start, apart_start, rows_next, rows_end}
 use Rattle.circulation.proofs.rows.write_rows.Goals as goal
+
+pub loop-node-init : goal.loop-node-init
+loop-node-init c = record {
+  rows = rows_start _ _ c.args.first.now _ _ (omega (arith, c.requires.first));
+  apart = apart_start _ _ _;
+  small = c.requires.none;
+  firsts = length-set c.args.first.now 0 0 ∙ c.requires.first;
+}
 
 pub loop-node-preserved : goal.loop-node-preserved
 loop-node-preserved c =
-    let next = rows_next c.args.from.now c.args.to.now c.loop-node.node c.len.result
-    record { first = c.loop-node.first.items; step = c.loop-node.steps.items; end = c.loop-node.ends.items } _ _
-    c.loop-node.invariant c.in_ok-push_row.ensures (c.len.ensures ∙ c.push_row.new.steps.ok.0) in
-    subst (λ (xs : List ℕ). AreRowsUpTo c.args.from.now c.args.to.now (c.loop-node.node + 1) record
-    { first = xs; step = c.push_row.new.steps.items; end = c.push_row.new.ends.items })
-    (sym c.in_ok-push-2.ensures.items) next
+    let row = c.write_row-place.ensures in
+    let inv = c.loop-node.invariant in
+    record {
+      rows = rows_next _ _ _ _ _ (2 * length c.args.pairs.now) c.loop-node.first c.loop-node.step c.loop-node.ends
+          c.write_row-place.new.step c.write_row-place.new.ends
+          (omega (arith, c.loop-node-test.true, inv.firsts))
+          inv.rows (omega (arith, length-map c.args.pairs.now tail_of)) row.row row.same
+          c.write_row-place.auto.step row.inside;
+      apart = row.apart;
+      small = row.small;
+      firsts = length-set c.loop-node.first (c.loop-node.node + 1) c.write_row-place.result ∙ inv.firsts;
+    }
+
+pub returns-clause-rows : goal.returns-clause-rows
+returns-clause-rows c = rows_end _ _ _ c.loop-node.node c.loop-node.place _
+    (omega (arith, c.loop-node-test.false, c.loop-node.auto.node-end)) c.loop-node.invariant.firsts
+    (omega (arith, c.loop-node.auto.ends, c.loop-node.auto.step, c.requires.ends)) c.loop-node.invariant.rows

@@ -3,8 +3,8 @@ use Rattle.std.proofs.lemmas.Bool.{eq-eqb, ne_eqb}
 use Rattle.place_sums.specs.Sums.{when}
 use Rattle.circulation.specs.Residual.{arc_of, is_back}
 use Rattle.circulation.proofs.RowSums.{IsRowSum, row_sum_start, row_sum_next, row_sum_small, row_sum_all, row_outflow}
-use Rattle.circulation.proofs.Circulation.outflow.Goals as goal
-use Rattle.circulation.proofs.Circulation.outflow.Goals.{then-step-eq0, else-step-eq0}
+use Rattle.circulation.proofs.Lent.outflow.Goals as goal
+use Rattle.circulation.proofs.Lent.outflow.Goals.{then-step-eq0, else-step-eq0}
 
 pub loop-place-init : goal.loop-place-init
 loop-place-init c = row_sum_start _ _ _ _ _ c.row_first-place.ensures.place

@@ -1,0 +1,105 @@
+-- The parts of the words of a circulation.
+use Rattle.std.proofs.Common.{ℕ, ◌≡◌, ◌+◌, ◌*◌, ◌≤◌, List, ◌++◌, length, take, drop, map, replicate, arith, ap, sym, ◌∙◌, inl}
+use Rattle.std.proofs.lemmas.List.{take_at, take_all, drop_at, length-map, length-replicate}
+use Rattle.word_region.specs.Words.{words_at, with_words, zeroed}
+use Rattle.word_region.specs.declared.Place.{Place}
+use Rattle.word_region.proofs.Words.{length-with_words, words_at-with_words, words_at-with_words_other}
+use Rattle.circulation.specs.declared.Circulation.{Circulation}
+use Rattle.circulation.specs.Contents.{Contents}
+use Rattle.circulation.specs.Places.{tail_of, head_of, AreWordsOf}
+
+-- contents by their lists
+abbrev contents_of : ℕ → (a b s l u f x p q r : List ℕ) → Contents
+contents_of n a b s l u f x p q r = record {
+  nodes = n;
+  from = a;
+  to = b;
+  supply = s;
+  lower = l;
+  upper = u;
+  flow = f;
+  scratch = x;
+  rows = record { first = p; step = q; end = r };
+}
+
+-- contents are the same where all their lists are
+lists_same : (n n' : ℕ) (a a' b b' s s' l l' u u' f f' x x' p p' q q' r r' : List ℕ) → n ≡ n' → a ≡ a' → b ≡ b' → s ≡ s' →
+    l ≡ l' → u ≡ u' → f ≡ f' → x ≡ x' → p ≡ p' → q ≡ q' → r ≡ r' →
+    contents_of n a b s l u f x p q r ≡ contents_of n' a' b' s' l' u' f' x' p' q' r'
+lists_same n n' a a' b b' s s' l l' u u' f f' x x' p p' q q' r r' e₁ e₂ e₃ e₄ e₅ e₆ e₇ e₈ e₉ e₁₀ e₁₁ =
+    ap (λ (i : ℕ). contents_of i a b s l u f x p q r) e₁
+    ∙ ap (λ (i : List ℕ). contents_of n' i b s l u f x p q r) e₂
+    ∙ ap (λ (i : List ℕ). contents_of n' a' i s l u f x p q r) e₃
+    ∙ ap (λ (i : List ℕ). contents_of n' a' b' i l u f x p q r) e₄
+    ∙ ap (λ (i : List ℕ). contents_of n' a' b' s' i u f x p q r) e₅
+    ∙ ap (λ (i : List ℕ). contents_of n' a' b' s' l' i f x p q r) e₆
+    ∙ ap (λ (i : List ℕ). contents_of n' a' b' s' l' u' i x p q r) e₇
+    ∙ ap (λ (i : List ℕ). contents_of n' a' b' s' l' u' f' i p q r) e₈
+    ∙ ap (λ (i : List ℕ). contents_of n' a' b' s' l' u' f' x' i q r) e₉
+    ∙ ap (λ (i : List ℕ). contents_of n' a' b' s' l' u' f' x' p' i r) e₁₀
+    ∙ ap (λ (i : List ℕ). contents_of n' a' b' s' l' u' f' x' p' q' i) e₁₁
+
+-- the front and the rest
+cut : (xs ps qs front back : List ℕ) (n : ℕ) → xs ≡ ps ++ qs → length ps ≡ n → front ≡ take n xs → back ≡ drop n xs →
+    (front ≡ ps) × (back ≡ qs)
+cut xs ps qs front back n is count f b = (
+  f ∙ ap (take n) is ∙ take_at ps qs n count,
+  b ∙ ap (drop n) is ∙ drop_at ps qs n count,
+)
+
+-- the parts of the words are the lists of the contents
+pub lent_is : (circ : Circulation) (c : Contents) (kept moved ends k₁ step k₂ end first flow m₁ upper m₂ lower m₃ supply m₄
+    scratch : List ℕ) → AreWordsOf circ c kept moved →
+    ends ≡ take circ.arcs kept → k₁ ≡ drop circ.arcs kept →
+    step ≡ take (2 * circ.arcs) k₁ → k₂ ≡ drop (2 * circ.arcs) k₁ →
+    end ≡ take (2 * circ.arcs) k₂ → first ≡ drop (2 * circ.arcs) k₂ →
+    flow ≡ take circ.arcs moved → m₁ ≡ drop circ.arcs moved →
+    upper ≡ take circ.arcs m₁ → m₂ ≡ drop circ.arcs m₁ →
+    lower ≡ take circ.arcs m₂ → m₃ ≡ drop circ.arcs m₂ →
+    supply ≡ take circ.nodes m₃ → m₄ ≡ drop circ.nodes m₃ →
+    scratch ≡ take (4 * circ.nodes + 8) m₄ →
+    contents_of circ.nodes (map tail_of ends) (map head_of ends) supply lower upper flow scratch first step end ≡ c
+lent_is circ c kept moved ends k₁ step k₂ end first flow m₁ upper m₂ lower m₃ supply m₄ scratch w e₁ e₂ e₃ e₄ e₅ e₆ e₇ e₈
+    e₉ e₁₀ e₁₁ e₁₂ e₁₃ e₁₄ e₁₅ =
+    let shape = w.circulation.shape in
+    let from = ap length w.from ∙ (length-map w.pairs tail_of ∙ w.arcs) in
+    let at_ends = cut kept w.pairs _ ends k₁ circ.arcs w.fixed w.arcs e₁ e₂ in
+    let at_step = cut k₁ c.rows.step _ step k₂ (2 * circ.arcs) at_ends.1 w.steps e₃ e₄ in
+    let at_end = cut k₂ c.rows.end c.rows.first end first (2 * circ.arcs) at_step.1 (w.circulation.rows.ends ∙ w.steps)
+    e₅ e₆ in
+    let at_flow = cut moved c.flow _ flow m₁ circ.arcs w.moving (shape.flow ∙ from) e₇ e₈ in
+    let at_upper = cut m₁ c.upper _ upper m₂ circ.arcs at_flow.1 (shape.upper ∙ from) e₉ e₁₀ in
+    let at_lower = cut m₂ c.lower _ lower m₃ circ.arcs at_upper.1 (shape.lower ∙ from) e₁₁ e₁₂ in
+    let at_supply = cut m₃ c.supply _ supply m₄ circ.nodes at_lower.1 (shape.supply ∙ w.nodes) e₁₃ e₁₄ in
+    let at_scratch : scratch ≡ c.scratch = e₁₅ ∙ ap (take (4 * circ.nodes + 8)) at_supply.1
+    ∙ take_at c.scratch w.unused (4 * circ.nodes + 8) (shape.scratch ∙ ap (λ (n : ℕ). 4 * n + 8) w.nodes) in
+    let tails : map tail_of ends ≡ c.from = ap (map tail_of) at_ends.0 ∙ sym w.from in
+    let heads : map head_of ends ≡ c.to = ap (map head_of) at_ends.0 ∙ sym w.to in
+    let nodes = w.nodes in
+    lists_same circ.nodes c.nodes (map tail_of ends) c.from (map head_of ends) c.to supply c.supply lower c.lower upper
+    c.upper flow c.flow scratch c.scratch first c.rows.first step c.rows.step end c.rows.end (sym nodes) tails heads
+    at_supply.0 at_lower.0 at_upper.0 at_flow.0 at_scratch at_end.1 at_step.0 at_end.0
+
+-- words that were lent hold what was left in them
+pub written_place : (words new : List ℕ) (place : Place) → length new ≡ place.len →
+    place.from + place.len ≤ length words →
+    words_at (take (length words) (with_words words place.from new)) place ≡ new
+written_place words new place same fits =
+    ap (λ (ws : List ℕ). words_at ws place)
+    (take_all (length words) (with_words words place.from new)
+    (omega (arith, length-with_words words place.from new (omega (arith, same)))))
+    ∙ words_at-with_words words new place (omega arith) same
+
+-- and all places before them stay
+pub written_other : (words new : List ℕ) (from : ℕ) (other : Place) → from + length new ≤ length words →
+    other.from + other.len ≤ from →
+    words_at (take (length words) (with_words words from new)) other ≡ words_at words other
+written_other words new from other fits before =
+    ap (λ (ws : List ℕ). words_at ws other)
+    (take_all (length words) (with_words words from new) (omega (arith, length-with_words words from new fits)))
+    ∙ words_at-with_words_other words from new other fits (inl before)
+
+pub zeroed_other : (words : List ℕ) (from len : ℕ) (other : Place) → from + len ≤ length words →
+    other.from + other.len ≤ from → words_at (zeroed words from len) other ≡ words_at words other
+zeroed_other words from len other fits before =
+    words_at-with_words_other words from (replicate len 0) other (omega (arith, length-replicate {A = ℕ} len 0)) (inl before)
