@@ -17,12 +17,12 @@ ghost use Rattle.circulation.specs.Residual.{arc_of, room_of, start_of, end_of, 
 ghost use Rattle.augment.specs.Search.{with_node, IsTried, IsExpanded, IsClosed, HasTree, IsVisitedBy, SameButScratch};
 ghost use Rattle.augment.specs.Raised.{HasWayOut, open_arcs, CanCarry, CarriesAtMost, IsGreatestCut, position_of, IsReached, SameButFlow, not_reached};
 
-use circulation::Circulation;
+use circulation::Lent;
 use std::sync::ledger::Ledger;
 use steps::Steps;
 
 /// A scratch word.
-fn word(circ: &Circulation, at: usize) -> u64
+fn word(circ: &Lent<'_>, at: usize) -> u64
     requires at { at < 4 * circ.now.nodes + 8 }
     requires kept { IsCirculation circ.now }
     ensures { result ≡ step_of circ.now at }
@@ -31,7 +31,7 @@ fn word(circ: &Circulation, at: usize) -> u64
 }
 
 /// Writes a scratch word.
-fn set_word(circ: &mut Circulation, at: usize, value: u64)
+fn set_word(circ: &mut Lent<'_>, at: usize, value: u64)
     requires at { at < 4 * circ.old.nodes + 8 }
     requires kept { IsCirculation circ.old }
     ensures kept { IsCirculation circ.new }
@@ -41,7 +41,7 @@ fn set_word(circ: &mut Circulation, at: usize, value: u64)
 }
 
 /// The position of a node among those reached, from 1 on, or 0 for a node that was not reached.
-fn position(circ: &Circulation, node: u32) -> u64
+fn position(circ: &Lent<'_>, node: u32) -> u64
     requires node { node ≤ circ.now.nodes }
     requires kept { IsCirculation circ.now }
     ensures { result ≡ position_of circ.now node }
@@ -50,7 +50,7 @@ fn position(circ: &Circulation, node: u32) -> u64
 }
 
 /// Reaches a node by a step, unless it was reached before. Takes and answers how many were reached.
-fn visit(circ: &mut Circulation, node: u32, step: u64, size: usize) -> usize
+fn visit(circ: &mut Lent<'_>, node: u32, step: u64, size: usize) -> usize
     requires node { node ≤ circ.old.nodes }
     requires room { position_of circ.old node ≡ 0 → size ≤ circ.old.nodes }
     requires kept { IsCirculation circ.old }
@@ -70,7 +70,7 @@ fn visit(circ: &mut Circulation, node: u32, step: u64, size: usize) -> usize
 }
 
 /// Visits the node that a step enters, if the step has enough room and doesn't go over `arc`.
-fn try_step(circ: &mut Circulation, arc: u32, least: u64, step: u64, end: u32, size: usize) -> usize
+fn try_step(circ: &mut Lent<'_>, arc: u32, least: u64, step: u64, end: u32, size: usize) -> usize
     requires step { arc_of step < arcs circ.old }
     requires end { end_of (network circ.old) step ≡ end }
     requires marked { IsReached circ.old (start_of (network circ.old) step) }
@@ -93,7 +93,7 @@ fn try_step(circ: &mut Circulation, arc: u32, least: u64, step: u64, end: u32, s
 }
 
 /// Visits the nodes to which the steps of a node's row lead, until the tail of `arc` is reached.
-fn scan(circ: &mut Circulation, arc: u32, least: u64, node: u32, size: usize) -> usize
+fn scan(circ: &mut Lent<'_>, arc: u32, least: u64, node: u32, size: usize) -> usize
     requires arc { arc < arcs circ.old }
     requires node { node ≤ circ.old.nodes }
     requires marked { IsReached circ.old node }
@@ -117,7 +117,7 @@ fn scan(circ: &mut Circulation, arc: u32, least: u64, node: u32, size: usize) ->
 }
 
 /// Marks no node as reached.
-fn clear(circ: &mut Circulation)
+fn clear(circ: &mut Lent<'_>)
     requires kept { IsCirculation circ.old }
     ensures kept { IsCirculation circ.new }
     ensures rest { SameButScratch circ.old circ.new }
@@ -129,7 +129,7 @@ fn clear(circ: &mut Circulation)
 }
 
 /// Reaches the head of the arc alone.
-fn plant(circ: &mut Circulation, arc: u32, least: u64)
+fn plant(circ: &mut Lent<'_>, arc: u32, least: u64)
     requires arc { arc < arcs circ.old }
     requires kept { IsCirculation circ.old }
     ensures kept { IsCirculation circ.new }
@@ -145,7 +145,7 @@ fn plant(circ: &mut Circulation, arc: u32, least: u64)
 /// Searches over rooms of at least `least` from the head of an arc, never over the arc itself, until
 /// its tail is reached or nothing more can be. Nodes are scanned in the order in which they were
 /// reached. The answer is how many were reached.
-fn search(circ: &mut Circulation, arc: u32, least: u64) -> usize
+fn search(circ: &mut Lent<'_>, arc: u32, least: u64) -> usize
     requires arc { arc < arcs circ.old }
     requires kept { IsCirculation circ.old }
     ensures kept { IsCirculation circ.new }
@@ -168,7 +168,7 @@ fn search(circ: &mut Circulation, arc: u32, least: u64) -> usize
 }
 
 /// The arc that a step goes over.
-fn arc_of_step(circ: &Circulation, step: u64) -> u32
+fn arc_of_step(circ: &Lent<'_>, step: u64) -> u32
     requires arc { arc_of step < arcs circ.now }
     requires kept { IsCirculation circ.now }
     ensures { result ≡ arc_of step }
@@ -177,7 +177,7 @@ fn arc_of_step(circ: &Circulation, step: u64) -> u32
 }
 
 /// How much more a step can carry.
-fn room(circ: &Circulation, step: u64) -> u64
+fn room(circ: &Lent<'_>, step: u64) -> u64
     requires arc { arc_of step < arcs circ.now }
     requires kept { IsCirculation circ.now }
     ensures { result ≡ room_of (network circ.now) (flow_of circ.now) step }
@@ -191,7 +191,7 @@ fn room(circ: &Circulation, step: u64) -> u64
 }
 
 /// The node that a step leaves.
-fn start(circ: &Circulation, step: u64) -> u32
+fn start(circ: &Lent<'_>, step: u64) -> u32
     requires arc { arc_of step < arcs circ.now }
     requires kept { IsCirculation circ.now }
     ensures { result ≡ start_of (network circ.now) step }
@@ -209,7 +209,7 @@ struct Walk {
 
 /// Writes the walk that goes over the arc and then along the tree from its head to its tail. It carries
 /// the least of its rooms, and at most `most`.
-fn trace(circ: &mut Circulation, arc: u32, most: u64) -> Walk
+fn trace(circ: &mut Lent<'_>, arc: u32, most: u64) -> Walk
     requires arc { arc < arcs circ.old }
     requires positive { 0 < most }
     requires most { flow_of circ.old arc + most ≤ slice_index circ.old.upper arc }
@@ -244,7 +244,7 @@ fn trace(circ: &mut Circulation, arc: u32, most: u64) -> Walk
 
 /// Whether the last search of `raise` came to a node, as long as no scratch word was written since.
 /// After Stopped the basin nodes to which it did not come are the greatest tight cut of the arc.
-pub fn reached(circ: &Circulation, node: u32) -> bool
+pub fn reached(circ: &Lent<'_>, node: u32) -> bool
     requires { node ≤ circ.now.nodes }
     ensures { IsTrue result ↔ IsReached circ.now node }
 {
@@ -256,7 +256,7 @@ pub fn reached(circ: &Circulation, node: u32) -> bool
 /// One search over rooms of at least `least`, and one push along the walk that it finds. Answers whether
 /// it found one.
 fn round<L: Ledger>(
-    circ: &mut Circulation,
+    circ: &mut Lent<'_>,
     arc: u32,
     want: u64,
     least: u64,
@@ -295,7 +295,7 @@ fn round<L: Ledger>(
 /// One phase: raises the flow over rooms of at least `least`, until it is what is wanted or no walk is
 /// left. Then it can rise by less than `least` for each arc that may carry anything, so the next phase has few pushes.
 fn phase<L: Ledger>(
-    circ: &mut Circulation,
+    circ: &mut Lent<'_>,
     arc: u32,
     want: u64,
     least: u64,
@@ -346,7 +346,7 @@ fn first_phase(missing: u64) -> (u64, u32)
 
 /// All phases of a raise, each with half the room of the one before.
 fn run_phases<L: Ledger>(
-    circ: &mut Circulation,
+    circ: &mut Lent<'_>,
     arc: u32,
     want: u64,
     missing: u64,
@@ -386,7 +386,7 @@ pub enum Raised {
 /// metres. Supplies and bounds stay. Where the flow is at least `want` already, nothing changes and
 /// the answer is Met. Each search that finds a walk ticks `searches` once, and nothing else does.
 pub fn raise<L: Ledger>(
-    circ: &mut Circulation,
+    circ: &mut Lent<'_>,
     arc: u32,
     want: u64,
     searches: &mut Steps<L>,

@@ -8,7 +8,7 @@ ghost use Rattle.residual_tree.specs.Growth.{IsFreeing};
 use crate::ROOT;
 use crate::residual::{end, room};
 use crate::words::Words;
-use circulation::Circulation;
+use circulation::Lent;
 
 /// Frees the node that a step enters, where it is the step by which the node is reached. Takes and answers how many
 /// nodes were freed.
@@ -32,7 +32,7 @@ fn free_end(way: &mut Words, freed: &mut [u32], step: u64, node: u32, size: usiz
 
 /// Frees the node that a step enters, where it is the step by which the node is reached and has no room.
 fn free_worn(
-    circ: &Circulation,
+    circ: &Lent<'_>,
     way: &mut Words,
     freed: &mut [u32],
     step: u64,
@@ -60,7 +60,7 @@ fn free_worn(
 /// Frees the nodes whose steps lost their room. Those that may have lost it stand in the scratch words from
 /// `first` to below `last`.
 pub fn loosen(
-    circ: &Circulation,
+    circ: &Lent<'_>,
     way: &mut Words,
     freed: &mut [u32],
     first: usize,
@@ -83,7 +83,7 @@ pub fn loosen(
 
 /// Frees the children of the freed node with the number `done`.
 fn free_children(
-    circ: &Circulation,
+    circ: &Lent<'_>,
     way: &mut Words,
     freed: &mut [u32],
     done: usize,
@@ -104,7 +104,7 @@ fn free_children(
 }
 
 /// Frees all that is below the freed nodes in the tree.
-pub fn free_below(circ: &Circulation, way: &mut Words, freed: &mut [u32], size: usize) -> usize
+pub fn free_below(circ: &Lent<'_>, way: &mut Words, freed: &mut [u32], size: usize) -> usize
     requires tree { (at : ℕ) × IsFreeing circ.now way.old freed.old at at 0 size }
     requires kept { IsCirculation circ.now }
     ensures { (at : ℕ) × IsFreeing circ.now way.new freed.new at at result result }
@@ -119,7 +119,7 @@ pub fn free_below(circ: &Circulation, way: &mut Words, freed: &mut [u32], size: 
 }
 
 /// Reaches no node but the outside, and frees all others.
-pub fn fell(circ: &Circulation, way: &mut Words, freed: &mut [u32])
+pub fn fell(circ: &Lent<'_>, way: &mut Words, freed: &mut [u32])
     requires words { length way.old ≡ circ.now.nodes + 1 }
     requires places { length freed.old ≡ circ.now.nodes }
     requires kept { IsCirculation circ.now }

@@ -8,11 +8,11 @@ ghost use Rattle.residual_tree.specs.Growth.{no_step, IsFound, IsShut, IsFreeing
 
 use crate::residual::{room, turned};
 use crate::words::Words;
-use circulation::Circulation;
+use circulation::Lent;
 
 /// Whether the opposite of a step to a node is a way into the node that the step leaves: it has room, and comes from a
 /// node that is reached.
-fn is_way_back(circ: &Circulation, way: &Words, step: u64, node: u32) -> bool
+fn is_way_back(circ: &Lent<'_>, way: &Words, step: u64, node: u32) -> bool
     requires arc { arc_of step < arcs circ.now }
     requires node { end_of (network circ.now) step ≡ node }
     requires inside { node ≤ circ.now.nodes }
@@ -29,7 +29,7 @@ fn is_way_back(circ: &Circulation, way: &Words, step: u64, node: u32) -> bool
 }
 
 /// One more than a step by which the outside reaches a node, or 0 where there is none.
-fn find_way(circ: &Circulation, way: &Words, node: u32) -> u64
+fn find_way(circ: &Lent<'_>, way: &Words, node: u32) -> u64
     requires node { node ≤ circ.now.nodes }
     requires words { length way.now ≡ circ.now.nodes + 1 }
     requires kept { IsCirculation circ.now }
@@ -45,7 +45,7 @@ fn find_way(circ: &Circulation, way: &Words, node: u32) -> u64
 }
 
 /// Finds a way into each freed node, from nodes that are reached already.
-fn find_ways(circ: &Circulation, way: &Words, freed: &[u32], count: usize, found: &mut [u64])
+fn find_ways(circ: &Lent<'_>, way: &Words, freed: &[u32], count: usize, found: &mut [u64])
     requires count { count ≤ length freed.now }
     requires places { count ≤ length found.old }
     requires within { (k : ℕ) → k < count → slice_index freed.now k < circ.now.nodes }
@@ -95,7 +95,7 @@ fn seed_node(way: &mut Words, queue: &mut [u32], node: u32, word: u64, size: usi
 /// Reaches the freed nodes that steps from nodes that were reached before enter. All ways are found before the
 /// first is taken, so that a way is no longer than it need be.
 fn seed(
-    circ: &Circulation,
+    circ: &Lent<'_>,
     way: &mut Words,
     queue: &mut [u32],
     freed: &[u32],
@@ -118,7 +118,7 @@ fn seed(
 
 /// Reaches the node that a step enters, if the step has room and the node is not reached.
 fn reach_end(
-    circ: &Circulation,
+    circ: &Lent<'_>,
     way: &mut Words,
     queue: &mut [u32],
     step: u64,
@@ -148,7 +148,7 @@ fn reach_end(
 
 /// Reaches the nodes to which steps lead from the node with the number `done` among those reached.
 fn spread_from(
-    circ: &Circulation,
+    circ: &Lent<'_>,
     way: &mut Words,
     queue: &mut [u32],
     done: usize,
@@ -171,7 +171,7 @@ fn spread_from(
 }
 
 /// Reaches all nodes to which steps lead from those that were reached, in the order in which they were reached.
-fn spread(circ: &Circulation, way: &mut Words, queue: &mut [u32], size: usize)
+fn spread(circ: &Lent<'_>, way: &mut Words, queue: &mut [u32], size: usize)
     ghost lent: { ℕ }
     requires tree { IsGrowing circ.now lent way.old [] queue.old 0 0 0 size }
     requires kept { IsCirculation circ.now }
@@ -188,7 +188,7 @@ fn spread(circ: &Circulation, way: &mut Words, queue: &mut [u32], size: usize)
 
 /// Reaches the freed nodes again, as far as steps with room lead to them.
 pub fn grow(
-    circ: &Circulation,
+    circ: &Lent<'_>,
     way: &mut Words,
     queue: &mut [u32],
     freed: &[u32],
@@ -206,7 +206,7 @@ pub fn grow(
 }
 
 /// Reaches the dry tail of an exit back over the exit, and all that is below it.
-pub fn lend_over(circ: &Circulation, way: &mut Words, queue: &mut [u32], exit: u32)
+pub fn lend_over(circ: &Lent<'_>, way: &mut Words, queue: &mut [u32], exit: u32)
     requires exit { exit < arcs circ.now }
     requires out { slice_index circ.now.to exit ≡ circ.now.nodes }
     requires dry { word_of way.old (slice_index circ.now.from exit) ≡ 0 }

@@ -27,7 +27,7 @@ use crate::freeing::{fell, free_below, loosen};
 use crate::growing::{grow, lend_over};
 pub use crate::raising::{Pulled, raise_by_tree, raise_within_dry};
 use crate::words::Words;
-use circulation::Circulation;
+use circulation::Lent;
 use std::alloc::{AllocError, Global};
 use std::marker::Model;
 
@@ -71,7 +71,7 @@ impl ResidualTree {
     }
 
     /// Grows the tree from the outside alone, over all steps with room.
-    pub fn plant(&mut self, circ: &Circulation)
+    pub fn plant(&mut self, circ: &Lent<'_>)
         requires { length self.old ≡ circ.now.nodes + 1 }
         ensures { IsResidualTree circ.now self.new }
     {
@@ -85,7 +85,7 @@ impl ResidualTree {
 
     /// Repairs the tree after steps may have lost their room: those that stand in `count` scratch words from word
     /// `first` on. Only nodes below such steps are searched.
-    pub fn repair(&mut self, circ: &Circulation, first: usize, count: usize)
+    pub fn repair(&mut self, circ: &Lent<'_>, first: usize, count: usize)
         requires fits { first + count ≤ 4 * circ.now.nodes + 8 }
         requires arcs { (i : ℕ) → first ≤ i → i < first + count → arc_of (step_of circ.now i) < arcs circ.now }
         requires worn { IsWornTree circ.now self.old first (first + count) }
@@ -127,7 +127,7 @@ impl ResidualTree {
     }
 
     /// Holds an amount on an arc, in units of 1,000 cubic metres, as `Circulation::hold` does, and repairs the tree.
-    pub fn hold(&mut self, circ: &mut Circulation, arc: u32, amount: u64)
+    pub fn hold(&mut self, circ: &mut Lent<'_>, arc: u32, amount: u64)
         requires arc { arc < arcs circ.old }
         requires amount { amount ≤ flow_of circ.old arc }
         requires tree { IsResidualTree circ.old self.old }
@@ -144,7 +144,7 @@ impl ResidualTree {
 
     /// Reaches the dry tail of an exit, an arc to the outside, as though the outside lent water back over the
     /// exit, and all that is below it.
-    pub fn lend(&mut self, circ: &Circulation, exit: u32)
+    pub fn lend(&mut self, circ: &Lent<'_>, exit: u32)
         requires exit { exit < arcs circ.now }
         requires out { slice_index circ.now.to exit ≡ circ.now.nodes }
         requires dry { word_of self.old (slice_index circ.now.from exit) ≡ 0 }
@@ -159,7 +159,7 @@ impl ResidualTree {
     }
 
     /// Takes back what was lent over an exit.
-    pub fn settle(&mut self, circ: &mut Circulation, exit: u32)
+    pub fn settle(&mut self, circ: &mut Lent<'_>, exit: u32)
         requires exit { exit < arcs circ.old }
         requires tree { IsLentTree circ.old self.old (2 * exit + 1) }
         ensures kept { IsCirculation circ.new }

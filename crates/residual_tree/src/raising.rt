@@ -10,7 +10,7 @@ ghost use Rattle.residual_tree.specs.Raised.{IsExit, IsFull, IsRaisedOver};
 
 use crate::ResidualTree;
 use crate::tracing::{trace, write_step};
-use circulation::Circulation;
+use circulation::Lent;
 use std::sync::ledger::Ledger;
 use steps::Steps;
 
@@ -18,7 +18,7 @@ use steps::Steps;
 /// repaired. The step `lent` to the head of the arc may have no room. Answers whether there was room for the
 /// push, which lacks only where the exit has none.
 fn round<L: Ledger>(
-    circ: &mut Circulation,
+    circ: &mut Lent<'_>,
     tree: &mut ResidualTree,
     arc: u32,
     exit: u32,
@@ -62,7 +62,7 @@ fn round<L: Ledger>(
 
 /// Pushes as long as the flow on the arc is less than wanted and its tail is reached, and at most so often.
 fn pull<L: Ledger>(
-    circ: &mut Circulation,
+    circ: &mut Lent<'_>,
     tree: &mut ResidualTree,
     arc: u32,
     exit: u32,
@@ -120,7 +120,7 @@ pub enum Pulled {
 /// is not the outside, `exit` is an arc from there to the outside. Each push costs about as much as the
 /// walk is long, and as there are arcs at the nodes below the steps that it fills.
 pub fn raise_by_tree<L: Ledger>(
-    circ: &mut Circulation,
+    circ: &mut Lent<'_>,
     tree: &mut ResidualTree,
     arc: u32,
     exit: u32,
@@ -171,7 +171,7 @@ pub fn raise_by_tree<L: Ledger>(
 /// need no water. After Dry the tree is lent over the exit, so that `settle` has to follow; until then the
 /// nodes that it does not reach are the greatest tight cut of the arc. The rest is as at `raise_by_tree`.
 pub fn raise_within_dry<L: Ledger>(
-    circ: &mut Circulation,
+    circ: &mut Lent<'_>,
     tree: &mut ResidualTree,
     arc: u32,
     exit: u32,

@@ -4,10 +4,10 @@ ghost use Rattle.circulation.specs.Contents.{arcs, flow_of, network, IsCirculati
 ghost use Rattle.circulation.specs.Residual.{arc_of, room_of, start_of, end_of};
 ghost use Rattle.residual_tree.specs.Steps.{opposite};
 
-use circulation::Circulation;
+use circulation::Lent;
 
 /// The arc that a step goes over.
-fn arc_of_step(circ: &Circulation, step: u64) -> u32
+fn arc_of_step(circ: &Lent<'_>, step: u64) -> u32
     requires arc { arc_of step < arcs circ.now }
     requires kept { IsCirculation circ.now }
     ensures { result ≡ arc_of step }
@@ -16,7 +16,7 @@ fn arc_of_step(circ: &Circulation, step: u64) -> u32
 }
 
 /// How much more a step can carry.
-pub fn room(circ: &Circulation, step: u64) -> u64
+pub fn room(circ: &Lent<'_>, step: u64) -> u64
     requires arc { arc_of step < arcs circ.now }
     requires kept { IsCirculation circ.now }
     ensures { result ≡ room_of (network circ.now) (flow_of circ.now) step }
@@ -30,7 +30,7 @@ pub fn room(circ: &Circulation, step: u64) -> u64
 }
 
 /// The node that a step leaves.
-pub fn start(circ: &Circulation, step: u64) -> u32
+pub fn start(circ: &Lent<'_>, step: u64) -> u32
     requires arc { arc_of step < arcs circ.now }
     requires kept { IsCirculation circ.now }
     ensures { result ≡ start_of (network circ.now) step }
@@ -40,7 +40,7 @@ pub fn start(circ: &Circulation, step: u64) -> u32
 }
 
 /// The node that a step enters.
-pub fn end(circ: &Circulation, step: u64) -> u32
+pub fn end(circ: &Lent<'_>, step: u64) -> u32
     requires arc { arc_of step < arcs circ.now }
     requires kept { IsCirculation circ.now }
     ensures { result ≡ end_of (network circ.now) step }
@@ -50,7 +50,7 @@ pub fn end(circ: &Circulation, step: u64) -> u32
 }
 
 /// The step over the same arc the other way.
-pub fn turned(circ: &Circulation, step: u64) -> u64
+pub fn turned(circ: &Lent<'_>, step: u64) -> u64
     requires arc { arc_of step < arcs circ.now }
     requires kept { IsCirculation circ.now }
     ensures { result ≡ opposite step }

@@ -7,7 +7,7 @@ ghost use Rattle.residual_tree.specs.Raised.{IsExit, IsFull, IsTraced};
 
 use crate::ResidualTree;
 use crate::residual::{room, start};
-use circulation::Circulation;
+use circulation::Lent;
 
 /// Where a walk begins among the scratch words, up to their end, and how much it can carry.
 #[derive(Clone, Copy)]
@@ -17,7 +17,7 @@ pub struct Walk {
 }
 
 /// Writes a step in front of the scratch words from `first` on, and answers where they begin then.
-pub fn write_step(circ: &mut Circulation, first: usize, step: u64) -> usize
+pub fn write_step(circ: &mut Lent<'_>, first: usize, step: u64) -> usize
     requires some { 0 < first }
     requires fits { first ≤ 4 * circ.old.nodes + 8 }
     requires kept { IsCirculation circ.old }
@@ -32,7 +32,7 @@ pub fn write_step(circ: &mut Circulation, first: usize, step: u64) -> usize
 /// Writes the closed walk that goes over the arc, then from its head over the exit to the outside, and then along
 /// the tree to its tail; where the tree comes by the head, the walk goes on from there. It carries the
 /// least of its rooms, and at most `most`.
-pub fn trace(circ: &mut Circulation, tree: &ResidualTree, arc: u32, exit: u32, most: u64) -> Walk
+pub fn trace(circ: &mut Lent<'_>, tree: &ResidualTree, arc: u32, exit: u32, most: u64) -> Walk
     requires arc { arc < arcs circ.old }
     requires positive { 0 < most }
     requires most { flow_of circ.old arc + most ≤ slice_index circ.old.upper arc }

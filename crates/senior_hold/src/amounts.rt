@@ -12,7 +12,7 @@ ghost use Rattle.senior_hold.specs.Solved.{FitsPlan};
 ghost use Rattle.senior_hold.specs.Spilled.{spilled, spills_of};
 
 use crate::arcs::Arcs;
-use circulation::Circulation;
+use circulation::Lent;
 use water_model::calls::{carry_of, taking_node};
 use water_model::types::{Basin, Plan};
 use water_text::month::Month;
@@ -125,7 +125,7 @@ pub fn write_bounds(
 }
 
 /// Reads the flow of each link.
-pub fn read_links(circ: &Circulation, into: &mut [u64])
+pub fn read_links(circ: &Lent<'_>, into: &mut [u64])
     requires { length into.old ≤ arcs circ.now }
     ensures { into.new ≡ list_of (length into.old) (flow_of circ.now) }
 {
@@ -136,7 +136,7 @@ pub fn read_links(circ: &Circulation, into: &mut [u64])
 }
 
 /// Reads what each right takes.
-pub fn read_takes(basin: &Basin, circ: &Circulation, arcs: &Arcs, into: &mut [u64])
+pub fn read_takes(basin: &Basin, circ: &Lent<'_>, arcs: &Arcs, into: &mut [u64])
     requires valid { IsValidBasin basin.now }
     requires inside { length basin.now.links + taker_count basin.now ≤ length circ.now.from }
     requires into { length into.old ≡ length basin.now.rights }
@@ -153,7 +153,7 @@ pub fn read_takes(basin: &Basin, circ: &Circulation, arcs: &Arcs, into: &mut [u6
 }
 
 /// Reads what each node spills.
-pub fn read_spills(basin: &Basin, circ: &Circulation, arcs: &Arcs, into: &mut [u64])
+pub fn read_spills(basin: &Basin, circ: &Lent<'_>, arcs: &Arcs, into: &mut [u64])
     requires spills { spill_arc basin.now (length basin.now.nodes) ≤ length circ.now.from }
     requires arcs { AreArcs basin.now arcs.now }
     requires into { length into.old ≡ length basin.now.nodes }
@@ -166,7 +166,7 @@ pub fn read_spills(basin: &Basin, circ: &Circulation, arcs: &Arcs, into: &mut [u
 }
 
 /// Reads the plan of a flow, which may let water out at each node.
-pub fn read_plan(basin: &Basin, circ: &Circulation, arcs: &Arcs, plan: &mut Plan)
+pub fn read_plan(basin: &Basin, circ: &Lent<'_>, arcs: &Arcs, plan: &mut Plan)
     requires valid { IsValidBasin basin.now }
     requires ends { HasBasinEnds (spilled basin.now) (network circ.now) }
     requires arcs { AreArcs basin.now arcs.now }

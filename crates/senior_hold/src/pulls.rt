@@ -9,7 +9,7 @@ ghost use Rattle.residual_tree.specs.Raised.{IsExit, IsRaisedOver};
 ghost use Rattle.senior_hold.specs.MonthNetwork.{list_of};
 ghost use Rattle.senior_hold.specs.Serving.{IsServed, SameEnds, KeepsShape};
 
-use circulation::Circulation;
+use circulation::Lent;
 use residual_tree::{Pulled, ResidualTree, raise_by_tree, raise_within_dry};
 use std::sync::ledger::Ledger;
 use steps::Steps;
@@ -18,7 +18,7 @@ use water_model::cut_list::CutList;
 /// At most one push over an arc: along the tree, or within the dry nodes where both its ends are dry. Unfinished says that
 /// there may be more to push.
 fn pull_once<L: Ledger>(
-    circ: &mut Circulation,
+    circ: &mut Lent<'_>,
     tree: &mut ResidualTree,
     arc: u32,
     exit: u32,
@@ -59,7 +59,7 @@ fn pull_once<L: Ledger>(
 /// Raises the flow on an arc to its want, or as far as it can be, by at most `left` pushes, and takes from `left` what it
 /// used, with one for the end. Unfinished says that they were used up.
 fn pull_up<L: Ledger>(
-    circ: &mut Circulation,
+    circ: &mut Lent<'_>,
     tree: &mut ResidualTree,
     arc: u32,
     exit: u32,
@@ -110,7 +110,7 @@ pub enum Turn {
 /// Serves a right as `serve` does, by at most `left` pushes, and takes from `left` what it used. `exit` is an arc from the
 /// head of the right's arc to the outside, unless the head is the outside.
 pub fn serve_by_tree<L: Ledger>(
-    circ: &mut Circulation,
+    circ: &mut Lent<'_>,
     tree: &mut ResidualTree,
     arc: u32,
     exit: u32,

@@ -15,7 +15,7 @@ ghost use Rattle.senior_hold.specs.Spilled.{spilled};
 use crate::amounts::{lay, read_plan, write_bounds, write_outlets};
 use crate::serving::serve;
 use crate::solver::{Layout, Room};
-use circulation::Circulation;
+use circulation::Lent;
 use river_net::Net;
 use std::sync::ledger::Ledger;
 use steps::Steps;
@@ -42,7 +42,7 @@ fn begin_river(
     basin: &Basin,
     layout: &Layout,
     room: &mut Room,
-    circ: &mut Circulation,
+    circ: &mut Lent<'_>,
     month: Month,
     supply: &[u64],
     want: &[u64],
@@ -79,7 +79,7 @@ pub fn solve_by_searches<L: Ledger>(
     basin: &Basin,
     layout: &Layout,
     room: &mut Room,
-    circ: &mut Circulation,
+    circ: &mut Lent<'_>,
     month: Month,
     supply: &[u64],
     want: &[u64],

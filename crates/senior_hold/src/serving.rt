@@ -7,13 +7,13 @@ ghost use Rattle.senior_hold.specs.MonthNetwork.{list_of};
 ghost use Rattle.senior_hold.specs.Serving.{IsServed, SameEnds, KeepsShape};
 
 use augment::{Raised, raise, reached};
-use circulation::Circulation;
+use circulation::Lent;
 use std::sync::ledger::Ledger;
 use steps::Steps;
 use water_model::cut_list::CutList;
 
 /// Adds to a right's empty set the nodes that the last search did not reach.
-fn mark(circ: &Circulation, right: u32, cuts: &mut CutList)
+fn mark(circ: &Lent<'_>, right: u32, cuts: &mut CutList)
     requires right { right < length cuts.old.sets }
     requires nodes { cuts.old.nodes ≡ circ.now.nodes }
     requires empty { set_of cuts.old right ≡ Some (replicate cuts.old.nodes false) }
@@ -29,7 +29,7 @@ fn mark(circ: &Circulation, right: u32, cuts: &mut CutList)
 /// Raises a right's arc to its want, or as far as it can be; gives a right that stays short the greatest tight cut of
 /// its arc; and holds what the arc has of the want.
 pub fn serve<L: Ledger>(
-    circ: &mut Circulation,
+    circ: &mut Lent<'_>,
     arc: u32,
     want: u64,
     right: u32,

@@ -18,7 +18,7 @@ ghost use Rattle.senior_hold.specs.Spilled.{spilled, spills_of, HasSpills, IsSpi
 use crate::amounts::{RIVER_CARRY, lay, read_links, read_spills, read_takes, write_bounds};
 use crate::pulls::{Turn, serve_by_tree};
 use crate::solver::{Layout, Room};
-use circulation::Circulation;
+use circulation::Lent;
 use residual_tree::ResidualTree;
 use std::sync::ledger::Ledger;
 use steps::Steps;
@@ -50,7 +50,7 @@ fn begin_spilled(
     basin: &Basin,
     layout: &Layout,
     room: &mut Room,
-    circ: &mut Circulation,
+    circ: &mut Lent<'_>,
     month: Month,
     supply: &[u64],
     want: &[u64],
@@ -83,7 +83,7 @@ fn begin_spilled(
 }
 
 /// An arc from the head of an arc to the outside, unless the head is the outside.
-fn exit_of(circ: &Circulation, first: u32, arc: u32) -> u32
+fn exit_of(circ: &Lent<'_>, first: u32, arc: u32) -> u32
     requires arc { arc < arcs circ.now }
     requires spills { HasSpills circ.now first }
     requires some { 0 < circ.now.nodes }
@@ -110,7 +110,7 @@ fn add_run(run: &[u64], flow: &mut [u64])
 }
 
 /// Writes the plan of a flow: what is spilled runs down the rivers, and leaves the basin at outlets.
-fn settle_plan(basin: &Basin, layout: &Layout, room: &mut Room, circ: &Circulation, plan: &mut Plan)
+fn settle_plan(basin: &Basin, layout: &Layout, room: &mut Room, circ: &Lent<'_>, plan: &mut Plan)
     requires valid { IsValidBasin basin.now }
     requires layout { IsLayout basin.now layout.now }
     requires room { FitsRoom basin.now room.old }
@@ -148,7 +148,7 @@ pub fn solve_by_tree<L: Ledger>(
     basin: &Basin,
     layout: &Layout,
     room: &mut Room,
-    circ: &mut Circulation,
+    circ: &mut Lent<'_>,
     tree: &mut ResidualTree,
     month: Month,
     supply: &[u64],
