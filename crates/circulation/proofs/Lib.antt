@@ -3,6 +3,7 @@ pub mod Links
 pub mod Pairs
 pub mod Opened
 pub mod Lends
+pub mod Holding
 pub mod Pushing
 pub mod Kept
 pub mod RowLists

@@ -1,15 +1,17 @@
 //! Worked networks. The greatest flows and the greatest tight cuts were worked out by hand, as the comments tell.
 //!
 //! Basin nodes are 0, 1, .. and the outside node comes after them. Each arc that is raised leads there.
-ghost use Rattle.std.specs.Prelude.{◌≢◌, ◌<◌, ◌≤◌, ◌↔◌, All, IsTrue};
-ghost use Rattle.circulation.specs.Contents.{arcs, network};
+ghost use Rattle.std.specs.Prelude.{◌≢◌, ◌<◌, ◌≤◌, ◌↔◌, All, IfOk, IsTrue};
+ghost use Rattle.circulation.specs.Contents.{Contents, arcs, network};
+ghost use Rattle.circulation.specs.Places.{HasWords, Holds};
 ghost use Rattle.augment.specs.Raised.{HasWayOut};
 ghost use Rattle.residual_tree.specs.Raised.{IsExit};
 
 use augment::Raised;
-use circulation::{Circulation, Ends};
+use circulation::{Circulation, Ends, Lent, words};
 use std::alloc::{AllocError, Global};
 use std::process::Abort;
+use word_region::{Full, Region};
 
 /// The upper bound of a river or an outlet.
 const OPEN: u64 = 1_000_000_000_000_000;
@@ -213,7 +215,7 @@ fn are_ends(nodes: u32, ends: &[Ends]) -> bool
 }
 
 /// Whether an arc leads to the outside node, so that its way out has no arcs and no exit is needed.
-pub fn leads_outside(circ: &Circulation, arc: u32) -> bool
+pub fn leads_outside(circ: &Lent<'_>, arc: u32) -> bool
     requires { arc < arcs circ.now }
     ensures way_out { IsTrue result → HasWayOut (network circ.now) arc }
     ensures exit { IsTrue result → IsExit circ.now arc arc }
@@ -251,20 +253,41 @@ fn starts_of(alloc: Global, arcs: &[Arc]) -> Result<Vec<u64>, AllocError> {
     Ok(start)
 }
 
-/// A circulation of a case.
-pub fn open<R: Abort>(rt: &R, alloc: Global, case: &Case) -> Result<Circulation, AllocError> {
+/// A circulation, and the region of exactly its words in which it lies.
+#[derive(Drop)]
+pub struct Laid {
+    pub region: Region,
+    pub circ: Circulation,
+}
+
+/// The circulation of a case.
+pub fn open<R: Abort>(rt: &R, alloc: Global, case: &Case) -> Result<Laid, AllocError>
+    ensures { IfOk result (λ laid. (c : Contents) × Holds laid.region laid.circ c) }
+{
     let ends = ends_of(alloc, case.arcs)?;
     assert!(rt; case.supply.len() < 10 && ends.len() < 10);
     let nodes = case.supply.len() as u32;
     assert!(rt; are_ends(nodes, &ends));
-    Circulation::open(alloc, nodes, &ends)
+    let mut region = Region::open(alloc, words(nodes, ends.len() as u32))?;
+    match Circulation::open(nodes, &ends, &mut region) {
+        Ok(circ) => Ok(Laid { region, circ }),
+        Err(Full) => panic!(rt; "the region of {}", case.name),
+    }
+}
+
+/// Lends a circulation the words of its place.
+pub fn lend<'r>(circ: &Circulation, words: &'r mut [u64]) -> Lent<'r>
+    requires { (c : Contents) × HasWords circ.now c words.old }
+{
+    let (fixed, moving) = words.split_at_mut(circ.fixed());
+    circ.lend(fixed, moving)
 }
 
 /// Brings the circulation of a case to its start.
 pub fn begin<R: Abort>(
     rt: &R,
     alloc: Global,
-    circ: &mut Circulation,
+    circ: &mut Lent<'_>,
     case: &Case,
 ) -> Result<(), AllocError> {
     let upper = uppers_of(alloc, case.arcs)?;
@@ -275,21 +298,21 @@ pub fn begin<R: Abort>(
 }
 
 /// Holds an amount on an arc.
-pub fn hold<R: Abort>(rt: &R, circ: &mut Circulation, arc: u32, amount: u64) {
+pub fn hold<R: Abort>(rt: &R, circ: &mut Lent<'_>, arc: u32, amount: u64) {
     assert!(rt; arc < circ.arcs());
     assert!(rt; amount <= circ.flow(arc));
     circ.hold(arc, amount);
 }
 
 /// Holds the amounts that a case holds from its start.
-pub fn hold_all<R: Abort>(rt: &R, circ: &mut Circulation, case: &Case) {
+pub fn hold_all<R: Abort>(rt: &R, circ: &mut Lent<'_>, case: &Case) {
     for (arc, amount) in case.held {
         hold(rt, circ, *arc, *amount);
     }
 }
 
 /// Compares the flows that are left.
-pub fn compare_flows<R: Abort>(rt: &R, circ: &Circulation, case: &Case) {
+pub fn compare_flows<R: Abort>(rt: &R, circ: &Lent<'_>, case: &Case) {
     for (arc, flow) in case.flows.iter().enumerate() {
         assert!(rt; arc < circ.arcs() as usize);
         assert!(rt;

@@ -2,10 +2,10 @@
 ghost use Rattle.std.specs.Prelude.{◌≡◌, ◌<◌};
 ghost use Rattle.residual_tree.specs.Tree.{IsResidualTree};
 
-use crate::networks::{CASES, Case, Turn, begin, compare_flows, hold_all, leads_outside, open};
+use crate::networks::{CASES, Case, Turn, begin, compare_flows, hold_all, leads_outside, lend, open};
 use augment::Raised;
-use circulation::Circulation;
-use residual_tree::{Pulled, ResidualTree, raise_by_tree};
+use circulation::Lent;
+use residual_tree::{Pulled, ResidualTree, raise_by_tree, tree_words};
 use std::alloc::{AllocError, Global};
 use std::marker::Brand;
 use std::process::Abort;
@@ -19,8 +19,8 @@ const MOST_RAISES: u32 = 10;
 /// `raise_by_tree` does not take: then the flow is held, and that is Met.
 fn pull<L: Ledger, R: Abort>(
     rt: &R,
-    circ: &mut Circulation,
-    tree: &mut ResidualTree,
+    circ: &mut Lent<'_>,
+    tree: &mut ResidualTree<'_>,
     turn: &Turn,
     most_pushes: u32,
     searches: &mut Steps<L>,
@@ -41,13 +41,13 @@ fn pull<L: Ledger, R: Abort>(
 }
 
 /// The flow on the arc of a turn.
-fn flow<R: Abort>(rt: &R, circ: &Circulation, turn: &Turn) -> u64 {
+fn flow<R: Abort>(rt: &R, circ: &Lent<'_>, turn: &Turn) -> u64 {
     assert!(rt; turn.0 < circ.arcs());
     circ.flow(turn.0)
 }
 
 /// Compares what a turn came to and the flow that it left.
-fn compare_turn<R: Abort>(rt: &R, circ: &Circulation, turn: &Turn, pulled: Pulled, name: &str) {
+fn compare_turn<R: Abort>(rt: &R, circ: &Lent<'_>, turn: &Turn, pulled: Pulled, name: &str) {
     let expected = match turn.2 {
         Raised::Met => Pulled::Met,
         Raised::Stopped => Pulled::Dry,
@@ -59,8 +59,8 @@ fn compare_turn<R: Abort>(rt: &R, circ: &Circulation, turn: &Turn, pulled: Pulle
 /// Takes a turn by raises of at most so many pushes each. Answers how many of the raises pushed.
 fn play<L: Ledger, R: Abort>(
     rt: &R,
-    circ: &mut Circulation,
-    tree: &mut ResidualTree,
+    circ: &mut Lent<'_>,
+    tree: &mut ResidualTree<'_>,
     turn: &Turn,
     name: &str,
     most_pushes: u32,
@@ -86,8 +86,8 @@ fn play<L: Ledger, R: Abort>(
 /// Takes the turns of a case by raises of at most so many pushes each. Answers how many of the raises pushed.
 fn play_all<L: Ledger, R: Abort>(
     rt: &R,
-    circ: &mut Circulation,
-    tree: &mut ResidualTree,
+    circ: &mut Lent<'_>,
+    tree: &mut ResidualTree<'_>,
     case: &Case,
     most_pushes: u32,
     searches: &mut Steps<L>,
@@ -104,7 +104,7 @@ fn play_all<L: Ledger, R: Abort>(
 }
 
 /// Compares the dry nodes with those to which the last search does not come where the arcs are raised by searches.
-fn compare_dry<R: Abort>(rt: &R, circ: &Circulation, tree: &ResidualTree, case: &Case)
+fn compare_dry<R: Abort>(rt: &R, circ: &Lent<'_>, tree: &ResidualTree<'_>, case: &Case)
     requires { IsResidualTree circ.now tree.now }
 {
     for (node, came) in case.reached.iter().enumerate() {
@@ -129,10 +129,13 @@ fn run<L: Ledger, R: Abort>(
     requires parts { blank.parts ≡ L.parts }
     requires some { 0 < blank.parts }
 {
-    let mut circ = open(rt, alloc, case)?;
+    let mut laid = open(rt, alloc, case)?;
+    let mut circ = lend(&laid.circ, laid.region.words_mut(laid.circ.place));
     begin(rt, alloc, &mut circ, case)?;
     hold_all(rt, &mut circ, case);
-    let mut tree = ResidualTree::open(alloc, circ.nodes())?;
+    let nodes = circ.nodes();
+    let mut words = vec![in alloc; 0; tree_words(nodes)]?;
+    let mut tree = ResidualTree::over(nodes, &mut words);
     tree.plant(&circ);
     let mut searches: Steps<L> = Steps::new(blank);
     let raises = play_all(rt, &mut circ, &mut tree, case, most_pushes, &mut searches);

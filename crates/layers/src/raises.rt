@@ -2,10 +2,10 @@
 ghost use Rattle.std.specs.Prelude.{◌≡◌, ◌<◌};
 
 use crate::networks::{
-    CASES, Case, Turn, begin, compare_flows, hold, hold_all, leads_outside, open,
+    CASES, Case, Turn, begin, compare_flows, hold, hold_all, leads_outside, lend, open,
 };
 use augment::{raise, reached};
-use circulation::Circulation;
+use circulation::Lent;
 use std::alloc::{AllocError, Global};
 use std::marker::Brand;
 use std::process::Abort;
@@ -15,7 +15,7 @@ use steps::Steps;
 /// Takes a turn, and holds what it came to.
 fn play<L: Ledger, R: Abort>(
     rt: &R,
-    circ: &mut Circulation,
+    circ: &mut Lent<'_>,
     turn: &Turn,
     name: &str,
     searches: &mut Steps<L>,
@@ -32,7 +32,7 @@ fn play<L: Ledger, R: Abort>(
 /// Takes the turns of a case.
 fn play_all<L: Ledger, R: Abort>(
     rt: &R,
-    circ: &mut Circulation,
+    circ: &mut Lent<'_>,
     case: &Case,
     searches: &mut Steps<L>,
 ) {
@@ -42,7 +42,7 @@ fn play_all<L: Ledger, R: Abort>(
 }
 
 /// Compares where the last search came.
-fn compare_reached<R: Abort>(rt: &R, circ: &Circulation, case: &Case) {
+fn compare_reached<R: Abort>(rt: &R, circ: &Lent<'_>, case: &Case) {
     for (node, came) in case.reached.iter().enumerate() {
         assert!(rt; node < circ.nodes() as usize);
         assert!(rt;
@@ -64,7 +64,8 @@ fn run<L: Ledger, R: Abort>(
     requires parts { blank.parts ≡ L.parts }
     requires some { 0 < blank.parts }
 {
-    let mut circ = open(rt, alloc, case)?;
+    let mut laid = open(rt, alloc, case)?;
+    let mut circ = lend(&laid.circ, laid.region.words_mut(laid.circ.place));
     begin(rt, alloc, &mut circ, case)?;
     hold_all(rt, &mut circ, case);
     let mut searches: Steps<L> = Steps::new(blank);

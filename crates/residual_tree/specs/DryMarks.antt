@@ -12,7 +12,7 @@ pub record HasDryMarks (way dry : List ℕ) : Type 0 where
 
 -- the word of each node
 abbrev pub node_words : Inside → List ℕ
-node_words i = i.way.items
+node_words i = i.way.now
 
 abbrev pub IsMarked : Inside → Type 0
-IsMarked i = HasDryMarks i.way.items i.dry.items
+IsMarked i = HasDryMarks i.way.now i.dry.now

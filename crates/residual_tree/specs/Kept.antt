@@ -1,5 +1,5 @@
 -- What the fields of a tree mean, and what they keep.
-use Rattle.std.specs.Prelude.{ℕ, ◌≡◌, ◌+◌, List, length}
+use Rattle.std.specs.Prelude.{ℕ, ◌≡◌, ◌+◌, ◌*◌, List, length}
 use Rattle.residual_tree.specs.declared.ResidualTree.TheInside.{Inside}
 
 -- the word of each node
@@ -8,6 +8,4 @@ words i = i.way
 
 -- there is room for all basin nodes among those freed, those reached and the ways that were found
 pub record IsKept (i : Inside) : Type 0 where
-  pub freed : length i.way ≡ length i.freed.items + 1
-  pub queue : length i.way ≡ length i.queue.items + 1
-  pub found : length i.way ≡ length i.found.items + 1
+  pub room : length i.room.now + 3 ≡ 3 * length i.way

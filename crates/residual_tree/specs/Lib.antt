@@ -1,6 +1,7 @@
 pub mod Steps
 pub mod Tree
 pub mod DryMarks
+pub mod TreeWords
 pub mod Growth
 pub mod Raised
 pub mod Kept

@@ -12,7 +12,7 @@ use circulation::Lent;
 
 /// Frees the node that a step enters, where it is the step by which the node is reached. Takes and answers how many
 /// nodes were freed.
-fn free_end(way: &mut Words, freed: &mut [u32], step: u64, node: u32, size: usize) -> usize
+fn free_end(way: &mut Words<'_>, freed: &mut [u64], step: u64, node: u32, size: usize) -> usize
     requires step { step < 2 ^ 33 }
     requires node { node < length way.old }
     requires room { word_of way.old node ≡ step + 1 → size < length freed.old }
@@ -23,7 +23,7 @@ fn free_end(way: &mut Words, freed: &mut [u32], step: u64, node: u32, size: usiz
 {
     if way.get(node) == step + 1 {
         way.set(node, 0);
-        freed[size] = node;
+        freed[size] = u64::from(node);
         size + 1
     } else {
         size
@@ -33,8 +33,8 @@ fn free_end(way: &mut Words, freed: &mut [u32], step: u64, node: u32, size: usiz
 /// Frees the node that a step enters, where it is the step by which the node is reached and has no room.
 fn free_worn(
     circ: &Lent<'_>,
-    way: &mut Words,
-    freed: &mut [u32],
+    way: &mut Words<'_>,
+    freed: &mut [u64],
     step: u64,
     size: usize,
 ) -> usize
@@ -61,8 +61,8 @@ fn free_worn(
 /// `first` to below `last`.
 pub fn loosen(
     circ: &Lent<'_>,
-    way: &mut Words,
-    freed: &mut [u32],
+    way: &mut Words<'_>,
+    freed: &mut [u64],
     first: usize,
     last: usize,
 ) -> usize
@@ -84,8 +84,8 @@ pub fn loosen(
 /// Frees the children of the freed node with the number `done`.
 fn free_children(
     circ: &Lent<'_>,
-    way: &mut Words,
-    freed: &mut [u32],
+    way: &mut Words<'_>,
+    freed: &mut [u64],
     done: usize,
     size: usize,
 ) -> usize
@@ -94,7 +94,7 @@ fn free_children(
     requires kept { IsCirculation circ.now }
     ensures { (at : ℕ) × IsFreeing circ.now way.new freed.new at at (done + 1) result }
 {
-    let node = freed[done];
+    let node = freed[done] as u32;
     let mut count = size;
     for place in circ.row_first(node)..circ.row_last(node) {
         let step = circ.step_at(place);
@@ -104,7 +104,7 @@ fn free_children(
 }
 
 /// Frees all that is below the freed nodes in the tree.
-pub fn free_below(circ: &Lent<'_>, way: &mut Words, freed: &mut [u32], size: usize) -> usize
+pub fn free_below(circ: &Lent<'_>, way: &mut Words<'_>, freed: &mut [u64], size: usize) -> usize
     requires tree { (at : ℕ) × IsFreeing circ.now way.old freed.old at at 0 size }
     requires kept { IsCirculation circ.now }
     ensures { (at : ℕ) × IsFreeing circ.now way.new freed.new at at result result }
@@ -119,7 +119,7 @@ pub fn free_below(circ: &Lent<'_>, way: &mut Words, freed: &mut [u32], size: usi
 }
 
 /// Reaches no node but the outside, and frees all others.
-pub fn fell(circ: &Lent<'_>, way: &mut Words, freed: &mut [u32])
+pub fn fell(circ: &Lent<'_>, way: &mut Words<'_>, freed: &mut [u64])
     requires words { length way.old ≡ circ.now.nodes + 1 }
     requires places { length freed.old ≡ circ.now.nodes }
     requires kept { IsCirculation circ.now }
@@ -129,6 +129,6 @@ pub fn fell(circ: &Lent<'_>, way: &mut Words, freed: &mut [u32])
     way.clear();
     way.set(nodes, ROOT);
     for node in 0..nodes {
-        freed[node as usize] = node;
+        freed[node as usize] = u64::from(node);
     }
 }

@@ -12,7 +12,7 @@ use circulation::Lent;
 
 /// Whether the opposite of a step to a node is a way into the node that the step leaves: it has room, and comes from a
 /// node that is reached.
-fn is_way_back(circ: &Lent<'_>, way: &Words, step: u64, node: u32) -> bool
+fn is_way_back(circ: &Lent<'_>, way: &Words<'_>, step: u64, node: u32) -> bool
     requires arc { arc_of step < arcs circ.now }
     requires node { end_of (network circ.now) step ≡ node }
     requires inside { node ≤ circ.now.nodes }
@@ -29,7 +29,7 @@ fn is_way_back(circ: &Lent<'_>, way: &Words, step: u64, node: u32) -> bool
 }
 
 /// One more than a step by which the outside reaches a node, or 0 where there is none.
-fn find_way(circ: &Lent<'_>, way: &Words, node: u32) -> u64
+fn find_way(circ: &Lent<'_>, way: &Words<'_>, node: u32) -> u64
     requires node { node ≤ circ.now.nodes }
     requires words { length way.now ≡ circ.now.nodes + 1 }
     requires kept { IsCirculation circ.now }
@@ -45,7 +45,7 @@ fn find_way(circ: &Lent<'_>, way: &Words, node: u32) -> u64
 }
 
 /// Finds a way into each freed node, from nodes that are reached already.
-fn find_ways(circ: &Lent<'_>, way: &Words, freed: &[u32], count: usize, found: &mut [u64])
+fn find_ways(circ: &Lent<'_>, way: &Words<'_>, freed: &[u64], count: usize, found: &mut [u64])
     requires count { count ≤ length freed.now }
     requires places { count ≤ length found.old }
     requires within { (k : ℕ) → k < count → slice_index freed.now k < circ.now.nodes }
@@ -54,12 +54,12 @@ fn find_ways(circ: &Lent<'_>, way: &Words, freed: &[u32], count: usize, found: &
     ensures { (k : ℕ) → k < count → IsFound circ.now way.now (slice_index freed.now k) (slice_index found.new k) }
 {
     for at in 0..count {
-        found[at] = find_way(circ, way, freed[at]);
+        found[at] = find_way(circ, way, freed[at] as u32);
     }
 }
 
 /// Reaches a node by a step. Takes and answers how many nodes were reached.
-fn attach(way: &mut Words, queue: &mut [u32], node: u32, step: u64, size: usize) -> usize
+fn attach(way: &mut Words<'_>, queue: &mut [u64], node: u32, step: u64, size: usize) -> usize
     requires node { node < length way.old }
     requires size { size < length queue.old }
     requires step { step < 2 ^ 33 }
@@ -68,12 +68,12 @@ fn attach(way: &mut Words, queue: &mut [u32], node: u32, step: u64, size: usize)
     ensures queue { queue.new ≡ slice_set queue.old size node }
 {
     way.set(node, step + 1);
-    queue[size] = node;
+    queue[size] = u64::from(node);
     size + 1
 }
 
 /// Gives a dry node its word, unless the word is 0. Takes and answers how many nodes were reached.
-fn seed_node(way: &mut Words, queue: &mut [u32], node: u32, word: u64, size: usize) -> usize
+fn seed_node(way: &mut Words<'_>, queue: &mut [u64], node: u32, word: u64, size: usize) -> usize
     requires node { node < length way.old }
     requires room { word_of way.old node ≡ 0 → size < length queue.old }
     ensures none { word ≡ 0 → (result ≡ size) × (way.new ≡ way.old) × (queue.new ≡ queue.old) }
@@ -88,7 +88,7 @@ fn seed_node(way: &mut Words, queue: &mut [u32], node: u32, word: u64, size: usi
         return size;
     }
     way.set(node, word);
-    queue[size] = node;
+    queue[size] = u64::from(node);
     size + 1
 }
 
@@ -96,9 +96,9 @@ fn seed_node(way: &mut Words, queue: &mut [u32], node: u32, word: u64, size: usi
 /// first is taken, so that a way is no longer than it need be.
 fn seed(
     circ: &Lent<'_>,
-    way: &mut Words,
-    queue: &mut [u32],
-    freed: &[u32],
+    way: &mut Words<'_>,
+    queue: &mut [u64],
+    freed: &[u64],
     count: usize,
     found: &mut [u64],
 ) -> usize
@@ -111,7 +111,7 @@ fn seed(
     find_ways(circ, way, freed, count, found);
     let mut size = 0;
     for at in 0..count {
-        size = seed_node(way, queue, freed[at], found[at], size);
+        size = seed_node(way, queue, freed[at] as u32, found[at], size);
     }
     size
 }
@@ -119,8 +119,8 @@ fn seed(
 /// Reaches the node that a step enters, if the step has room and the node is not reached.
 fn reach_end(
     circ: &Lent<'_>,
-    way: &mut Words,
-    queue: &mut [u32],
+    way: &mut Words<'_>,
+    queue: &mut [u64],
     step: u64,
     node: u32,
     size: usize,
@@ -149,8 +149,8 @@ fn reach_end(
 /// Reaches the nodes to which steps lead from the node with the number `done` among those reached.
 fn spread_from(
     circ: &Lent<'_>,
-    way: &mut Words,
-    queue: &mut [u32],
+    way: &mut Words<'_>,
+    queue: &mut [u64],
     done: usize,
     size: usize,
 ) -> usize
@@ -161,7 +161,7 @@ fn spread_from(
     ensures tree { IsGrowing circ.now lent way.new [] queue.new 0 0 (done + 1) result }
     ensures more { (v : ℕ) → IsReached way.old v → IsReached way.new v }
 {
-    let node = queue[done];
+    let node = queue[done] as u32;
     let mut count = size;
     for place in circ.row_first(node)..circ.row_last(node) {
         let step = circ.step_at(place);
@@ -171,7 +171,7 @@ fn spread_from(
 }
 
 /// Reaches all nodes to which steps lead from those that were reached, in the order in which they were reached.
-fn spread(circ: &Lent<'_>, way: &mut Words, queue: &mut [u32], size: usize)
+fn spread(circ: &Lent<'_>, way: &mut Words<'_>, queue: &mut [u64], size: usize)
     ghost lent: { ℕ }
     requires tree { IsGrowing circ.now lent way.old [] queue.old 0 0 0 size }
     requires kept { IsCirculation circ.now }
@@ -189,9 +189,9 @@ fn spread(circ: &Lent<'_>, way: &mut Words, queue: &mut [u32], size: usize)
 /// Reaches the freed nodes again, as far as steps with room lead to them.
 pub fn grow(
     circ: &Lent<'_>,
-    way: &mut Words,
-    queue: &mut [u32],
-    freed: &[u32],
+    way: &mut Words<'_>,
+    queue: &mut [u64],
+    freed: &[u64],
     count: usize,
     found: &mut [u64],
 )
@@ -206,7 +206,7 @@ pub fn grow(
 }
 
 /// Reaches the dry tail of an exit back over the exit, and all that is below it.
-pub fn lend_over(circ: &Lent<'_>, way: &mut Words, queue: &mut [u32], exit: u32)
+pub fn lend_over(circ: &Lent<'_>, way: &mut Words<'_>, queue: &mut [u64], exit: u32)
     requires exit { exit < arcs circ.now }
     requires out { slice_index circ.now.to exit ≡ circ.now.nodes }
     requires dry { word_of way.old (slice_index circ.now.from exit) ≡ 0 }

@@ -4,47 +4,53 @@
 //! for Energy Minimization in Vision (2004), in a simple form: where a step lost its room, the subtree
 //! below it is freed, and grows again from what is still reached. The terms are those of Ahuja, Magnanti
 //! and Orlin, Network Flows (1993), section 2.4. A basin node that the outside doesn't reach is dry.
-//! All amounts are in units of 1,000 cubic metres. Only `open` takes memory.
+//! All amounts are in units of 1,000 cubic metres. A tree lies in words that are borrowed: no call takes memory.
 #![tactic(auto)]
 
-ghost use Rattle.std.specs.Prelude.{◌≡◌, ℕ, ◌+◌, ◌-◌, ◌*◌, ◌<◌, ◌≤◌, ◌==◌, length, slice_index, replicate, List, IsTrue, ◌↔◌, IfOk};
+ghost use Rattle.std.specs.Prelude.{◌≡◌, ℕ, ◌+◌, ◌-◌, ◌*◌, ◌<◌, ◌≤◌, ◌==◌, length, slice_index, replicate, IsTrue, ◌↔◌};
 ghost use Rattle.circulation.specs.Contents.{arcs, flow_of, step_of, held_contents, IsCirculation};
 ghost use Rattle.circulation.specs.Residual.{arc_of};
 ghost use Rattle.augment.specs.Search.{SameButScratch};
 ghost use Rattle.bit_words.specs.Marks.{words_for, is_marked};
 ghost use Rattle.residual_tree.specs.Tree.{word_of, IsReached, IsResidualTree, dry};
 ghost use Rattle.residual_tree.specs.Growth.{IsWornTree, IsLentTree};
+ghost use Rattle.residual_tree.specs.TreeWords.{tree_words};
 
 mod freeing;
 mod growing;
 pub mod laws;
+mod parts;
 mod raising;
 mod residual;
 mod tracing;
 mod words;
 
-use crate::freeing::{fell, free_below, loosen};
-use crate::growing::{grow, lend_over};
+use crate::parts::{grow_all, lend_back, regrow};
 pub use crate::raising::{Pulled, raise_by_tree, raise_within_dry};
 use crate::words::Words;
+use bit_words::words_for;
 use circulation::Lent;
-use std::alloc::{AllocError, Global};
 use std::marker::Model;
 
 /// The word of the outside node, which no step has.
 const ROOT: u64 = u64::MAX;
 
+/// How many words a tree of so many basin nodes takes.
+pub fn tree_words(nodes: u32) -> usize
+    ensures { result ≡ tree_words nodes }
+{
+    4 * nodes as usize + 1 + words_for(nodes)
+}
+
 /// The tree, by a word for each node and a mark for each that is dry, and room for a search. Contracts see it as the
 /// list of its words.
 #[derive(Drop)]
-pub struct ResidualTree {
-    way: Words,
-    freed: Vec<u32>,
-    queue: Vec<u32>,
-    found: Vec<u64>,
+pub struct ResidualTree<'t> {
+    way: Words<'t>,
+    room: &'t mut [u64],
 }
 
-impl Model for ResidualTree {
+impl<'t> Model for ResidualTree<'t> {
     ghost use Rattle.std.specs.Prelude.{ℕ, List};
 
     ghost Value = { List ℕ };
@@ -56,18 +62,16 @@ impl Model for ResidualTree {
     ghost invariant = { IsKept };
 }
 
-impl ResidualTree {
-    /// A tree for so many basin nodes, which reaches none yet. AllocError comes where memory is lacking.
-    pub fn open(alloc: Global, nodes: u32) -> Result<ResidualTree, AllocError>
-        ensures { IfOk result (λ t. t ≡ replicate (nodes + 1) 0) }
+impl<'t> ResidualTree<'t> {
+    /// A tree for so many basin nodes, which reaches none yet, in these words.
+    pub fn over(nodes: u32, words: &'t mut [u64]) -> ResidualTree<'t>
+        requires { length words.old ≡ tree_words nodes }
+        ensures { result ≡ replicate (nodes + 1) 0 }
     {
-        let basin = nodes as usize;
-        Ok(ResidualTree {
-            way: Words::open(alloc, nodes)?,
-            freed: vec![in alloc; 0; basin]?,
-            queue: vec![in alloc; 0; basin]?,
-            found: vec![in alloc; 0; basin]?,
-        })
+        let (way, words) = words.split_at_mut(nodes as usize + 1);
+        let (dry, room) = words.split_at_mut(words_for(nodes));
+        let way = Words::over(way, dry);
+        ResidualTree { way, room }
     }
 
     /// Grows the tree from the outside alone, over all steps with room.
@@ -75,12 +79,9 @@ impl ResidualTree {
         requires { length self.old ≡ circ.now.nodes + 1 }
         ensures { IsResidualTree circ.now self.new }
     {
-        let nodes = circ.nodes() as usize;
-        let way = &mut self.way;
-        let freed: &mut [u32] = &mut self.freed;
-        fell(circ, way, freed);
-        let found: &mut [u64] = &mut self.found;
-        grow(circ, way, &mut self.queue, freed, nodes, found);
+        // This call tells that the circulation is kept.
+        let _nodes = circ.nodes();
+        grow_all(circ, self.room, &mut self.way);
     }
 
     /// Repairs the tree after steps may have lost their room: those that stand in `count` scratch words from word
@@ -93,12 +94,7 @@ impl ResidualTree {
     {
         // This call tells that the circulation is kept.
         let _nodes = circ.nodes();
-        let way = &mut self.way;
-        let freed: &mut [u32] = &mut self.freed;
-        let loose = loosen(circ, way, freed, first, first + count);
-        let free = free_below(circ, way, freed, loose);
-        let found: &mut [u64] = &mut self.found;
-        grow(circ, way, &mut self.queue, freed, free, found);
+        regrow(circ, self.room, &mut self.way, first, count);
     }
 
     /// The word of a node: 0 where it is dry, else one more than the step by which the outside reaches it.
@@ -126,7 +122,7 @@ impl ResidualTree {
         self.way.get(node) == 0
     }
 
-    /// Holds an amount on an arc, in units of 1,000 cubic metres, as `Circulation::hold` does, and repairs the tree.
+    /// Holds an amount on an arc, in units of 1,000 cubic metres, as `Lent::hold` does, and repairs the tree.
     pub fn hold(&mut self, circ: &mut Lent<'_>, arc: u32, amount: u64)
         requires arc { arc < arcs circ.old }
         requires amount { amount ≤ flow_of circ.old arc }
@@ -154,8 +150,7 @@ impl ResidualTree {
     {
         // This call tells that the circulation is kept.
         let _nodes = circ.nodes();
-        let way = &mut self.way;
-        lend_over(circ, way, &mut self.queue, exit);
+        lend_back(circ, self.room, &mut self.way, exit);
     }
 
     /// Takes back what was lent over an exit.

@@ -19,7 +19,7 @@ use steps::Steps;
 /// push, which lacks only where the exit has none.
 fn round<L: Ledger>(
     circ: &mut Lent<'_>,
-    tree: &mut ResidualTree,
+    tree: &mut ResidualTree<'_>,
     arc: u32,
     exit: u32,
     most: u64,
@@ -63,7 +63,7 @@ fn round<L: Ledger>(
 /// Pushes as long as the flow on the arc is less than wanted and its tail is reached, and at most so often.
 fn pull<L: Ledger>(
     circ: &mut Lent<'_>,
-    tree: &mut ResidualTree,
+    tree: &mut ResidualTree<'_>,
     arc: u32,
     exit: u32,
     want: u64,
@@ -121,7 +121,7 @@ pub enum Pulled {
 /// walk is long, and as there are arcs at the nodes below the steps that it fills.
 pub fn raise_by_tree<L: Ledger>(
     circ: &mut Lent<'_>,
-    tree: &mut ResidualTree,
+    tree: &mut ResidualTree<'_>,
     arc: u32,
     exit: u32,
     want: u64,
@@ -172,7 +172,7 @@ pub fn raise_by_tree<L: Ledger>(
 /// nodes that it does not reach are the greatest tight cut of the arc. The rest is as at `raise_by_tree`.
 pub fn raise_within_dry<L: Ledger>(
     circ: &mut Lent<'_>,
-    tree: &mut ResidualTree,
+    tree: &mut ResidualTree<'_>,
     arc: u32,
     exit: u32,
     want: u64,

@@ -32,7 +32,7 @@ pub fn write_step(circ: &mut Lent<'_>, first: usize, step: u64) -> usize
 /// Writes the closed walk that goes over the arc, then from its head over the exit to the outside, and then along
 /// the tree to its tail; where the tree comes by the head, the walk goes on from there. It carries the
 /// least of its rooms, and at most `most`.
-pub fn trace(circ: &mut Lent<'_>, tree: &ResidualTree, arc: u32, exit: u32, most: u64) -> Walk
+pub fn trace(circ: &mut Lent<'_>, tree: &ResidualTree<'_>, arc: u32, exit: u32, most: u64) -> Walk
     requires arc { arc < arcs circ.old }
     requires positive { 0 < most }
     requires most { flow_of circ.old arc + most ≤ slice_index circ.old.upper arc }

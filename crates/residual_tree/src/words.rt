@@ -1,22 +1,20 @@
 //! The words of the nodes, and beside them a mark for each node that is dry.
-ghost use Rattle.std.specs.Prelude.{◌≡◌, ℕ, ◌+◌, ◌-◌, ◌<◌, ◌==◌, length, slice_set, replicate, IfOk};
+ghost use Rattle.std.specs.Prelude.{◌≡◌, ℕ, ◌+◌, ◌-◌, ◌/◌, ◌<◌, ◌≢◌, ◌==◌, length, slice_set, replicate};
 ghost use Rattle.bit_words.specs.Marks.{words_for, is_marked};
 ghost use Rattle.residual_tree.specs.Tree.{word_of};
-ghost use Rattle.residual_tree.specs.DryMarks.{HasDryMarks};
 
-use bit_words::{mark, unmark, words_for};
-use std::alloc::{AllocError, Global};
+use bit_words::{mark, unmark};
 use std::marker::Model;
 
 /// A word for each node, the outside's last, and a mark for each basin node whose word is 0. Contracts see the list of
-/// the words. Only `open` takes memory.
+/// the words. They lie in words that are borrowed.
 #[derive(Drop)]
-pub struct Words {
-    way: Vec<u64>,
-    dry: Vec<u64>,
+pub struct Words<'t> {
+    way: &'t mut [u64],
+    dry: &'t mut [u64],
 }
 
-impl Model for Words {
+impl<'t> Model for Words<'t> {
     ghost use Rattle.std.specs.Prelude.{ℕ, List};
 
     ghost Value = { List ℕ };
@@ -28,15 +26,16 @@ impl Model for Words {
     ghost invariant = { IsMarked };
 }
 
-impl Words {
-    /// The word 0 for each of so many basin nodes and for the outside. AllocError comes where memory is lacking.
-    pub fn open(alloc: Global, nodes: u32) -> Result<Words, AllocError>
-        ensures { IfOk result (λ w. w ≡ replicate (nodes + 1) 0) }
+impl<'t> Words<'t> {
+    /// The word 0 for each of the basin nodes and for the outside, in these words, with marks in those.
+    pub fn over(way: &'t mut [u64], dry: &'t mut [u64]) -> Words<'t>
+        requires outside { 0 < length way.old }
+        requires marks { length dry.old ≡ words_for (length way.old - 1) }
+        ensures { result ≡ replicate (length way.old) 0 }
     {
-        Ok(Words {
-            way: vec![in alloc; 0; nodes as usize + 1]?,
-            dry: vec![in alloc; u64::MAX; words_for(nodes)]?,
-        })
+        way.fill(0);
+        dry.fill(u64::MAX);
+        Words { way, dry }
     }
 
     /// The word of a node.
@@ -52,9 +51,10 @@ impl Words {
         requires { node < length self.old }
         ensures { self.new ≡ slice_set self.old node word }
     {
-        let way: &mut [u64] = &mut self.way;
-        let dry: &mut [u64] = &mut self.dry;
-        write(way, dry, node, word);
+        self.way[node as usize] = word;
+        if node as usize + 1 < self.way.len() {
+            mark_as(self.dry, node, word == 0);
+        }
     }
 
     /// Gives each node the word 0.
@@ -71,24 +71,20 @@ impl Words {
         ensures count { length result.now ≡ words_for (length self.now - 1) }
         ensures marks { (v : ℕ) → v + 1 < length self.now → is_marked result.now v ≡ (word_of self.now v == 0) }
     {
-        self.dry.as_slice()
+        self.dry
     }
 }
 
-/// Writes the word of a node, and its mark.
-fn write(way: &mut [u64], dry: &mut [u64], node: u32, word: u64)
-    requires node { node < length way.old }
-    requires marks { HasDryMarks way.old dry.old }
-    ensures way { way.new ≡ slice_set way.old node word }
-    ensures marks { HasDryMarks way.new dry.new }
+/// Marks a place, or takes its mark away. The other marks stay.
+fn mark_as(words: &mut [u64], place: u32, marked: bool)
+    requires { place / 64 < length words.old }
+    ensures count { length words.new ≡ length words.old }
+    ensures on { is_marked words.new place ≡ marked }
+    ensures off { (q : ℕ) → q ≢ place → is_marked words.new q ≡ is_marked words.old q }
 {
-    way[node as usize] = word;
-    if node as usize + 1 == way.len() {
-        return;
-    }
-    if word == 0 {
-        mark(dry, node);
+    if marked {
+        mark(words, place);
     } else {
-        unmark(dry, node);
+        unmark(words, place);
     }
 }

@@ -19,3 +19,4 @@ pub mod Spilled
 pub mod TreeServes
 pub mod SettledPlans
 pub mod SearchedPlans
+pub mod Placing

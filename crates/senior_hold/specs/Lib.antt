@@ -4,5 +4,6 @@ pub mod Solved
 pub mod Serving
 pub mod Spilled
 pub mod Layouts
+pub mod Places
 pub mod Solver
 pub mod Laws

@@ -1,11 +1,8 @@
 -- What a solver is to its callers, and what it keeps.
-use Rattle.std.specs.Prelude.{◌≡◌, ◌+◌, length}
 use Rattle.water_model.specs.Valid.{IsValidBasin}
 use Rattle.water_model.specs.declared.types.Basin.{Basin}
-use Rattle.circulation.specs.Contents.{network}
-use Rattle.senior_hold.specs.MonthNetwork.{HasBasinEnds}
 use Rattle.senior_hold.specs.Layouts.{IsLayout, FitsRoom}
-use Rattle.senior_hold.specs.Spilled.{spilled}
+use Rattle.senior_hold.specs.Places.{HasPlaces}
 use Rattle.senior_hold.specs.declared.solver.Solver.TheInside.{Inside}
 
 -- its basin
@@ -16,5 +13,4 @@ pub record IsReady (i : Inside) : Type 0 where
   pub valid : IsValidBasin i.basin.now
   pub is_layout : IsLayout i.basin.now i.layout
   pub fits_room : FitsRoom i.basin.now i.room
-  pub ends : HasBasinEnds (spilled i.basin.now) (network i.circ)
-  pub tree : length i.tree ≡ length i.basin.now.nodes + 1
+  pub places : HasPlaces i.basin.now i.region i.places

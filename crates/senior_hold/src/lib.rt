@@ -9,6 +9,7 @@
 mod amounts;
 mod arcs;
 pub mod laws;
+mod places;
 mod pulls;
 mod search_sweep;
 mod serving;

@@ -19,7 +19,7 @@ use water_model::cut_list::CutList;
 /// there may be more to push.
 fn pull_once<L: Ledger>(
     circ: &mut Lent<'_>,
-    tree: &mut ResidualTree,
+    tree: &mut ResidualTree<'_>,
     arc: u32,
     exit: u32,
     want: u64,
@@ -60,7 +60,7 @@ fn pull_once<L: Ledger>(
 /// used, with one for the end. Unfinished says that they were used up.
 fn pull_up<L: Ledger>(
     circ: &mut Lent<'_>,
-    tree: &mut ResidualTree,
+    tree: &mut ResidualTree<'_>,
     arc: u32,
     exit: u32,
     want: u64,
@@ -111,7 +111,7 @@ pub enum Turn {
 /// head of the right's arc to the outside, unless the head is the outside.
 pub fn serve_by_tree<L: Ledger>(
     circ: &mut Lent<'_>,
-    tree: &mut ResidualTree,
+    tree: &mut ResidualTree<'_>,
     arc: u32,
     exit: u32,
     want: u64,

@@ -13,10 +13,8 @@ ghost use Rattle.senior_hold.specs.Layouts.{IsLayout, FitsRoom};
 ghost use Rattle.senior_hold.specs.Spilled.{spilled};
 
 use crate::arcs::{Arcs, arcs_of, ends_of_arcs};
-use crate::search_sweep::solve_by_searches;
-use crate::tree_sweep::{Sweep, solve_by_tree};
-use circulation::Circulation;
-use residual_tree::ResidualTree;
+use crate::places::{Places, Way, open_places, sweep, words_of};
+use crate::tree_sweep::Sweep;
 use rights_roll::roll::Roll;
 use river_net::Net;
 use std::alloc::{AllocError, Global};
@@ -27,6 +25,7 @@ use water_model::cut_list::CutList;
 use water_model::rows::Rows;
 use water_model::types::{Basin, Plan};
 use water_text::month::Month;
+use word_region::Region;
 
 /// What stays from month to month.
 #[derive(Drop)]
@@ -50,8 +49,8 @@ pub struct Solver<'b> {
     basin: &'b Basin,
     layout: Layout,
     room: Room,
-    circ: Circulation,
-    tree: ResidualTree,
+    region: Region,
+    places: Places,
 }
 
 impl<'b> Model for Solver<'b> {
@@ -102,23 +101,22 @@ fn room_of(alloc: Global, basin: &Basin, arcs: usize) -> Result<Room, AllocError
 }
 
 impl<'b> Solver<'b> {
-    /// A solver of a basin. AllocError comes where memory is lacking.
+    /// A solver of a basin. AllocError comes where memory is lacking. No other call takes memory.
     pub fn open(alloc: Global, basin: &'b Basin) -> Result<Solver<'b>, AllocError>
         requires { IsValidBasin basin.now }
         ensures { IfOk result (λ solver. solver ≡ basin.now) }
     {
         let layout = layout_of(alloc, basin)?;
         let ends = ends_of_arcs(alloc, basin)?;
-        let nodes = basin.nodes.len() as u32;
-        let circ = Circulation::open(alloc, nodes, &ends)?;
         let room = room_of(alloc, basin, ends.len())?;
-        let tree = ResidualTree::open(alloc, nodes)?;
+        let mut region = Region::open(alloc, words_of(basin, ends.len()))?;
+        let places = open_places(basin, &ends, &mut region);
         Ok(Solver {
             basin,
             layout,
             room,
-            circ,
-            tree,
+            region,
+            places,
         })
     }
 
@@ -141,12 +139,13 @@ impl<'b> Solver<'b> {
         ensures solved { result ≡ Sweep.Solved → IsSolved self.old month supply.now want.now plan.new cuts.new }
         ensures pushes { searches.new ≤ searches.old + 30 * length self.old.rights }
     {
-        solve_by_tree(
+        sweep(
+            Way::Tree,
             self.basin,
             &self.layout,
             &mut self.room,
-            &mut self.circ,
-            &mut self.tree,
+            &mut self.region,
+            &self.places,
             month,
             supply,
             want,
@@ -174,18 +173,20 @@ impl<'b> Solver<'b> {
         ensures solved { IsSolved self.old month supply.now want.now plan.new cuts.new }
         ensures pushes { searches.new ≤ searches.old + length self.old.rights * (30 * (2 * arc_count self.old + 1)) }
     {
-        solve_by_searches(
+        sweep(
+            Way::Searches,
             self.basin,
             &self.layout,
             &mut self.room,
-            &mut self.circ,
+            &mut self.region,
+            &self.places,
             month,
             supply,
             want,
             plan,
             cuts,
             searches,
-        )
+        );
     }
 
     /// Writes the plan of a month that serves seniors first, and gives each right that is short its reach as its set. The

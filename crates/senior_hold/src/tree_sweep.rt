@@ -149,7 +149,7 @@ pub fn solve_by_tree<L: Ledger>(
     layout: &Layout,
     room: &mut Room,
     circ: &mut Lent<'_>,
-    tree: &mut ResidualTree,
+    tree: &mut ResidualTree<'_>,
     month: Month,
     supply: &[u64],
     want: &[u64],

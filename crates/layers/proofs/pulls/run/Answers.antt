@@ -1,0 +1,6 @@
+use Rattle.std.proofs.Common.{List, ℕ, sym, subst}
+use Rattle.circulation.specs.Places.{HasWords}
+use Rattle.layers.proofs.pulls.run.Goals as goal
+
+pub lend-circ-requires : goal.lend-circ-requires
+lend-circ-requires g c = ?

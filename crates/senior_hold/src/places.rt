@@ -1,0 +1,165 @@
+//! Where the circulation and the residual tree of a solver lie: in two places of one region of words, of which a month
+//! borrows both.
+ghost use Rattle.std.specs.Prelude.{◌≡◌, ℕ, ◌+◌, ◌*◌, ◌<◌, ◌≤◌, length, replicate};
+ghost use Rattle.water_text.specs.Months.{IsMonth};
+ghost use Rattle.water_model.specs.Valid.{IsValidBasin};
+ghost use Rattle.senior_hold.specs.MonthNetwork.{arc_count};
+ghost use Rattle.senior_hold.specs.Arcs.{AreEnds};
+ghost use Rattle.senior_hold.specs.Solved.{FitsPlan, FitsCuts, IsGiven, IsSolved};
+ghost use Rattle.senior_hold.specs.Layouts.{IsLayout, FitsRoom};
+ghost use Rattle.senior_hold.specs.Spilled.{spilled};
+ghost use Rattle.senior_hold.specs.Places.{month_words, HasParts, HasPlaces};
+
+use crate::search_sweep::solve_by_searches;
+use crate::solver::{Layout, Room};
+use crate::tree_sweep::{Sweep, solve_by_tree};
+use circulation::{Circulation, Ends, words};
+use residual_tree::{ResidualTree, tree_words};
+use std::sync::ledger::Ledger;
+use steps::Steps;
+use water_model::cut_list::CutList;
+use water_model::types::{Basin, Plan};
+use water_text::month::Month;
+use word_region::{Full, Place, Region};
+
+/// The circulation's place, and the tree's, which follows it.
+#[derive(Clone, Copy)]
+pub struct Places {
+    pub circ: Circulation,
+    pub tree: Place,
+}
+
+/// A way to solve a month.
+#[derive(Clone, Copy, PartialEq, Eq)]
+pub enum Way {
+    /// By the residual tree.
+    Tree,
+    /// By searches.
+    Searches,
+}
+
+/// How many words the circulation and the tree of a basin take, with so many arcs.
+pub fn words_of(basin: &Basin, arcs: usize) -> usize
+    requires valid { IsValidBasin basin.now }
+    requires arcs { arcs ≡ arc_count (spilled basin.now) }
+    ensures { result ≡ month_words basin.now }
+{
+    let nodes = basin.nodes.len() as u32;
+    words(nodes, arcs as u32) + tree_words(nodes)
+}
+
+/// Lays the circulation of a basin, and a place for the tree, into a region that is free and has exactly the words for both.
+pub fn open_places(basin: &Basin, ends: &[Ends], region: &mut Region) -> Places
+    requires valid { IsValidBasin basin.now }
+    requires ends { AreEnds (spilled basin.now) ends.now }
+    requires free { region.old ≡ record { words = replicate (month_words basin.now) 0; used = 0 } }
+    ensures places { HasPlaces basin.now region.new result }
+    ensures full { region.new.used ≡ length region.new.words }
+{
+    let nodes = basin.nodes.len() as u32;
+    let circ = match Circulation::open(nodes, ends, region) {
+        Ok(circ) => circ,
+        Err(Full) => unreachable!(),
+    };
+    let tree = match region.take(tree_words(nodes)) {
+        Ok(tree) => tree,
+        Err(Full) => unreachable!(),
+    };
+    Places { circ, tree }
+}
+
+/// Solves a month in words that are lent: those of the circulation that never change, those that do, and the tree's.
+fn sweep_lent<L: Ledger>(
+    way: Way,
+    basin: &Basin,
+    layout: &Layout,
+    room: &mut Room,
+    circ: &Circulation,
+    fixed: &[u64],
+    moving: &mut [u64],
+    tree: &mut [u64],
+    month: Month,
+    supply: &[u64],
+    want: &[u64],
+    plan: &mut Plan,
+    cuts: &mut CutList,
+    searches: &mut Steps<L>,
+) -> Sweep
+    requires valid { IsValidBasin basin.now }
+    requires layout { IsLayout basin.now layout.now }
+    requires room { FitsRoom basin.now room.old }
+    requires parts { HasParts basin.now circ.now fixed.now moving.old tree.old }
+    requires month { IsMonth month }
+    requires given { IsGiven basin.now month supply.now want.now plan.old cuts.old }
+    ensures room { FitsRoom basin.now room.new }
+    ensures plan { FitsPlan basin.now plan.new }
+    ensures cuts { FitsCuts basin.now cuts.new }
+    ensures solved { result ≡ Sweep.Solved → IsSolved basin.now month supply.now want.now plan.new cuts.new }
+    ensures pushes { way ≡ Way.Tree → searches.new ≤ searches.old + 30 * length basin.now.rights }
+    ensures searched { way ≡ Way.Searches → result ≡ Sweep.Solved }
+    ensures search_pushes { way ≡ Way.Searches →
+        searches.new ≤ searches.old + length basin.now.rights * (30 * (2 * arc_count basin.now + 1)) }
+{
+    let mut circ = circ.lend(fixed, moving);
+    match way {
+        Way::Tree => {
+            let nodes = circ.nodes();
+            let mut tree = ResidualTree::over(nodes, tree);
+            solve_by_tree(
+                basin, layout, room, &mut circ, &mut tree, month, supply, want, plan, cuts, searches,
+            )
+        }
+        Way::Searches => {
+            solve_by_searches(
+                basin, layout, room, &mut circ, month, supply, want, plan, cuts, searches,
+            );
+            Sweep::Solved
+        }
+    }
+}
+
+/// Solves a month in the words of a region.
+pub fn sweep<L: Ledger>(
+    way: Way,
+    basin: &Basin,
+    layout: &Layout,
+    room: &mut Room,
+    region: &mut Region,
+    places: &Places,
+    month: Month,
+    supply: &[u64],
+    want: &[u64],
+    plan: &mut Plan,
+    cuts: &mut CutList,
+    searches: &mut Steps<L>,
+) -> Sweep
+    requires valid { IsValidBasin basin.now }
+    requires layout { IsLayout basin.now layout.now }
+    requires room { FitsRoom basin.now room.old }
+    requires places { HasPlaces basin.now region.old places.now }
+    requires month { IsMonth month }
+    requires given { IsGiven basin.now month supply.now want.now plan.old cuts.old }
+    ensures room { FitsRoom basin.now room.new }
+    ensures places { HasPlaces basin.now region.new places.now }
+    ensures plan { FitsPlan basin.now plan.new }
+    ensures cuts { FitsCuts basin.now cuts.new }
+    ensures solved { result ≡ Sweep.Solved → IsSolved basin.now month supply.now want.now plan.new cuts.new }
+    ensures pushes { way ≡ Way.Tree → searches.new ≤ searches.old + 30 * length basin.now.rights }
+    ensures searched { way ≡ Way.Searches → result ≡ Sweep.Solved }
+    ensures search_pushes { way ≡ Way.Searches →
+        searches.new ≤ searches.old + length basin.now.rights * (30 * (2 * arc_count basin.now + 1)) }
+{
+    let circ = &places.circ;
+    let both = Place {
+        from: circ.place.from,
+        len: circ.place.len + places.tree.len,
+    };
+    let words = region.words_mut(both);
+    let (held, tree) = words.split_at_mut(circ.place.len);
+    let (fixed, moving) = held.split_at_mut(circ.fixed());
+    let answer = sweep_lent(
+        way, basin, layout, room, circ, fixed, moving, tree, month, supply, want, plan, cuts, searches,
+    );
+    circ.give_back(fixed, moving);
+    answer
+}
