@@ -294,13 +294,7 @@ fn round<L: Ledger>(
 
 /// One phase: raises the flow over rooms of at least `least`, until it is what is wanted or no walk is
 /// left. Then it can rise by less than `least` for each arc that may carry anything, so the next phase has few pushes.
-fn phase<L: Ledger>(
-    circ: &mut Lent<'_>,
-    arc: u32,
-    want: u64,
-    least: u64,
-    searches: &mut Steps<L>,
-)
+fn phase<L: Ledger>(circ: &mut Lent<'_>, arc: u32, want: u64, least: u64, searches: &mut Steps<L>)
     requires arc { arc < arcs circ.old }
     requires want { want ≤ slice_index circ.old.upper arc }
     requires way_out { HasWayOut (network circ.old) arc }
@@ -385,12 +379,7 @@ pub enum Raised {
 /// Raises the flow on an arc to `want`, or to the greatest that the bounds allow, in units of 1,000 cubic
 /// metres. Supplies and bounds stay. Where the flow is at least `want` already, nothing changes and
 /// the answer is Met. Each search that finds a walk ticks `searches` once, and nothing else does.
-pub fn raise<L: Ledger>(
-    circ: &mut Lent<'_>,
-    arc: u32,
-    want: u64,
-    searches: &mut Steps<L>,
-) -> Raised
+pub fn raise<L: Ledger>(circ: &mut Lent<'_>, arc: u32, want: u64, searches: &mut Steps<L>) -> Raised
     requires arc { arc < arcs circ.old }
     requires want { want ≤ slice_index circ.old.upper arc }
     requires way_out { HasWayOut (network circ.old) arc }

@@ -5,9 +5,8 @@ ghost use Rattle.circulation.specs.Chains.{tails_of, heads_of, AreSmall};
 ghost use Rattle.circulation.specs.Places.{word_count, fixed_count, tails, heads, tail_of, head_of};
 ghost use Rattle.circulation.specs.Laid.{AreFixed, IsLaid};
 
-use crate::fixed_words;
 use crate::rows::make_rows;
-use crate::{END, Ends};
+use crate::{END, Ends, fixed_words};
 
 /// Packs the ends of each arc into a word.
 fn pack(ends: &[Ends], pairs: &mut [u64])

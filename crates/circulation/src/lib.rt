@@ -477,7 +477,11 @@ mod tests {
             let mut region = Region::open(rt.alloc(), free + 2)?;
             let before = region.take(2).expect(&rt, "two words are free");
             region.put(before, &[7, 8]);
-            assert_eq!(rt; Circulation::open(3, &ENDS, &mut region), Err(Full), "at {free}");
+            assert_eq!(rt;
+                Circulation::open(3, &ENDS, &mut region),
+                Err(Full),
+                "at {free}"
+            );
             assert_eq!(rt; region.free(), free, "at {free}");
             assert_eq!(rt; region.words(before), [7, 8].as_slice(), "at {free}");
         }
@@ -491,7 +495,13 @@ mod tests {
         let before = region.take(2).expect(&rt, "two words are free");
         region.put(before, &[7, 8]);
         let opened = Circulation::open(3, &ENDS, &mut region).expect(&rt, "80 words are free");
-        assert_eq!(rt; opened.place, Place { from: 2, len: NEEDED });
+        assert_eq!(rt;
+            opened.place,
+            Place {
+                from: 2,
+                len: NEEDED
+            }
+        );
         assert_eq!(rt; region.free(), 0);
         assert_eq!(rt; region.words(before), [7, 8].as_slice());
         Ok(())

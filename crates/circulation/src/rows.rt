@@ -60,7 +60,11 @@ fn end(pairs: &[u64], step: u64) -> u64
     ensures small { result < 2 ^ 32 }
 {
     let pair = pairs[(step / 2) as usize];
-    if step % 2 == 1 { pair / END } else { pair % END }
+    if step % 2 == 1 {
+        pair / END
+    } else {
+        pair % END
+    }
 }
 
 /// Writes the row of a node from a place on, along its chain. Answers where it ends.

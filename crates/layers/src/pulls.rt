@@ -2,7 +2,9 @@
 ghost use Rattle.std.specs.Prelude.{◌≡◌, ◌<◌};
 ghost use Rattle.residual_tree.specs.Tree.{IsResidualTree};
 
-use crate::networks::{CASES, Case, Turn, begin, compare_flows, hold_all, leads_outside, lend, open};
+use crate::networks::{
+    CASES, Case, Turn, begin, compare_flows, hold_all, leads_outside, lend, open,
+};
 use augment::Raised;
 use circulation::Lent;
 use residual_tree::{Pulled, ResidualTree, raise_by_tree, tree_words};

@@ -106,7 +106,8 @@ fn sweep_lent<L: Ledger>(
             let nodes = circ.nodes();
             let mut tree = ResidualTree::over(nodes, tree);
             solve_by_tree(
-                basin, layout, room, &mut circ, &mut tree, month, supply, want, plan, cuts, searches,
+                basin, layout, room, &mut circ, &mut tree, month, supply, want, plan, cuts,
+                searches,
             )
         }
         Way::Searches => {
@@ -158,7 +159,8 @@ pub fn sweep<L: Ledger>(
     let (held, tree) = words.split_at_mut(circ.place.len);
     let (fixed, moving) = held.split_at_mut(circ.fixed());
     let answer = sweep_lent(
-        way, basin, layout, room, circ, fixed, moving, tree, month, supply, want, plan, cuts, searches,
+        way, basin, layout, room, circ, fixed, moving, tree, month, supply, want, plan, cuts,
+        searches,
     );
     circ.give_back(fixed, moving);
     answer

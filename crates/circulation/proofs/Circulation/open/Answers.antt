@@ -23,8 +23,7 @@ returns-clause-held c =
     let has = laid-words circ c.args.ends.now c.lay.new.words refl c.ranges.nodes.fits c.requires.few c.requires.ends
     c.lay.ensures.fixed c.lay.ensures.moving in
     let fits : place.from + place.len ≤ length c.take.new.self.words = omega
-    (arith, from, ap (λ (p : Place). p.len) at, size, c.in_ok-place.ensures.fitted) in
-    (
+    (arith, from, ap (λ (p : Place). p.len) at, size, c.in_ok-place.ensures.fitted) in (
       has.0,
       record {
         used = omega (arith, from, ap (λ (p : Place). p.len) at, used);
