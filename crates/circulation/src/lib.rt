@@ -136,6 +136,7 @@ impl Circulation {
         ensures { (c : Contents) (moved : List ℕ) → AreWordsOf self.now c fixed.now moved →
             length moving.old ≡ length moved → AreWordsOf self.now (emptied c) fixed.now moving.new }
     {
+        // The words that never change stand only in the contract.
         let _fixed = fixed;
         moving.fill(0);
     }
