@@ -1,9 +1,9 @@
 -- What a status leaves on out.
-use Rattle.std.specs.Prelude.{ℕ, List, take, Option, Some, ⊤}
+use Rattle.std.specs.Prelude.{◌≡◌, ◌≢◌, ℕ, List, take, Option, Some, ⊤}
 use Rattle.std.specs.Io.KnownBytes.{Appends}
 use Rattle.basin_cli.specs.declared.status.Status.{Status}
 use Rattle.basin_cli.specs.declared.status.Status.TheVariants.{Done, No, WriteFault, OutOfMemory}
-use Rattle.basin_cli.specs.Command.{Command, edit, report, run, trial, why}
+use Rattle.basin_cli.specs.Command.{Command, check, edit, report, run, trial, why}
 
 -- only these statuses may leave bytes on out
 abbrev pub MayWrite : Status → Type 0
@@ -41,6 +41,11 @@ IsIdle (Some (report files)) status = IsStopped status
 IsIdle (Some (trial number size)) status = IsStopped status
 IsIdle (Some (why files month name)) status = IsStopped status
 IsIdle command status = IsRefusal status
+
+-- where a check finds no memory, nobody asked for its result: `old` and `new` count the calls for each name, where that is told
+abbrev pub IsUnread : Option Command → Status → (List ℕ → Option ℕ) → (List ℕ → Option ℕ) → Type 0
+IsUnread (Some (check files result)) OutOfMemory old new = result ≢ files.basin → Some result ≢ files.series → new result ≡ old result
+IsUnread command status old new = ⊤
 
 -- the text is appended to out, or after a fault of out a front of it
 abbrev pub Leaves : Status → List ℕ → Option (List ℕ) → Option (List ℕ) → Type 0

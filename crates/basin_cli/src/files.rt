@@ -1,6 +1,6 @@
 //! The files of a command: a basin, and a series of its gauged inflows.
-ghost use Rattle.std.specs.Prelude.{◌≡◌, ◌≤◌, None, IfOk, OnOk, IfErr, IfSome, length, option_map};
-ghost use Rattle.water_edge.specs.Edge.{Rose, SameShelf, HasCause};
+ghost use Rattle.std.specs.Prelude.{◌≡◌, ◌≢◌, ◌≤◌, ℕ, List, Some, None, IfOk, OnOk, IfErr, IfSome, length, option_map};
+ghost use Rattle.water_edge.specs.Edge.{AsksFor, Rose, SameShelf, HasCause};
 ghost use Rattle.basin_file.specs.BasinFaults.{Spells, file_fault};
 ghost use Rattle.index_seq.specs.Traces.{HasWholeYears};
 ghost use Rattle.inflow_file.specs.SeriesFaults.{series_fault, SpellsSeries};
@@ -35,6 +35,7 @@ pub fn read_file<S: Shelf>(
     requires { S.serves shelf.old name.now }
     ensures same { SameShelf (S.told shelf.old) (S.told shelf.new) (S.serves shelf.old) (S.serves shelf.new) }
     ensures later { S.faults shelf.old ≤ S.faults shelf.new }
+    ensures asked { AsksFor (S.asked shelf.old) (S.asked shelf.new) name.now }
     ensures within { IfOk result (λ text. length text.items ≤ file_limit) }
     ensures bytes { IfOk result (λ text. IfSome (S.told shelf.old name.now) (λ bytes. text.items ≡ bytes)) }
     ensures ends { IfErr result (λ e. FileEnds file (S.told shelf.old name.now) (Rose (S.faults shelf.old) (S.faults shelf.new)) e) }
@@ -76,6 +77,7 @@ pub fn read_basin_file<S: Shelf>(alloc: Global, shelf: &mut S, name: &str) -> Re
     requires { S.serves shelf.old name.now }
     ensures same { SameShelf (S.told shelf.old) (S.told shelf.new) (S.serves shelf.old) (S.serves shelf.new) }
     ensures later { S.faults shelf.old ≤ S.faults shelf.new }
+    ensures asked { AsksFor (S.asked shelf.old) (S.asked shelf.new) name.now }
     ensures valid { IfOk result IsValidBasin }
     ensures text { IfOk result (λ basin. IfSome (S.told shelf.old name.now) (IsBasinText basin)) }
     ensures ends { IfErr result (λ e. BasinReadEnds (S.told shelf.old name.now) (Rose (S.faults shelf.old) (S.faults shelf.new)) e) }
@@ -131,6 +133,7 @@ fn read_series<S: Shelf>(
     requires serves { ServesSeries (S.serves shelf.old) (option_map (λ n. n.now) name) }
     ensures same { SameShelf (S.told shelf.old) (S.told shelf.new) (S.serves shelf.old) (S.serves shelf.new) }
     ensures later { S.faults shelf.old ≤ S.faults shelf.new }
+    ensures asked { (other : List ℕ) → Some other ≢ option_map (λ n. n.now) name.entry → S.asked shelf.new other ≡ S.asked shelf.old other }
     ensures fits { IfOk result (λ series. IsSeriesOf basin.now series) }
     ensures text { IfOk result (λ series. IfSome (series_told (S.told shelf.old) (option_map (λ n. n.now) name.entry)) (IsSeriesText basin.now series)) }
     ensures ends { IfErr result (λ e. SeriesReadEnds basin.now (series_told (S.told shelf.old) (option_map (λ n. n.now) name.entry))
@@ -159,6 +162,8 @@ pub fn read_inputs<S: Shelf>(alloc: Global, shelf: &mut S, inputs: Inputs) -> Re
     requires series { ServesSeries (S.serves shelf.old) (option_map (λ n. n.now) inputs.series) }
     ensures same { SameShelf (S.told shelf.old) (S.told shelf.new) (S.serves shelf.old) (S.serves shelf.new) }
     ensures later { S.faults shelf.old ≤ S.faults shelf.new }
+    ensures asked { (other : List ℕ) → other ≢ (named inputs.entry).basin → Some other ≢ (named inputs.entry).series →
+        S.asked shelf.new other ≡ S.asked shelf.old other }
     ensures valid { IfOk result (λ files. IsValidBasin files.basin) }
     ensures fits { IfOk result (λ files. IsSeriesOf files.basin files.series) }
     ensures loaded { IfOk result (λ files. AreLoaded (S.told shelf.old) (named inputs.entry) files.basin files.series) }

@@ -4,7 +4,7 @@ ghost use Rattle.water_edge.specs.Edge.{Rose};
 ghost use Rattle.water_text.specs.Months.{IsMonth};
 ghost use Rattle.basin_cli.specs.Command.{IsInForm, ServesFiles, ServesSeries, check, command_named, command_of, edit, named, ensemble, report, run, why};
 ghost use Rattle.basin_cli.specs.Ending.{status_of, CanBeTold};
-ghost use Rattle.basin_cli.specs.Out.{IsIdle, MayLeave};
+ghost use Rattle.basin_cli.specs.Out.{IsIdle, IsUnread, MayLeave};
 ghost use Rattle.basin_cli.specs.Outcome.{EndingHasCause, Ends, Completes, WritesFor, PushesFor, IsQuiet};
 
 use crate::actions::{gather_basin, report_basin, run_basin, try_basin};
@@ -85,6 +85,7 @@ fn do_check<S: Shelf, K: Sink>(
         (Rose (S.faults shelf.old) (S.faults shelf.new)) (Rose (K.faults out.old) (K.faults out.new)) }
     ensures writes { WritesFor (Some (check (named inputs.entry) result_name.now)) (status_of result) (S.told shelf.old) (K.taken out.old) (K.taken out.new) 0 0 }
     ensures out_stays { (MayLeave (Some (check (named inputs.entry) result_name.now)) (status_of result) → ⊥) → out.new ≡ out.old }
+    ensures unread { IsUnread (Some (check (named inputs.entry) result_name.now)) (status_of result) (S.asked shelf.old) (S.asked shelf.new) }
     ensures told { CanBeTold result }
     ensures handed { IsQuiet (status_of result) → K.handed out.new ≡ K.taken out.new }
 {
@@ -201,6 +202,7 @@ fn decide<S: Shelf, K: Sink, L: Ledger>(
     ensures out_stays { (MayLeave (command_of (map string_bytes words.now)) (status_of result) → ⊥) → out.new ≡ out.old }
     ensures idle { IsIdle (command_of (map string_bytes words.now)) (status_of result) → searches.new ≡ searches.old }
     ensures pushes { PushesFor (command_of (map string_bytes words.now)) (S.told shelf.old) searches.old searches.new }
+    ensures unread { IsUnread (command_of (map string_bytes words.now)) (status_of result) (S.asked shelf.old) (S.asked shelf.new) }
     ensures told { CanBeTold result }
     ensures handed { IsQuiet (status_of result) → K.handed out.new ≡ K.taken out.new }
 {
@@ -258,6 +260,9 @@ pub fn basin_main<S: Shelf, K: Sink, E: Sink, L: Ledger>(
     // Done and no come only where all that was put was handed on; err got its line handed on unless it failed.
     ensures handed { IsQuiet result → K.handed out.new ≡ K.taken out.new }
     ensures err_handed { (IsQuiet result → ⊥) → (Rose (E.faults err.old) (E.faults err.new) → ⊥) → E.handed err.new ≡ E.taken err.new }
+
+    // Want of memory says nothing of a result: nobody asked for it.
+    ensures unread { IsUnread (command_of (map string_bytes words.now)) result (S.asked shelf.old) (S.asked shelf.new) }
 
     // Where words, a file or a script are refused or not read, nothing is solved; of a run, a report, a trial and an account
     // want of memory comes before a month is solved, or not at all. Each month that is solved has at most so many pushes as

@@ -1,5 +1,5 @@
 -- What a call of a shelf or a sink answers, and what it leaves behind.
-use Rattle.std.specs.Prelude.{◌≡◌, ℕ, ◌+◌, ◌-◌, ◌^◌, ◌<◌, ◌≤◌, min, List, length, take, drop, ⊤, Option, None, Some, IfSome, Result, Ok, Err, Vec}
+use Rattle.std.specs.Prelude.{◌≡◌, ◌≢◌, ℕ, ◌+◌, ◌-◌, ◌^◌, ◌<◌, ◌≤◌, min, List, length, take, drop, ⊤, Option, None, Some, IfSome, Result, Ok, Err, Vec}
 use Rattle.std.specs.declared.alloc.Global.{Global}
 use Rattle.std.specs.Io.KnownBytes.{Appends}
 use Rattle.water_edge.specs.declared.shelf.ShelfRefused.{ShelfRefused}
@@ -22,6 +22,11 @@ pub record HasCause (before now : ℕ) (fault : Type 0) : Type 0 where
 pub record SameShelf (told_old told_new : List ℕ → Option (List ℕ)) (serves_old serves_new : List ℕ → Type 0) : Type 0 where
   pub told : (name : List ℕ) → told_new name ≡ told_old name
   pub served : (name : List ℕ) → serves_old name → serves_new name
+
+-- a call asked for this file, where that is told, and for no other
+pub record AsksFor (old new : List ℕ → Option ℕ) (name : List ℕ) : Type 0 where
+  pub once : IfSome (old name) (λ count. new name ≡ Some (next_count count))
+  pub others : (other : List ℕ) → other ≢ name → new other ≡ old other
 
 -- where the file is told: all its bytes, which are within the limit, or else TooLong only where they are beyond it
 abbrev pub ReadsWhole : Option (List ℕ) → ℕ → Result (Vec ℕ Global) ShelfRefused → Type 0

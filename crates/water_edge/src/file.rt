@@ -143,6 +143,8 @@ impl<'a, R: Files> Shelf for FileShelf<'a, R> {
 
     ghost serves = { λ _ _. ⊤ };
 
+    ghost asked = { λ _ _. None };
+
     ghost faults = { λ faults. faults };
 
     /// Fails where std's `open` or `read` does. `TooLong` comes as soon as more than `limit` bytes were read.

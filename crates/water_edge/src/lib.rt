@@ -9,6 +9,7 @@ mod memory;
 mod shelf;
 mod sink;
 mod stream;
+mod watched;
 #[cfg(test)]
 mod tests;
 
@@ -17,3 +18,4 @@ pub use memory::{MemoryShelf, MemorySink};
 pub use shelf::{Shelf, ShelfRefused};
 pub use sink::{Sink, SinkFailed};
 pub use stream::StdSink;
+pub use watched::WatchedShelf;

@@ -2,7 +2,7 @@
 ghost use Rattle.std.specs.Prelude.{◌≡◌, ◌+◌, ◌-◌, ◌^◌, ◌<◌, ◌≤◌, ◌↔◌, min, [], None, Some, ⊤, Contains, IfOk, IfSome, IsErr, IsErrOf, IsOk, IsTrue, OnOk, option_map, map, length, vec_len};
 ghost use Rattle.std.specs.Io.KnownBytes.{Keeps};
 ghost use Rattle.water_edge.specs.declared.shelf.ShelfRefused.TheVariants.{Failed, OutOfMemory};
-ghost use Rattle.water_edge.specs.Edge.{next_count, HasCause, IsPart, SameShelf, ReadsPart, ReadsWhole, Puts};
+ghost use Rattle.water_edge.specs.Edge.{next_count, AsksFor, HasCause, IsPart, SameShelf, ReadsPart, ReadsWhole, Puts};
 ghost use Rattle.water_edge.specs.Memory.{plain_file, file_of, part_length, after_read, after_put, FailsToRead, FailsToPut};
 
 use crate::{Shelf, ShelfRefused, Sink, SinkFailed};
@@ -139,6 +139,8 @@ impl Shelf for MemoryShelf {
 
     ghost serves = { λ _ _. ⊤ };
 
+    ghost asked = { λ _ _. None };
+
     ghost faults = { λ shelf. shelf.faults };
 
     /// Fails exactly where the number of the call is listed or there is no file of the name. `TooLong` comes exactly
@@ -148,6 +150,7 @@ impl Shelf for MemoryShelf {
         ensures bytes { ReadsWhole (file_of self.old.files name.now) limit result }
         ensures same { SameShelf (file_of self.old.files) (file_of self.new.files)
             (λ _. ⊤) (λ _. ⊤) }
+        ensures asked { AsksFor (λ _. None) (λ _. None) name.now }
         ensures cause { HasCause self.old.faults self.new.faults (IsErrOf result Failed) }
 
         // Beyond what each shelf promises.
@@ -180,6 +183,7 @@ impl Shelf for MemoryShelf {
         ensures length { length into.new ≡ length into.old }
         ensures same { SameShelf (file_of self.old.files) (file_of self.new.files)
             (λ _. ⊤) (λ _. ⊤) }
+        ensures asked { AsksFor (λ _. None) (λ _. None) name.now }
         ensures only { IsErr result → IsErrOf result Failed }
         ensures cause { HasCause self.old.faults self.new.faults (IsErrOf result Failed) }
 

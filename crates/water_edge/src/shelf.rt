@@ -1,7 +1,7 @@
 //! A shelf serves files by name.
 ghost use Rattle.std.specs.Prelude.{◌≡◌, ◌≤◌, List, ℕ, Option, IfOk, IsErr, IsErrOf, length, vec_len};
 ghost use Rattle.water_edge.specs.declared.shelf.ShelfRefused.TheVariants.{Failed};
-ghost use Rattle.water_edge.specs.Edge.{HasCause, SameShelf, ReadsPart, ReadsWhole};
+ghost use Rattle.water_edge.specs.Edge.{AsksFor, HasCause, SameShelf, ReadsPart, ReadsWhole};
 
 use std::alloc::Global;
 
@@ -27,6 +27,10 @@ pub trait Shelf {
     /// The names that may be asked for, which need not have a file.
     ghost serves: { Self → List ℕ → Type 0 };
 
+    /// How many calls asked for the file of a name, where the shelf tells that. The count never falls, and stands still
+    /// at 2^64 - 1.
+    ghost asked: { Self → List ℕ → Option ℕ };
+
     /// How many calls have failed. The count never falls, and stands still at 2^64 - 1.
     ghost faults: { Self → ℕ };
 
@@ -43,6 +47,7 @@ pub trait Shelf {
         ensures within { IfOk result (λ bytes. vec_len bytes ≤ limit) }
         ensures bytes { ReadsWhole (told self.old name.now) limit result }
         ensures same { SameShelf (told self.old) (told self.new) (serves self.old) (serves self.new) }
+        ensures asked { AsksFor (asked self.old) (asked self.new) name.now }
         ensures cause { HasCause (faults self.old) (faults self.new) (IsErrOf result Failed) };
 
     /// A part of the file under a served name: bytes from place `from` on are written to the front of `into`, and the
@@ -60,6 +65,7 @@ pub trait Shelf {
         ensures part { ReadsPart (told self.old name.now) from into.old into.new result }
         ensures length { length into.new ≡ length into.old }
         ensures same { SameShelf (told self.old) (told self.new) (serves self.old) (serves self.new) }
+        ensures asked { AsksFor (asked self.old) (asked self.new) name.now }
         ensures only { IsErr result → IsErrOf result Failed }
         ensures cause { HasCause (faults self.old) (faults self.new) (IsErrOf result Failed) };
 }
