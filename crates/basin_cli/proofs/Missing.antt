@@ -1,33 +1,37 @@
--- A missing amount is one of a month of the run and of a node.
-use Rattle.std.proofs.Common.{◌≡◌, ℕ, zero, suc, ◌+◌, ◌/◌, ◌%◌, ◌<◌, ◌≤◌, Bool, true, false, refl, sym, ◌∙◌, ap, subst, arith, List, [], ◌∷◌, ◌++◌, length, get_or, filter, Option, Some, None, if◌then◌else◌, option_map}
-use Rattle.std.specs.Prelude.{not, is_some, slice_get, ◌&&◌, nat_le}
+-- A missing amount is one of a month of the run, and of a node or a right.
+use Rattle.std.proofs.Common.{◌≡◌, ℕ, zero, suc, ◌+◌, ◌-◌, ◌/◌, ◌%◌, ◌<◌, ◌≤◌, Bool, true, false, refl, sym, ◌∙◌, ap, subst, arith, List, [], ◌∷◌, ◌++◌, length, get_or, filter, Option, Some, None, if◌then◌else◌, option_map}
+use Rattle.std.specs.Prelude.{not, is_some, slice_get, ◌&&◌, ◌||◌, nat_le, nat_lt, ⊤}
 use Rattle.std.specs.List.{find}
 use Rattle.std.specs.Option.{option_or}
 use Rattle.water_text.specs.Months.{IsMonth}
 use Rattle.water_text.specs.declared.month.Month.{Month}
 use Rattle.water_model.specs.Hydrology.{run_month}
 use Rattle.water_model.specs.Places.{numbers_from}
-use Rattle.water_model.specs.Valid.{IsValidBasin, IsValidNode, gauged_nodes, is_gauged}
+use Rattle.water_model.specs.Valid.{IsValidBasin, IsValidNode, IsValidRight}
 use Rattle.water_model.specs.declared.types.Basin.{Basin}
 use Rattle.water_model.specs.declared.types.Node.{Node}
+use Rattle.water_model.specs.declared.types.Right.{Right}
 use Rattle.water_text.specs.Names.{is_name, is_name_byte}
 use Rattle.std.specs.List.{list_all}
 use Rattle.std.proofs.lemmas.Bool.Decides.{nat_tests}
 use Rattle.water_model.proofs.Balance.{entry_holds}
 use Rattle.std.proofs.lemmas.Option.{slice_get_within}
-use Rattle.inflow_file.specs.SeriesFaults.{series_fault, table_fault, first_fault, record_fault, missing, entries_of, due, amount_for}
+use Rattle.inflow_file.specs.SeriesFaults.{series_fault, table_fault, first_fault, record_fault, missing, missing_of, body_of, tells_kinds, entries_of, due, amount_for}
+use Rattle.inflow_file.specs.Columns.{column_numbers, count_of_both, is_column}
 use Rattle.inflow_file.specs.CsvRecords.{records_of, is_header}
 use Rattle.inflow_file.specs.declared.refused.SeriesFault.{SeriesFault}
 use Rattle.inflow_file.specs.declared.refused.SeriesRefused.{SeriesRefused}
 use Rattle.inflow_file.specs.declared.refused.SeriesRefused.TheVariants as refused
 use Rattle.inflow_file.specs.declared.refused.SeriesFault.TheVariants as fault
-use Rattle.inflow_file.proofs.DueLaws.{due_at, split, length-due, gauges}
+use Rattle.inflow_file.proofs.DueLaws.{due_at, split, length-due, width}
 use Rattle.water_model.proofs.Histories.{IsMonth-run_month}
 
--- the month is one of the calendar, and the node one of the basin
-pub record IsWithin (b : Basin) (month : Month) (node : ℕ) : Type 0 where
-  pub calendar : IsMonth month
-  pub inside : node < length b.nodes
+-- the month of what is missing is one of the calendar, and the node or the right one of the basin
+abbrev pub IsTold : Basin → SeriesRefused → Type 0
+IsTold b (refused.Record fault number) = ⊤
+IsTold b (refused.Missing month node) = IsMonth month × (node < length b.nodes)
+IsTold b (refused.MissingWant month right) = IsMonth month × (right < length b.rights)
+IsTold b refused.OutOfMemory = ⊤
 
 passing_below : (p : ℕ → Bool) (from count bound g : ℕ) → from + count ≤ bound → g < length (filter p (numbers_from from count)) →
     get_or (filter p (numbers_from from count)) g 0 < bound
@@ -42,81 +46,93 @@ passing_below p from (suc count) bound g l h = by_test (p from) g h (λ k m. pas
     by_test true (suc g) k rest = rest g (omega arith)
     by_test false g k rest = rest g k
 
-gauge_below : (b : Basin) (g : ℕ) → g < gauges b → get_or (gauged_nodes b) g 0 < length b.nodes
-gauge_below b g l = passing_below (λ n. is_gauged b n) 0 (length b.nodes) (length b.nodes) g (omega arith) l
+column_below : (b : Basin) (g : ℕ) → g < width b → get_or (column_numbers b) g 0 < count_of_both b
+column_below b g l = passing_below (λ n. is_column b n) 0 (count_of_both b) (count_of_both b) g (omega arith) l
 
 any_default : {X : Type 0} (xs : List X) (k : ℕ) (d e : X) → k < length xs → get_or xs k d ≡ get_or xs k e
 any_default [] k d e l = absurd (omega arith)
 any_default (x ∷ xs) zero d e l = refl
 any_default (x ∷ xs) (suc k) d e l = any_default xs k d e (omega arith)
 
-due_within : (b : Basin) → IsValidBasin b → (k : ℕ) (d : Month × ℕ) → k < length (due b) → IsWithin b (get_or (due b) k d).0 (get_or (due b) k d).1
+-- what is due is due in a month of the calendar
+record IsDue (b : Basin) (d : Month × ℕ) : Type 0 where
+  calendar : IsMonth d.0
+  inside : d.1 < count_of_both b
+
+due_within : (b : Basin) → IsValidBasin b → (k : ℕ) (d : Month × ℕ) → k < length (due b) → IsDue b (get_or (due b) k d)
 due_within b valid k d l =
     let s = split b k (rw (sym (length-due b)) l) in
-    let row : ℕ = k / gauges b in
-    let gauge : ℕ = k % gauges b in
-    let at : get_or (due b) k d ≡ (run_month b row, get_or (gauged_nodes b) gauge 0) =
+    let row : ℕ = k / width b in
+    let column : ℕ = k % width b in
+    let at : get_or (due b) k d ≡ (run_month b row, get_or (column_numbers b) column 0) =
     any_default (due b) k d (run_month b row, 0) l
-    ∙ (ap (λ j. get_or (due b) j (run_month b row, 0)) (sym s.place) ∙ due_at b row gauge (run_month b row) s.row s.gauge) in
-    subst (λ (e : Month × ℕ). IsWithin b e.0 e.1) (sym at)
-    (record { calendar = IsMonth-run_month b row valid.run s.row; inside = gauge_below b gauge s.gauge })
+    ∙ (ap (λ j. get_or (due b) j (run_month b row, 0)) (sym s.place) ∙ due_at b row column (run_month b row) s.row s.gauge) in
+    subst (λ (e : Month × ℕ). IsDue b e) (sym at)
+    (record { calendar = IsMonth-run_month b row valid.run s.row; inside = column_below b column s.gauge })
 
 -- what is found in a list has what all its elements have
 found_within : (b : Basin) (p : (Month × ℕ) → Bool) (xs : List (Month × ℕ)) (d : Month × ℕ) →
-    ((k : ℕ) (e : Month × ℕ) → k < length xs → IsWithin b (get_or xs k e).0 (get_or xs k e).1) → find p xs ≡ Some d → IsWithin b d.0 d.1
+    ((k : ℕ) (e : Month × ℕ) → k < length xs → IsDue b (get_or xs k e)) → find p xs ≡ Some d → IsDue b d
 found_within b p [] d h e = cc
 found_within b p (x ∷ xs) d h e = by_test (p x) e (λ f. found_within b p xs d (λ k c l. h (suc k) c (omega arith)) f)
   where
-    by_test : (t : Bool) → (if t then Some x else find p xs) ≡ Some d → (find p xs ≡ Some d → IsWithin b d.0 d.1) → IsWithin b d.0 d.1
-    by_test true f rest = let same : x ≡ d = cc in subst (λ (c : Month × ℕ). IsWithin b c.0 c.1) same (h 0 x (omega arith))
+    by_test : (t : Bool) → (if t then Some x else find p xs) ≡ Some d → (find p xs ≡ Some d → IsDue b d) → IsDue b d
+    by_test true f rest = let same : x ≡ d = cc in subst (λ (c : Month × ℕ). IsDue b c) same (h 0 x (omega arith))
     by_test false f rest = rest f
 
-missing_within : (b : Basin) (rows : List (List (List ℕ))) (month : Month) (node : ℕ) → IsValidBasin b →
-    missing b (entries_of b rows) ≡ Some (refused.Missing month node) → IsWithin b month node
-missing_within b rows month node valid e = by_found (find (λ d. not (is_some (amount_for (entries_of b rows) d.0 d.1))) (due b)) refl e
+missing_is_told : (b : Basin) (month : Month) (n : ℕ) → IsMonth month → n < count_of_both b → IsTold b (missing_of b month n)
+missing_is_told b month n calendar inside = by_test (nat_lt n (length b.nodes)) refl
+  where
+    below : (n m : ℕ) → nat_lt n m ≡ true → n < m
+    below n m e = grind (arith, nat_tests)
+
+    behind : (n m k : ℕ) → nat_lt n m ≡ false → n < m + k → n - m < k
+    behind n m k e l = grind (arith, nat_tests)
+
+    by_test : (t : Bool) → nat_lt n (length b.nodes) ≡ t → IsTold b (if t then refused.Missing month n else refused.MissingWant month (n - length b.nodes))
+    by_test true e = (calendar, below n (length b.nodes) e)
+    by_test false e = (calendar, behind n (length b.nodes) (length b.rights) e inside)
+
+missing_told : (b : Basin) (rows : List (List (List ℕ))) (e : SeriesRefused) → IsValidBasin b → missing b (entries_of b rows) ≡ Some e → IsTold b e
+missing_told b rows e valid h = by_found (find (λ d. not (is_some (amount_for (entries_of b rows) d.0 d.1))) (due b)) refl h
   where
     by_found : (o : Option (Month × ℕ)) → find (λ d. not (is_some (amount_for (entries_of b rows) d.0 d.1))) (due b) ≡ o →
-        option_map (λ (d : Month × ℕ). refused.Missing d.0 d.1) o ≡ Some (refused.Missing month node) → IsWithin b month node
+        option_map (λ (d : Month × ℕ). missing_of b d.0 d.1) o ≡ Some e → IsTold b e
     by_found None f h = cc
     by_found (Some d) f h =
         let within = found_within b (λ c. not (is_some (amount_for (entries_of b rows) c.0 c.1))) (due b) d (due_within b valid) f in
-        let months : d.0 ≡ month = cc in
-        let nodes : d.1 ≡ node = cc in
-        subst (λ (m : Month). IsWithin b m node) months (subst (λ (n : ℕ). IsWithin b d.0 n) nodes within)
+        let same : missing_of b d.0 d.1 ≡ e = cc in
+        subst (λ (x : SeriesRefused). IsTold b x) same (missing_is_told b d.0 d.1 within.calendar within.inside)
 
--- a record at fault is no missing amount
-no_missing : (b : Basin) (before : List (List (List ℕ))) (number : ℕ) (rows : List (List (List ℕ))) (month : Month) (node : ℕ) →
-    first_fault b before number rows ≡ Some (refused.Missing month node) → ⊥
+record_told : (b : Basin) (before : List (List (List ℕ))) (number : ℕ) (rows : List (List (List ℕ))) (e : SeriesRefused) →
+    first_fault b before number rows ≡ Some e → IsTold b e
 unfolding first_fault
-no_missing b before number [] month node e = cc
-no_missing b before number (row ∷ rows) month node e =
-    by_fault (record_fault b before row) e (λ h. no_missing b (before ++ row ∷ []) (number + 1) rows month node h)
+record_told b before number [] e h = cc
+record_told b before number (row ∷ rows) e h =
+    by_fault (record_fault b before row) h (λ f. record_told b (before ++ row ∷ []) (number + 1) rows e f)
   where
-    by_fault : (o : Option SeriesFault) → option_or (option_map (λ fault. refused.Record fault number) o) (first_fault b (before ++ row ∷ []) (number + 1) rows) ≡ Some (refused.Missing month node) →
-        (first_fault b (before ++ row ∷ []) (number + 1) rows ≡ Some (refused.Missing month node) → ⊥) → ⊥
+    by_fault : (o : Option SeriesFault) → option_or (option_map (λ fault. refused.Record fault number) o) (first_fault b (before ++ row ∷ []) (number + 1) rows) ≡ Some e →
+        (first_fault b (before ++ row ∷ []) (number + 1) rows ≡ Some e → IsTold b e) → IsTold b e
     by_fault None h rest = rest h
-    by_fault (Some f) h rest = cc
+    by_fault (Some f) h rest = let same : refused.Record f number ≡ e = cc in subst (λ (x : SeriesRefused). IsTold b x) same tt
 
-pub told_within : (b : Basin) (text : List ℕ) (month : Month) (node : ℕ) → IsValidBasin b →
-    series_fault b text ≡ Some (refused.Missing month node) → IsWithin b month node
-told_within b text month node valid e = by_rows (records_of text) e
+pub refusal_told : (b : Basin) (text : List ℕ) (e : SeriesRefused) → IsValidBasin b → series_fault b text ≡ Some e → IsTold b e
+refusal_told b text e valid h = by_rows (records_of text) h
   where
-    by_first : (o : Option SeriesRefused) (rows : List (List (List ℕ))) → (o ≡ Some (refused.Missing month node) → ⊥) →
-        option_or o (missing b (entries_of b rows)) ≡ Some (refused.Missing month node) → IsWithin b month node
-    by_first None rows never h = missing_within b rows month node valid h
-    by_first (Some f) rows never h = absurd (never h)
+    by_first : (o : Option SeriesRefused) (rows : List (List (List ℕ))) → (o ≡ Some e → IsTold b e) → option_or o (missing b (entries_of b rows)) ≡ Some e → IsTold b e
+    by_first None rows first h = missing_told b rows e valid h
+    by_first (Some f) rows first h = first h
 
     by_header : (t : Bool) (rows : List (List (List ℕ))) →
-        (if t then option_or (first_fault b [] 2 rows) (missing b (entries_of b rows)) else Some (refused.Record fault.Header 1)) ≡ Some (refused.Missing month node) →
-        IsWithin b month node
-    by_header true rows h = by_first (first_fault b [] 2 rows) rows (no_missing b [] 2 rows month node) h
-    by_header false rows h = cc
+        (if t then option_or (first_fault b [] 2 rows) (missing b (entries_of b rows)) else Some (refused.Record fault.Header 1)) ≡ Some e → IsTold b e
+    by_header true rows h = by_first (first_fault b [] 2 rows) rows (record_told b [] 2 rows e) h
+    by_header false rows h = let same : refused.Record fault.Header 1 ≡ e = cc in subst (λ (x : SeriesRefused). IsTold b x) same tt
 
-    by_rows : (rows : List (List (List ℕ))) → table_fault b rows ≡ Some (refused.Missing month node) → IsWithin b month node
-    by_rows [] h = cc
-    by_rows (header ∷ rows) h = by_header (is_header header) rows h
+    by_rows : (rows : List (List (List ℕ))) → table_fault b rows ≡ Some e → IsTold b e
+    by_rows [] h = let same : refused.Record fault.Header 1 ≡ e = cc in subst (λ (x : SeriesRefused). IsTold b x) same tt
+    by_rows (header ∷ rows) h = by_header (is_header header || tells_kinds b header) (body_of b (header ∷ rows)) h
 
--- a node of a valid basin has a name
+-- a node of a valid basin has a name, and so has a right
 pub name_there : (b : Basin) (node : ℕ) (n : Node) → IsValidBasin b → slice_get b.nodes node ≡ Some n → is_name n.name ≡ true
 name_there b node n valid e =
     let found = entry_holds IsValidNode b.nodes node valid.nodes (slice_get_within b.nodes node n e) in
@@ -124,6 +140,14 @@ name_there b node n valid e =
     let same : found.0 ≡ n = cc in
     let named : is_name found.0.name ≡ true = found.2.name in
     subst (λ (x : Node). is_name x.name ≡ true) same named
+
+pub right_named : (b : Basin) (right : ℕ) (r : Right) → IsValidBasin b → slice_get b.rights right ≡ Some r → is_name r.name ≡ true
+right_named b right r valid e =
+    let found = entry_holds (λ x. IsValidRight b x) b.rights right valid.rights (slice_get_within b.rights right r e) in
+    let some : Some found.0 ≡ Some r = sym found.1 ∙ e in
+    let same : found.0 ≡ r = cc in
+    let named : is_name found.0.name ≡ true = found.2.name in
+    subst (λ (x : Right). is_name x.name ≡ true) same named
 
 -- so its name is read
 pub never_none : {text name : List ℕ} → text ≡ name → is_name name ≡ true → (if is_name text then Some text else None) ≡ None → ⊥

@@ -70,8 +70,11 @@ unfolding series.fault_name
 series_fault_short fault_of.Csv = omega arith
 series_fault_short fault_of.Header = omega arith
 series_fault_short fault_of.BadMonth = omega arith
+series_fault_short fault_of.BadKind = omega arith
 series_fault_short fault_of.NoSuchNode = omega arith
 series_fault_short fault_of.NotGauged = omega arith
+series_fault_short fault_of.NoSuchRight = omega arith
+series_fault_short fault_of.NotSeries = omega arith
 series_fault_short fault_of.BadAmount = omega arith
 series_fault_short fault_of.Repeated = omega arith
 

@@ -1,20 +1,21 @@
 -- Bytes spell one basin, and one series as far as a history speaks of it.
 use Rattle.std.proofs.Common.{◌≡◌, ℕ, ◌<◌, Bool, true, false, refl, sym, ◌∙◌, ap, arith, List, length, length-take, take, ◌+◌, Option, Some, None}
-use Rattle.std.specs.Prelude.{slice_get, slice_index, option_map, unwrap_or}
+use Rattle.std.specs.Prelude.{slice_get, slice_index, option_map, unwrap_or, if◌then◌else◌}
 use Rattle.std.proofs.lemmas.Option.{slice_get_within}
 use Rattle.basin_file.specs.BasinFaults.{Spells}
 use Rattle.basin_file.specs.Spelled.{basin_of}
 use Rattle.inflow_file.specs.SeriesFaults.{SpellsSeries}
-use Rattle.month_terms.proofs.Amounts.{want_is}
+use Rattle.water_model.specs.Basin.{instream_link}
 use Rattle.water_model.specs.History.{Follows, IsHistory, IsPartialHistory}
-use Rattle.water_model.specs.Hydrology.{inflow_at, inflow_of_kind, stored_at}
-use Rattle.water_model.specs.Valid.{IsValidBasin, is_gauged, is_gauged_kind}
+use Rattle.water_model.specs.Hydrology.{run_month, in_year, inflow_at, inflow_of_kind, stored_at, table_at, number_of, cap_by_link, want_by_volume, want_of, volume_of}
+use Rattle.water_model.specs.Valid.{IsValidBasin, is_gauged, is_gauged_kind, is_in_series}
 use Rattle.water_model.specs.declared.types.Basin.{Basin}
 use Rattle.water_model.specs.declared.types.Inflow.{Inflow}
 use Rattle.water_model.specs.declared.types.Inflow.TheVariants.{Monthly, Gauged}
 use Rattle.water_model.specs.declared.types.Inflows.{Inflows}
 use Rattle.water_model.specs.declared.types.MonthRecord.{MonthRecord}
 use Rattle.water_model.specs.declared.types.Node.{Node}
+use Rattle.water_model.specs.declared.types.Right.{Right}
 
 -- bytes spell one basin
 pub one_basin : (bytes : List ℕ) (b c : Basin) → Spells bytes b → Spells bytes c → b ≡ c
@@ -23,14 +24,33 @@ one_basin bytes b c one other =
     let tree : one.tree ≡ other.tree = cc in
     one.basin_is ∙ (ap basin_of tree ∙ sym other.basin_is)
 
--- two series give each node the same inflow in each month of the run
+-- two series give each node the same inflow, and each right the same want, in each month of the run
 pub record GiveSame (b : Basin) (series other : Inflows) : Type 0 where
   pub each : (n i : ℕ) → n < length b.nodes → i < b.months → inflow_at b series n i ≡ inflow_at b other n i
+  pub wants : (r i used : ℕ) → r < length b.rights → i < b.months → want_of b series r i used ≡ want_of b other r i used
 
 -- and so do the series that the same bytes spell
 pub one_series : (b : Basin) (bytes : List ℕ) (series other : Inflows) → SpellsSeries b bytes series → SpellsSeries b bytes other → GiveSame b series other
-one_series b bytes series other one two = record { each = λ n i l m. by_gauge n i l m (is_gauged b n) refl }
+one_series b bytes series other one two = record {
+  each = λ n i l m. by_gauge n i l m (is_gauged b n) refl;
+  wants = λ r i used l m.
+      ap (λ n. want_by_volume (volume_of b r) (cap_by_link b (run_month b i) (instream_link b r) n) used) (by_right r i l m (slice_get b.rights r) refl);
+}
   where
+    by_series : (r i : ℕ) (x : Right) → r < length b.rights → i < b.months → slice_get b.rights r ≡ Some x → (t : Bool) → x.series ≡ t →
+        (if t then table_at series.wanted series.want i r else slice_index x.want (in_year b i))
+        ≡ (if t then table_at other.wanted other.want i r else slice_index x.want (in_year b i))
+    by_series r i x l m at true e =
+        let stands : is_in_series b r ≡ true = ap (λ o. unwrap_or (option_map (λ (y : Right). y.series) o) false) at ∙ e in
+        let both : Some (table_at series.wanted series.want i r) ≡ Some (table_at other.wanted other.want i r) = sym (one.wants r i l stands m) ∙ two.wants r i l stands m in
+        cc
+    by_series r i x l m at false e = refl
+
+    by_right : (r i : ℕ) → r < length b.rights → i < b.months → (o : Option Right) → slice_get b.rights r ≡ o →
+        unwrap_or (option_map (λ x. number_of b series r i x) o) 0 ≡ unwrap_or (option_map (λ x. number_of b other r i x) o) 0
+    by_right r i l m None at = refl
+    by_right r i l m (Some x) at = by_series r i x l m at x.series refl
+
     by_kind : (n i : ℕ) (o : Option Node) → unwrap_or (option_map (λ x. is_gauged_kind x.inflow) o) false ≡ false →
         unwrap_or (option_map (λ x. inflow_of_kind b series n i x.inflow) o) 0 ≡ unwrap_or (option_map (λ x. inflow_of_kind b other n i x.inflow) o) 0
     by_kind n i None e = refl
@@ -58,16 +78,13 @@ same_follows b series other before m valid same l f = record {
   returned = f.returned;
   supply = λ n k. f.supply n k ∙ ap (λ x. x + slice_index m.returned n + stored_at b m.opening m.evaporated n) (same.each n m.index k l);
   used = f.used;
-  want = λ r k. f.want r k ∙ (want_is b series r m.index (get_used r) valid k ∙ sym (want_is b other r m.index (get_used r) valid k));
+  want = λ r k. f.want r k ∙ same.wants r m.index (slice_index m.used r) k l;
   plan = f.plan;
   delivered = f.delivered;
   short = f.short;
   met = f.met;
   closing = f.closing;
 }
-  where
-    get_used : ℕ → ℕ
-    get_used r = slice_index m.used r
 
 -- a partial history with one series is one with the other
 pub same_partial : (b : Basin) (series other : Inflows) (records : List MonthRecord) → IsValidBasin b → GiveSame b series other →

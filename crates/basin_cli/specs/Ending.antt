@@ -9,7 +9,7 @@ use Rattle.edit_script.specs.declared.refused.ScriptFault.TheVariants as script
 use Rattle.inflow_file.specs.FaultNames as series_fault
 use Rattle.inflow_file.specs.declared.refused.SeriesRefused.{SeriesRefused}
 use Rattle.inflow_file.specs.declared.refused.SeriesRefused.TheVariants as refused
-use Rattle.water_model.specs.Basin.{node_name}
+use Rattle.water_model.specs.Basin.{node_name, right_name}
 use Rattle.water_model.specs.declared.types.Basin.{Basin}
 use Rattle.water_text.specs.Months.{month_digits, IsMonth}
 use Rattle.basin_cli.specs.declared.ending.File.{File}
@@ -50,10 +50,11 @@ second_of (ending.BasinRefused finding) = ending.SecondRefused (of_second.Basin 
 second_of (ending.SeriesRefused finding) = ending.SecondRefused (of_second.Series finding)
 second_of how = how
 
--- what a refusal of a basin's series is told as: a missing amount by the node's name
+-- what a refusal of a basin's series is told as: a missing amount by the node's or the right's name
 abbrev pub finding_of : Basin → SeriesRefused → Option SeriesFinding
 finding_of b (refused.Record fault number) = Some (finding.Record fault number)
 finding_of b (refused.Missing month node) = Some (finding.Missing month (node_name b node))
+finding_of b (refused.MissingWant month right) = Some (finding.MissingWant month (right_name b right))
 finding_of b refused.OutOfMemory = None
 
 unfoldable pub file_name : File → List ℕ
@@ -68,10 +69,11 @@ unfoldable pub refusal_line : List ℕ → Finding → List ℕ
 refusal_line whose finding =
     whose ++ fault_name finding.fault ++ codes " " ++ table_name finding.table ++ codes " " ++ decimal finding.entry ++ codes "\n"
 
--- whose series it is, and FAULT RECORD, or Missing MONTH NODE
+-- whose series it is, and FAULT RECORD, or Missing MONTH NODE, or MissingWant MONTH RIGHT
 unfoldable pub series_line : List ℕ → SeriesFinding → List ℕ
 series_line whose (finding.Record fault number) = whose ++ series_fault.fault_name fault ++ codes " " ++ decimal number ++ codes "\n"
 series_line whose (finding.Missing month node) = whose ++ codes "Missing " ++ month_digits month ++ codes " " ++ node ++ codes "\n"
+series_line whose (finding.MissingWant month right) = whose ++ codes "MissingWant " ++ month_digits month ++ codes " " ++ right ++ codes "\n"
 
 unfoldable pub second_line : SecondFinding → List ℕ
 second_line (of_second.Basin finding) = refusal_line (codes "basin2: ") finding
@@ -106,10 +108,11 @@ line_of ending.OutOfMemory = codes "out of memory\n"
 line_of (ending.InputTooLong file) = codes "too long: " ++ file_name file ++ codes "\n"
 line_of (ending.ScriptRefused fault line) = script_line fault line
 
--- the month of a missing amount is one of the calendar, and the node's name has room in a line
+-- the month of a missing amount is one of the calendar, and the name has room in a line
 abbrev pub CanBeSpelled : SeriesFinding → Type 0
 CanBeSpelled (finding.Record fault number) = ⊤
 CanBeSpelled (finding.Missing month node) = IsMonth month × (length node ≤ 32)
+CanBeSpelled (finding.MissingWant month right) = IsMonth month × (length right ≤ 32)
 
 abbrev pub CanBeSpelledOfSecond : SecondFinding → Type 0
 CanBeSpelledOfSecond (of_second.Series finding) = CanBeSpelled finding

@@ -49,6 +49,7 @@ impl File {
 pub enum SeriesFinding {
     Record { fault: SeriesFault, number: u64 },
     Missing { month: Month, node: Name },
+    MissingWant { month: Month, right: Name },
 }
 
 /// Why the second basin of a comparison is refused.
@@ -170,18 +171,19 @@ fn put_record(line: &mut Line, whose: &[u8], fault: SeriesFault, number: u64)
 }
 
 /// Makes the line of a missing amount.
-fn put_missing(line: &mut Line, whose: &[u8], month: Month, node: &Name)
+fn put_missing(line: &mut Line, whose: &[u8], what: &[u8], month: Month, name: &Name)
     requires empty { line.old ≡ [] }
     requires short { length whose.now ≤ 16 }
+    requires what { length what.now ≤ 12 }
     requires month { IsMonth month }
-    requires name { length node.now ≤ 32 }
-    ensures { line.new ≡ whose.now ++ codes "Missing " ++ month_digits month ++ codes " " ++ node.now ++ codes "\n" }
+    requires name { length name.now ≤ 32 }
+    ensures { line.new ≡ whose.now ++ what.now ++ month_digits month ++ codes " " ++ name.now ++ codes "\n" }
 {
     line.word(whose);
-    line.word(b"Missing ");
+    line.word(what);
     month.put_into(line);
     line.word(b" ");
-    line.word(node.bytes());
+    line.word(name.bytes());
     line.word(b"\n");
 }
 
@@ -195,7 +197,12 @@ fn put_series_refusal(line: &mut Line, whose: &[u8], finding: &SeriesFinding)
 {
     match finding {
         SeriesFinding::Record { fault, number } => put_record(line, whose, *fault, *number),
-        SeriesFinding::Missing { month, node } => put_missing(line, whose, *month, node),
+        SeriesFinding::Missing { month, node } => {
+            put_missing(line, whose, b"Missing ", *month, node)
+        }
+        SeriesFinding::MissingWant { month, right } => {
+            put_missing(line, whose, b"MissingWant ", *month, right)
+        }
     }
 }
 

@@ -1,9 +1,11 @@
 //! The files of a command: a basin, and a series of its gauged inflows.
-ghost use Rattle.std.specs.Prelude.{◌≡◌, ◌≢◌, ◌≤◌, ℕ, List, Some, None, IfOk, OnOk, IfErr, IfSome, length, option_map};
+ghost use Rattle.std.specs.Prelude.{◌≡◌, ◌≢◌, ◌<◌, ◌≤◌, ℕ, List, Some, None, IfOk, OnOk, IfErr, IfSome, length, option_map};
 ghost use Rattle.water_edge.specs.Edge.{AsksFor, Rose, SameShelf, HasCause};
 ghost use Rattle.basin_file.specs.BasinFaults.{Spells, file_fault};
 ghost use Rattle.index_seq.specs.Traces.{HasWholeYears};
 ghost use Rattle.inflow_file.specs.SeriesFaults.{series_fault, SpellsSeries};
+ghost use Rattle.water_text.specs.Months.{IsMonth};
+ghost use Rattle.water_model.specs.Basin.{node_name, right_name};
 ghost use Rattle.water_model.specs.Valid.{IsValidBasin, IsSeriesOf};
 ghost use Rattle.basin_cli.specs.Command.{ServesSeries, named};
 ghost use Rattle.basin_cli.specs.Ending.{CanBeTold};
@@ -21,6 +23,7 @@ use inflow_file::{HEADER, SeriesRefused, read_inflows};
 use std::alloc::Global;
 use water_edge::{Shelf, ShelfRefused};
 use water_model::types::{Basin, Inflows};
+use water_text::month::Month;
 use water_text::name::Name;
 
 const FILE_LIMIT: u64 = 67_108_864;
@@ -86,6 +89,34 @@ pub fn read_basin_file<S: Shelf>(alloc: Global, shelf: &mut S, name: &str) -> Re
     accept_basin(alloc, &text)
 }
 
+/// The ending for want of a node's inflow in a month.
+fn missing_inflow(basin: &Basin, month: Month, node: u32) -> Ending
+    requires basin { IsValidBasin basin.now }
+    requires month { IsMonth month }
+    requires node { node < length basin.now.nodes }
+    ensures ending { result ≡ Ending.SeriesRefused (SeriesFinding.Missing month (node_name basin.now node)) }
+    ensures told { CanBeTold result }
+{
+    match Name::read(basin.nodes[node as usize].name.bytes()) {
+        Some(node) => Ending::SeriesRefused(SeriesFinding::Missing { month, node }),
+        None => unreachable!(),
+    }
+}
+
+/// The ending for want of a right's want in a month.
+fn missing_want(basin: &Basin, month: Month, right: u32) -> Ending
+    requires basin { IsValidBasin basin.now }
+    requires month { IsMonth month }
+    requires right { right < length basin.now.rights }
+    ensures ending { result ≡ Ending.SeriesRefused (SeriesFinding.MissingWant month (right_name basin.now right)) }
+    ensures told { CanBeTold result }
+{
+    match Name::read(basin.rights[right as usize].name.bytes()) {
+        Some(right) => Ending::SeriesRefused(SeriesFinding::MissingWant { month, right }),
+        None => unreachable!(),
+    }
+}
+
 /// The series that the bytes spell for a basin, or how the call ends.
 pub fn accept_series(alloc: Global, basin: &Basin, text: &[u8]) -> Result<Inflows, Ending>
     requires basin { IsValidBasin basin.now }
@@ -101,12 +132,8 @@ pub fn accept_series(alloc: Global, basin: &Basin, text: &[u8]) -> Result<Inflow
         Err(SeriesRefused::Record { fault, number }) => {
             Err(Ending::SeriesRefused(SeriesFinding::Record { fault, number }))
         }
-        Err(SeriesRefused::Missing { month, node }) => {
-            match Name::read(basin.nodes[node as usize].name.bytes()) {
-                Some(node) => Err(Ending::SeriesRefused(SeriesFinding::Missing { month, node })),
-                None => unreachable!(),
-            }
-        }
+        Err(SeriesRefused::Missing { month, node }) => Err(missing_inflow(basin, month, node)),
+        Err(SeriesRefused::MissingWant { month, right }) => Err(missing_want(basin, month, right)),
     }
 }
 

@@ -1,4 +1,5 @@
 pub mod Lists
+pub mod Months
 pub mod Passed
 pub mod Refers
 pub mod OwnNames

@@ -14,7 +14,7 @@ use Rattle.basin_tree.specs.declared.tables.BasinTable.{BasinTable}
 use Rattle.basin_tree.specs.declared.tables.BasinTable.TheVariants.{Top, Node, Link, Reservoir, Diversion, Instream, Zone, Return}
 use Rattle.basin_tree.specs.declared.tables.Kind.TheVariants.{Tables}
 use Rattle.basin_tree.specs.Entries.{Entry, entry_at, entries_behind, entries_in, entries_of, items_at, found_at}
-use Rattle.basin_tree.specs.KeyFaults.{format_of, is_known, has_unknown, unknown_key, missing_key, wrong_kind, out_of_range, lacks_key, has_no_nodes, any_value}
+use Rattle.basin_tree.specs.KeyFaults.{format_of, is_known, has_unknown, unknown_key, missing_key, wrong_kind, out_of_range, lacks_key, has_no_nodes, shuts_no_canal, any_value}
 use Rattle.basin_tree.specs.Kinds.{has_kind}
 use Rattle.basin_tree.specs.NameFaults.{is_bad_name, bad_name, too_many, same_name, names_none, no_such_name, stands_at_outlet, outlet_reservoir}
 use Rattle.basin_tree.specs.Order.{Pass, found_by, first_fault, passes, tree_fault}
@@ -129,10 +129,10 @@ table_passes f tree table is_listed e = by table is_listed
     by Return h = each.1.1.1.1.1.1.0
 
 -- the list at a key of tables
-tables_in : (o : Option Data) → option_map_or (λ d. not (has_kind Tables d)) o false ≡ false →
+tables_in : (format : ℕ) (o : Option Data) → option_map_or (λ d. not (has_kind format Tables d)) o false ≡ false →
     items_all (λ x. is_some (as_table x)) (unwrap_or (option_and_then as_array o) no_items) ≡ true
-tables_in None k = refl
-tables_in (Some d) k = by (as_array d) (bool_not _ k)
+tables_in format None k = refl
+tables_in format (Some d) k = by (as_array d) (bool_not _ k)
   where
     by : (a : Option Items) → option_map_or (items_all (λ x. is_some (as_table x))) a false ≡ true →
         items_all (λ x. is_some (as_table x)) (unwrap_or a no_items) ≡ true
@@ -143,8 +143,8 @@ tables_at : (tree : Members) → HasNoFault tree → (table : BasinTable) (i : �
     slice_get (keys_of Top) i ≡ Some (record { name = table_name table; is_required = required; kind = Tables; since = 1 }) →
     items_all (λ x. is_some (as_table x)) (items_at tree table) ≡ true
 tables_at tree none table i required there =
-    tables_in (get_member (table_name table) tree)
-    (any_none (λ k. option_map_or (λ d. not (has_kind k.kind d)) (get_member k.name tree) false) (keys_of Top) i _ there
+    tables_in (format_of tree) (get_member (table_name table) tree)
+    (any_none (λ k. option_map_or (λ d. not (has_kind (format_of tree) k.kind d)) (get_member k.name tree) false) (keys_of Top) i _ there
     (top_passes (wrong_kind tree) tree none.kinds))
 
 -- what a table lists are tables
@@ -186,7 +186,7 @@ each_passes tree none f e table is_listed =
 pub record IsFine (tree : Members) (table : BasinTable) (k : ℕ) (row : Members) : Type 0 where
   pub keys : has_unknown (format_of tree) table row ≡ false
   pub present : lacks_key table row ≡ false
-  pub kinds : any_value (λ kind d. not (has_kind kind d)) table row ≡ false
+  pub kinds : any_value (λ kind d. not (has_kind (format_of tree) kind d)) table row ≡ false
   pub names : any_value is_bad_name table row ≡ false
   pub few : too_many tree (record { table = table; number = k + 1; row = row }) ≡ false
   pub own : same_name tree (record { table = table; number = k + 1; row = row }) ≡ false
@@ -199,7 +199,7 @@ fine_rows tree none table is_listed =
     from_then _ (IsFine tree table) 0 (rows_in tree table)
     (λ k row p. record {
       keys = p.0.0.0.0;
-      present = (bool_or (lacks_key table row) (has_no_nodes table row) p.0.0.0.1).0;
+      present = (bool_or (lacks_key table row) (has_no_nodes table row) (bool_or (lacks_key table row || has_no_nodes table row) (shuts_no_canal table row) p.0.0.0.1).0).0;
       kinds = p.0.0.1;
       names = p.0.1.0;
       few = p.0.1.1;

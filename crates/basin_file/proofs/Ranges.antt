@@ -17,6 +17,7 @@ use Rattle.water_model.specs.declared.types.Inflow.TheVariants.{Monthly, Gauged}
 use Rattle.water_model.specs.declared.types.RightKind.{RightKind}
 use Rattle.basin_file.specs.Spelled.{inflow_of, carry_of, volume_of, point_in, points_in, no_area, area_of, first_of}
 use Rattle.basin_file.proofs.Lists.{Each, each_all, each_any, each_map}
+use Rattle.basin_file.proofs.Months.{length-shut}
 
 between : (least most n : ℕ) → (nat_le least n && nat_le n most) ≡ true → (least ≤ n) × (n ≤ most)
 between least most n e = grind (arith, nat_tests)
@@ -99,9 +100,9 @@ pub volume_valid : (kind : RightKind) → is_diversion_kind kind ≡ true → (v
 volume_valid kind is None = tt
 volume_valid kind is (Some d) = (is, (whole_in 0 (16 * 10 ^ 9) 0 (Some d) (omega arith) (omega arith)).1)
 
-pub carry_valid : (value : Option Data) → IsValidCarry (carry_of value)
-carry_valid None = tt
-carry_valid (Some d) = ((whole_in 0 (10 ^ 9) 0 (Some d) (omega arith) (omega arith)).1, refl)
+pub carry_valid : (per_day closed : Option Data) → IsValidCarry (carry_of per_day closed)
+carry_valid None closed = tt
+carry_valid (Some d) closed = ((whole_in 0 (10 ^ 9) 0 (Some d) (omega arith) (omega arith)).1, length-shut closed)
 
 is_month_means : (m : Month) → is_month m ≡ true → IsMonth m
 is_month_means m e = let h = both m.year m.month e in record { year = h.0; month = h.1 }

@@ -13,6 +13,7 @@ use Rattle.basin_tree.specs.declared.tables.BasinTable.{BasinTable}
 use Rattle.basin_tree.specs.declared.tables.Kind.TheVariants.{Name, Refers}
 use Rattle.basin_tree.specs.declared.tables.Space.{Space}
 use Rattle.basin_tree.specs.Entries.{items_at}
+use Rattle.basin_tree.specs.KeyFaults.{format_of}
 use Rattle.basin_tree.specs.Kinds.{has_kind}
 use Rattle.basin_tree.specs.NameFaults.{is_bad_name, names_none}
 use Rattle.basin_tree.specs.Places.{own_key, texts_in, texts_of, named_at}
@@ -21,17 +22,17 @@ use Rattle.basin_file.specs.Spelled.{small, number_at, rows_behind, rows_in}
 use Rattle.basin_file.proofs.Passed.{IsListed, HasNoFault, IsFine, all_tables, any_none, bool_and, bool_not}
 
 -- the value at a required key of a fine row, and that it is of its kind
-there_at : (tree : Members) (table : BasinTable) (k : ℕ) (row : Members) (i : ℕ) (key : KeyRow) →
+pub there_at : (tree : Members) (table : BasinTable) (k : ℕ) (row : Members) (i : ℕ) (key : KeyRow) →
     slice_get (keys_of table) i ≡ Some key → key.is_required ≡ true → IsFine tree table k row →
-    (d : Data) × (get_member key.name row ≡ Some d) × (has_kind key.kind d ≡ true)
+    (d : Data) × (get_member key.name row ≡ Some d) × (has_kind (format_of tree) key.kind d ≡ true)
 there_at tree table k row i key at required fine =
     by (get_member key.name row) refl
     (any_none (λ key. key.is_required && not (is_some (get_member key.name row))) (keys_of table) i key at fine.present)
-    (any_none (λ key. option_map_or (λ d. not (has_kind key.kind d)) (get_member key.name row) false) (keys_of table) i key at fine.kinds)
+    (any_none (λ key. option_map_or (λ d. not (has_kind (format_of tree) key.kind d)) (get_member key.name row) false) (keys_of table) i key at fine.kinds)
   where
     by : (o : Option Data) → get_member key.name row ≡ o → (key.is_required && not (is_some o)) ≡ false →
-        option_map_or (λ d. not (has_kind key.kind d)) o false ≡ false →
-        (d : Data) × (get_member key.name row ≡ Some d) × (has_kind key.kind d ≡ true)
+        option_map_or (λ d. not (has_kind (format_of tree) key.kind d)) o false ≡ false →
+        (d : Data) × (get_member key.name row ≡ Some d) × (has_kind (format_of tree) key.kind d ≡ true)
     by None e present kinds = (let absent = rw required at present in cc)
     by (Some d) e present kinds = (d, e, bool_not _ kinds)
 

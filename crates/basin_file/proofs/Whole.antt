@@ -1,5 +1,5 @@
 -- What a document without faults spells is sound.
-use Rattle.std.proofs.Common.{◌≡◌, ◌≢◌, ℕ, zero, suc, ◌+◌, ◌*◌, ◌-◌, ◌^◌, ◌<◌, ◌≤◌, ◌==◌, List, [], ◌∷◌, ◌++◌, length, map, take, Bool, true, false, ◌&&◌, Option, Some, None, option_map, option_and_then, unwrap_or, is_some, slice_get, count_by, refl, sym, ap, ◌∙◌, arith, nat_lt, nat_le, codes, length-append, zero-add, append_assoc, subst, not, IsTrue}
+use Rattle.std.proofs.Common.{◌≡◌, ◌≢◌, ℕ, zero, suc, ◌+◌, ◌*◌, ◌-◌, ◌^◌, ◌<◌, ◌≤◌, ◌==◌, List, [], ◌∷◌, ◌++◌, length, map, take, Bool, true, false, ◌&&◌, ◌||◌, Option, Some, None, option_map, option_and_then, unwrap_or, is_some, slice_get, count_by, refl, sym, ap, ◌∙◌, arith, nat_lt, nat_le, codes, length-append, zero-add, append_assoc, subst, not, IsTrue}
 use Rattle.std.proofs.lemmas.Bool.Decides.{nat_tests}
 use Rattle.std.proofs.lemmas.List.{length-map, append-nil, map-append}
 use Rattle.std.proofs.lemmas.Option.{slice_get-map, slice_get_within}
@@ -13,37 +13,38 @@ use Rattle.toml_tree.specs.Values.{text_at, text_or_empty, whole_at, whole_of}
 use Rattle.water_text.specs.Names.{is_name}
 use Rattle.water_model.specs.Basin.{is_outlet, node_name, link_name, right_name, node_of_reservoir}
 use Rattle.water_model.specs.Lookups.{of_entry}
-use Rattle.water_model.specs.Valid.{HasValidFormat, IsValidNode, IsValidLink, IsValidRight, IsValidReturn, IsValidRun, HasFewEntries, HasOwnNames, AreRanked, is_diversion_kind, rank_of_kind, rows_of}
+use Rattle.water_model.specs.Valid.{HasValidFormat, IsValidNode, IsValidLink, IsValidRight, IsValidReturn, IsValidRun, HasFewEntries, HasOwnNames, AreRanked, is_diversion_kind, rank_of_kind, rows_of, IsAlwaysOpen}
 use Rattle.water_model.specs.declared.types.ReturnRow.{ReturnRow}
 use Rattle.water_model.specs.declared.types.Right.{Right}
 use Rattle.water_model.specs.declared.types.RightKind.TheVariants as kind
 use Rattle.water_model.proofs.Balance.{entry_at}
 use Rattle.basin_tree.specs.declared.tables.BasinTable.{BasinTable}
 use Rattle.basin_tree.specs.declared.tables.BasinTable.TheVariants.{Top, Node, Link, Reservoir, Diversion, Instream, Zone, Return}
-use Rattle.basin_tree.specs.declared.tables.Kind.TheVariants.{Name, Refers, Tables}
+use Rattle.basin_tree.specs.declared.tables.Kind.TheVariants.{Name, Refers, Tables, Want}
 use Rattle.basin_tree.specs.declared.tables.Space.{Space}
 use Rattle.basin_tree.specs.declared.tables.Space.TheVariants.{Nodes, Links, Reservoirs, Diversions, Rights}
 use Rattle.basin_tree.specs.Entries.{items_at}
-use Rattle.basin_tree.specs.KeyFaults.{format_of, unknown_key, missing_key, wrong_kind, out_of_range, lacks_key, has_no_nodes, any_value}
+use Rattle.basin_tree.specs.KeyFaults.{format_of, unknown_key, missing_key, wrong_kind, out_of_range, lacks_key, has_no_nodes, shuts_no_canal, any_value}
 use Rattle.basin_tree.specs.Kinds.{has_kind}
 use Rattle.basin_tree.specs.NameFaults.{is_outlet_at, rights_before}
 use Rattle.basin_tree.specs.Places.{own_key, texts_in, texts_of, named_at}
 use Rattle.basin_tree.specs.Ranges.{in_range, ends_late}
 use Rattle.basin_tree.specs.Tables.{KeyRow, keys_of}
 use Rattle.basin_file.specs.Sound.{IsSoundReservoir, IsSoundBasin}
-use Rattle.basin_file.specs.Spelled.{name_at, rows_in, number_at, node_of, link_of, reservoir_of, volume_of, diversion_of, instream_of, zone_of, return_of, rights_of, basin_of}
+use Rattle.basin_file.specs.Spelled.{name_at, rows_in, number_at, node_of, link_of, reservoir_of, volume_of, is_series, diversion_of, instream_of, zone_of, return_of, rights_of, basin_of}
 use Rattle.basin_file.proofs.Lists.{Each, EachFrom, each_all, each_append, each_from, each_map, from_at, from_then}
 use Rattle.basin_file.proofs.Passed.{IsListed, HasNoFault, IsFine, absent, all_tables, any_none, bool_not, bool_or, fine_rows, top_passes}
-use Rattle.basin_file.proofs.Refers.{name_there, refers_there, texts_behind-rows, texts_in-rows, length-rows_in, get_item-rows, number_within, number_is}
+use Rattle.basin_file.proofs.Months.{always_open, series_wants, no_text}
+use Rattle.basin_file.proofs.Refers.{name_there, there_at, refers_there, texts_behind-rows, texts_in-rows, length-rows_in, get_item-rows, number_within, number_is}
 use Rattle.basin_file.proofs.OwnNames.{own_texts, own_name, own_names, names_of_rows, same_text, table_own, rights_own}
 use Rattle.basin_file.proofs.Ranges.{whole_in, volume_valid, monthly_in, points_valid, few_points, inflow_valid, carry_valid, first_valid, run_ends}
 use Rattle.basin_file.proofs.Counts.{count_where-entries, few_pass, counts_within, few_by}
 
 -- at least one node is listed
-some_items : (o : Option Data) → not (is_some o) ≡ false → option_map_or (λ d. not (has_kind Tables d)) o false ≡ false →
+some_items : (format : ℕ) (o : Option Data) → not (is_some o) ≡ false → option_map_or (λ d. not (has_kind format Tables d)) o false ≡ false →
     option_map_or (λ items. items_len items == 0) (option_and_then as_array o) false ≡ false → 1 ≤ items_len (unwrap_or (option_and_then as_array o) no_items)
-some_items None p k n = cc
-some_items (Some d) p k n = by (as_array d) (bool_not _ k) n
+some_items format None p k n = cc
+some_items format (Some d) p k n = by (as_array d) (bool_not _ k) n
   where
     positive : (n : ℕ) → (n == 0) ≡ false → 1 ≤ n
     positive n e = grind (arith, nat_tests)
@@ -125,12 +126,13 @@ module _ (tree : Members) (none : HasNoFault tree) where
 
   some_node : 1 ≤ length (rows_in tree Node)
   some_node =
-      let missing = bool_or (lacks_key Top tree) (has_no_nodes Top tree) (top_passes (missing_key tree) tree none.missing) in
+      let missing = bool_or (lacks_key Top tree) (has_no_nodes Top tree)
+      (bool_or (lacks_key Top tree || has_no_nodes Top tree) (shuts_no_canal Top tree) (top_passes (missing_key tree) tree none.missing)).0 in
       let node : KeyRow = record { name = codes "node"; is_required = true; kind = Tables; since = 1 } in
       rw (length-rows_in tree none Node tt)
-      (some_items (get_member (codes "node") tree)
+      (some_items (format_of tree) (get_member (codes "node") tree)
       (any_none (λ key. key.is_required && not (is_some (get_member key.name tree))) (keys_of Top) 3 node refl missing.0)
-      (any_none (λ key. option_map_or (λ d. not (has_kind key.kind d)) (get_member key.name tree) false) (keys_of Top) 3 node refl (top_passes (wrong_kind tree) tree none.kinds))
+      (any_none (λ key. option_map_or (λ d. not (has_kind (format_of tree) key.kind d)) (get_member key.name tree) false) (keys_of Top) 3 node refl (top_passes (wrong_kind tree) tree none.kinds))
       missing.1)
 
   -- a text that should name an entry has a number below so many
@@ -167,7 +169,7 @@ module _ (tree : Members) (none : HasNoFault tree) where
       from = number Link k members 1 (codes "from") Nodes _ refl fine node_texts;
       to = number Link k members 2 (codes "to") Nodes _ refl fine node_texts;
     };
-    carry = carry_valid (get_member (codes "per_day") members);
+    carry = carry_valid (get_member (codes "per_day") members) (get_member (codes "closed") members);
   }
 
   -- the node that a place spells is an outlet where the document says so
@@ -214,7 +216,7 @@ module _ (tree : Members) (none : HasNoFault tree) where
     place = number Diversion k members 1 (codes "node") Nodes _ refl fine node_texts;
     want = monthly_in (10 ^ 9) (get_member (codes "want") members);
     volume = volume_valid (kind.Diversion (number_at tree Nodes (codes "node") members)) refl (get_member (codes "volume") members);
-    no_series = refl;
+    series = series_wants (get_member (codes "want") members);
   }
 
   instream_valid : (k : ℕ) (members : Members) → IsFine tree Instream k members → IsValidRight (basin_of tree) (instream_of tree members)
@@ -224,7 +226,7 @@ module _ (tree : Members) (none : HasNoFault tree) where
     place = number Instream k members 1 (codes "link") Links _ refl fine link_texts;
     want = monthly_in (10 ^ 9) (get_member (codes "want") members);
     volume = tt;
-    no_series = refl;
+    series = series_wants (get_member (codes "want") members);
   }
 
   zone_valid : (k : ℕ) (members : Members) → IsFine tree Zone k members → IsValidRight (basin_of tree) (zone_of tree members)
@@ -236,7 +238,7 @@ module _ (tree : Members) (none : HasNoFault tree) where
         (number Zone k members 1 (codes "reservoir") Reservoirs _ refl fine reservoir_texts, level.0, level.1));
     want = monthly_in (10 ^ 9) (get_member (codes "want") members);
     volume = tt;
-    no_series = refl;
+    series = series_wants (get_member (codes "want") members);
   }
 
   own_diversion : (k : ℕ) (members : Members) → IsFine tree Return k members → number_at tree Diversions (codes "diversion") members < length (rows_in tree Diversion)
@@ -447,11 +449,38 @@ module _ (tree : Members) (none : HasNoFault tree) where
       (each_valid (λ r. r.volume ≡ None) Instream tt (instream_of tree) (λ k members fine. refl)))
       (each_valid (λ r. r.volume ≡ None) Zone tt (zone_of tree) (λ k members fine. refl))
 
+  -- no canal is shut
+  open_canals : format_of tree ≡ 1 → Each (λ l. IsAlwaysOpen l.carry) (basin_of tree).links
+  open_canals first =
+      each_valid (λ l. IsAlwaysOpen l.carry) Link tt (link_of tree)
+      (λ k members fine. always_open (get_member (codes "per_day") members) (get_member (codes "closed") members)
+      (absent 1 Link (codes "closed") members (rw first at fine.keys) refl))
+
+  -- and no right has its wants in the series
+  plain_wants : (table : BasinTable) (k : ℕ) (members : Members) (i : ℕ) → slice_get (keys_of table) i ≡ Some (record { name = codes "want"; is_required = true; kind = Want; since = 1 }) →
+      format_of tree ≡ 1 → IsFine tree table k members → is_series (get_member (codes "want") members) ≡ false
+  plain_wants table k members i at first fine =
+      let d = there_at tree table k members i _ at refl fine in
+      rw (d.1) (no_text d.0 (rw first at d.2))
+
+  no_series : format_of tree ≡ 1 → Each (λ r. r.series ≡ false) (rights_of tree)
+  no_series first =
+      each_append (λ r. r.series ≡ false) _ _
+      (each_append (λ r. r.series ≡ false) _ _
+      (each_valid (λ r. r.series ≡ false) Diversion tt (diversion_of tree) (λ k members fine. plain_wants Diversion k members 3 refl first fine))
+      (each_valid (λ r. r.series ≡ false) Instream tt (instream_of tree) (λ k members fine. plain_wants Instream k members 3 refl first fine)))
+      (each_valid (λ r. r.series ≡ false) Zone tt (zone_of tree) (λ k members fine. plain_wants Zone k members 4 refl first fine))
+
   format_valid : HasValidFormat (basin_of tree)
   format_valid = record {
     format = whole_in 1 2 1 (get_member (codes "format") tree) (omega arith) (omega arith);
     year_start = whole_in 1 12 10 (get_member (codes "year_start") tree) (omega arith) (omega arith);
-    first = λ first. record { year_start = october first; volumes = each_all (λ r. r.volume ≡ None) _ (no_volumes first) };
+    first = λ first. record {
+      year_start = october first;
+      open_canals = each_all (λ l. IsAlwaysOpen l.carry) _ (open_canals first);
+      volumes = each_all (λ r. r.volume ≡ None) _ (no_volumes first);
+      no_series = each_all (λ r. r.series ≡ false) _ (no_series first);
+    };
   }
 
   pub sound_basin : IsSoundBasin (basin_of tree)

@@ -1,5 +1,6 @@
 -- The basin that a document spells. What can't be there in a document without a fault has a default.
-use Rattle.std.specs.Prelude.{ℕ, ◌^◌, ◌*◌, nat_lt, List, [], ◌∷◌, ◌++◌, map, replicate, Bool, false, Option, Some, None, if◌then◌else◌, option_map, option_and_then, option_to_list, unwrap_or, codes}
+use Rattle.std.specs.Prelude.{ℕ, ◌^◌, ◌*◌, is_some, ◌||◌, ◌==◌, ◌+◌, nat_lt, List, [], ◌∷◌, ◌++◌, map, Bool, false, Option, Some, None, if◌then◌else◌, option_map, option_and_then, option_to_list, unwrap_or, codes}
+use Rattle.std.specs.List.{range_with_len}
 use Rattle.std.specs.Option.{option_map_or}
 use Rattle.toml.specs.Data.{Data, Items, no_items, item, get_item, Members, get_member, as_bool, as_str, as_array, as_table}
 use Rattle.toml_tree.specs.Values.{whole_of, whole_at, monthly_of, text_or_empty}
@@ -66,9 +67,21 @@ date_of text = unwrap_or (read_day text) (record { year = 0; month = 0; day = 0 
 abbrev pub inflow_of : Option Data → Inflow
 inflow_of value = option_map_or (λ text. Gauged) (option_and_then as_str value) (Monthly (monthly_of (10 ^ 9) value))
 
+abbrev pub items_any : (Data → Bool) → Items → Bool
+items_any test no_items = false
+items_any test (item d ds) = test d || items_any test ds
+
+-- whether a list of calendar months has a month, from 1 for January
+abbrev pub lists_month : ℕ → Data → Bool
+lists_month month d = option_map_or (items_any (λ x. whole_of 1 12 0 (Some x) == month)) (as_array d) false
+
+-- for each calendar month whether a canal is shut in it. A canal that doesn't say so never is
+unfoldable pub shut_of : Option Data → List Bool
+shut_of closed = map (λ i. option_map_or (lists_month (i + 1)) closed false) (range_with_len 0 12)
+
 -- a link that gives no amount a day is a river
-abbrev pub carry_of : Option Data → Carry
-carry_of value = option_map_or (λ d. Canal (whole_of 0 (10 ^ 9) 0 (Some d)) (replicate 12 false)) value River
+abbrev pub carry_of : Option Data → Option Data → Carry
+carry_of per_day closed = option_map_or (λ d. Canal (whole_of 0 (10 ^ 9) 0 (Some d)) (shut_of closed)) per_day River
 
 abbrev pub point_in : Items → AreaPoint
 point_in pair = record {
@@ -99,7 +112,7 @@ link_of tree row = record {
   name = name_at (codes "name") row;
   from = number_at tree Nodes (codes "from") row;
   to = number_at tree Nodes (codes "to") row;
-  carry = carry_of (get_member (codes "per_day") row);
+  carry = carry_of (get_member (codes "per_day") row) (get_member (codes "closed") row);
 }
 
 abbrev pub reservoir_of : Members → Members → reservoir.Reservoir
@@ -114,7 +127,10 @@ reservoir_of tree row = record {
 abbrev pub volume_of : Option Data → Option ℕ
 volume_of value = option_map (λ d. whole_of 0 (16 * 10 ^ 9) 0 (Some d)) value
 
--- a right whose wants aren't in the series
+-- a text stands for wants in the series
+abbrev pub is_series : Option Data → Bool
+is_series value = is_some (option_and_then as_str value)
+
 abbrev pub right_of : RightKind → Option ℕ → Members → Right
 right_of kind volume row = record {
   name = name_at (codes "name") row;
@@ -123,7 +139,7 @@ right_of kind volume row = record {
   kind = kind;
   want = monthly_of (10 ^ 9) (get_member (codes "want") row);
   volume = volume;
-  series = false;
+  series = is_series (get_member (codes "want") row);
 }
 
 abbrev pub diversion_of : Members → Members → Right

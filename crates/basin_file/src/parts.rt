@@ -1,14 +1,17 @@
 //! The parts of a basin, each from the keys and values of its entry.
-ghost use Rattle.std.specs.Prelude.{◌≡◌, ◌<◌, ◌^◌, codes};
+ghost use Rattle.std.specs.Prelude.{◌≡◌, ◌<◌, ◌^◌, ◌==◌, Some, false, codes, option_map};
+ghost use Rattle.std.specs.List.{list_any};
+ghost use Rattle.std.specs.Option.{option_map_or};
 ghost use Rattle.toml.specs.Data.{get_member};
-ghost use Rattle.toml.specs.View.{table_view, items_view};
+ghost use Rattle.toml.specs.View.{view, table_view, items_view};
+ghost use Rattle.toml_tree.specs.Values.{whole_of};
 ghost use Rattle.basin_tree.specs.Documents.{tree_of};
-ghost use Rattle.basin_file.specs.Spelled.{name_of, name_at, truth_at, inflow_of, carry_of, number_at, point_in, date_of, first_of, node_of, link_of, volume_of, right_of, diversion_of, instream_of, zone_of, return_of};
+ghost use Rattle.basin_file.specs.Spelled.{name_of, name_at, truth_at, inflow_of, lists_month, shut_of, carry_of, is_series, number_at, point_in, date_of, first_of, node_of, link_of, volume_of, right_of, diversion_of, instream_of, zone_of, return_of};
 
 use basin_tree::document::Document;
 use basin_tree::tables::Space;
 use toml::{Table, Value};
-use toml_tree::values::{item_at, member, monthly_at, text_or_empty, whole_at, whole_of};
+use toml_tree::values::{item_at, items_of, member, monthly_at, text_or_empty, whole_at, whole_of};
 use water_model::types::{AreaPoint, Carry, Inflow, Link, Node, ReturnRow, Right, RightKind};
 use water_text::day::Day;
 use water_text::month::Month;
@@ -50,13 +53,52 @@ fn inflow_at(row: &Table) -> Inflow
     }
 }
 
+fn has_month(items: &[Value], month: u64) -> bool
+    ensures { result ≡ list_any (λ v. whole_of 1 12 0 (Some (view v)) == month) items.now }
+{
+    items
+        .iter()
+        .any(|item| whole_of(Some(item), 1, 12, 0) == month)
+}
+
+/// Whether a list of calendar months has a month, from 1 for January.
+fn lists_month(value: &Value, month: u64) -> bool
+    ensures { result ≡ lists_month month (view value.now) }
+{
+    match items_of(value) {
+        Some(items) => has_month(items, month),
+        None => false,
+    }
+}
+
+fn is_shut(closed: Option<&Value>, month: u64) -> bool
+    ensures { result ≡ option_map_or (lists_month month) (option_map (λ x. view x.now) closed.entry) false }
+{
+    match closed {
+        Some(value) => lists_month(value, month),
+        None => false,
+    }
+}
+
+/// For each calendar month whether a canal is shut in it.
+fn shut_at(row: &Table) -> [bool; 12]
+    ensures { result ≡ shut_of (get_member (codes "closed") (table_view row.now)) }
+{
+    let closed = member(row, "closed");
+    let mut shut = [false; 12];
+    for i in 0..12 {
+        shut[i as usize] = is_shut(closed, i + 1);
+    }
+    shut
+}
+
 fn carry_at(row: &Table) -> Carry
-    ensures { result ≡ carry_of (get_member (codes "per_day") (table_view row.now)) }
+    ensures { result ≡ carry_of (get_member (codes "per_day") (table_view row.now)) (get_member (codes "closed") (table_view row.now)) }
 {
     match member(row, "per_day") {
         Some(value) => Carry::Canal {
             per_day: whole_of(Some(value), 0, 1_000_000_000, 0),
-            shut: [false; 12],
+            shut: shut_at(row),
         },
         None => Carry::River,
     }
@@ -140,6 +182,16 @@ fn volume_at(row: &Table) -> Option<u64>
     }
 }
 
+/// Whether a right's wants stand in the series.
+fn series_at(row: &Table) -> bool
+    ensures { result ≡ is_series (get_member (codes "want") (table_view row.now)) }
+{
+    match member(row, "want") {
+        Some(value) => value.is_str(),
+        None => false,
+    }
+}
+
 fn right_of(kind: RightKind, volume: Option<u64>, row: &Table) -> Right
     ensures { result ≡ right_of kind volume (table_view row.now) }
 {
@@ -150,7 +202,7 @@ fn right_of(kind: RightKind, volume: Option<u64>, row: &Table) -> Right
         kind,
         want: monthly_at(row, "want", 1_000_000_000),
         volume,
-        series: false,
+        series: series_at(row),
     }
 }
 

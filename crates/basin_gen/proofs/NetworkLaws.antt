@@ -8,7 +8,7 @@ use Rattle.std.proofs.lemmas.Bool.Decides.{nat_tests}
 use Rattle.std.proofs.lemmas.Fmt.{decimal_injective}
 use Rattle.water_model.specs.Lookups.{of_entry}
 use Rattle.water_model.specs.Network.{walks, tail_in, is_outlet_in, is_on_cycle, HasRiverOut, IsSoundNetwork}
-use Rattle.water_model.specs.Valid.{IsMonthly, IsValidNode, IsValidLink, IsValidReservoir, IsValidPoint}
+use Rattle.water_model.specs.Valid.{IsMonthly, IsValidNode, IsValidLink, IsValidReservoir, IsValidPoint, IsAlwaysOpen}
 use Rattle.water_model.specs.declared.types.Basin.{Basin}
 use Rattle.water_model.specs.declared.types.Link.{Link}
 use Rattle.basin_gen.specs.Draws.{next, drawn, later, list_of}
@@ -89,6 +89,14 @@ links_valid b size s few made =
     let to = node_behind_within size 5 (4 * j + 1) (s.canals j) within (omega arith) in
     let small = drawn_below (next (s.canals j)) 20 (omega arith) in
     record { name = numbered_is_name 99 (4 * j + 1) refl (omega arith); ends = record { from = omega arith; to = omega arith }; carry = (omega arith, refl) }))
+
+-- no canal is ever shut
+pub open_canals : (b : Basin) (size : ℕ) (s : States) → IsMade b size s → All (λ l. IsAlwaysOpen l.carry) b.links
+open_canals b size s made =
+    all_of (λ l. IsAlwaysOpen l.carry) b.links (size - 1 + count_of_canals size) (link_made size s) made.links
+    (joined_each (λ l. IsAlwaysOpen l.carry) (size - 1) (count_of_canals size) (λ i. river_at size i (s.rivers i)) (λ j. canal_at size (4 * j + 1) (s.canals j))
+    (λ i l. tt)
+    (λ j l. refl))
 
 -- only the last node is an outlet
 pub outlet_is : (b : Basin) (size : ℕ) (s : States) → IsMade b size s → (v : ℕ) → v < size → is_outlet_in b.nodes v ≡ (v + 1 == size)

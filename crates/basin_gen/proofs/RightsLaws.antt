@@ -3,7 +3,7 @@ use Rattle.std.proofs.Common.{◌≡◌, ◌≢◌, ℕ, suc, ◌+◌, ◌-◌, 
 use Rattle.std.specs.Prelude.{Option, Some, None, slice_get, nat_lt, if◌then◌else◌, ◌==◌, All, ◌||◌, ◌&&◌, not, ◌⊎◌, nat_le, unwrap_or, option_map}
 use Rattle.std.specs.Fmt.{decimal}
 use Rattle.std.specs.List.{list_any}
-use Rattle.std.proofs.lemmas.Bool.{cases_lt, cases_Bool, or_left}
+use Rattle.std.proofs.lemmas.Bool.{cases_lt, cases_Bool, or_left, false≢true}
 use Rattle.std.proofs.lemmas.Bool.Decides.{nat_tests}
 use Rattle.std.proofs.lemmas.Fmt.{decimal_injective}
 use Rattle.place_sums.specs.Sums.{total}
@@ -388,7 +388,7 @@ rights_valid b size s some few made =
       place = omega arith;
       want = same_for_months (10 ^ 9) (drawn (next (next (s.diversions d))) 300) (omega arith);
       volume = tt;
-      no_series = refl;
+      series = λ e. absurd (false≢true e);
     })
     (joined_each (λ r. IsValidRight b r) (instream_count size) (zone_count size) (instream_made size s) (zone_made s)
     (λ j l. let link = drawn_below (s.instreams j) (size - 1) (omega arith) in
@@ -398,7 +398,7 @@ rights_valid b size s some few made =
       place = omega arith;
       want = same_for_months (10 ^ 9) (drawn (next (next (s.instreams j))) 300) (omega arith);
       volume = tt;
-      no_series = refl;
+      series = λ e. absurd (false≢true e);
     })
     (λ z l. zone_by (λ r. IsValidRight b r) z (s.zones z)
     (λ even. let want = drawn_below (s.zones z) 200 (omega arith) in record {
@@ -407,7 +407,7 @@ rights_valid b size s some few made =
       place = (omega arith, omega arith, omega arith);
       want = same_for_months (10 ^ 9) (100 + drawn (s.zones z) 200) (omega arith);
       volume = tt;
-      no_series = refl;
+      series = λ e. absurd (false≢true e);
     })
     (λ odd. let want = drawn_below (s.zones z) 400 (omega arith) in record {
       name = zone_is_name 98 (z / 2) refl (omega arith);
@@ -415,7 +415,7 @@ rights_valid b size s some few made =
       place = (omega arith, omega arith, omega arith);
       want = same_for_months (10 ^ 9) (drawn (s.zones z) 400) (omega arith);
       volume = tt;
-      no_series = refl;
+      series = λ e. absurd (false≢true e);
     }))))
 
 pub returns_valid : (b : Basin) (size : ℕ) (s : States) → 2 ≤ size → size ≤ 2000 → IsMade b size s → All (λ row. IsValidReturn b row) b.returns
@@ -454,3 +454,13 @@ no_volumes b size s made =
     (joined_each (λ r. r.volume ≡ None) (instream_count size) (zone_count size) (instream_made size s) (zone_made s)
     (λ j l. refl)
     (λ z l. zone_by (λ r. r.volume ≡ None) z (s.zones z) (λ even. refl) (λ odd. refl))))
+
+-- and none has its wants in the series
+pub not_in_series : (b : Basin) (size : ℕ) (s : States) → IsMade b size s → All (λ r. r.series ≡ false) b.rights
+not_in_series b size s made =
+    all_of (λ r. r.series ≡ false) b.rights (diversion_count size + (instream_count size + zone_count size)) (right_made size s) made.rights
+    (joined_each (λ r. r.series ≡ false) (diversion_count size) (instream_count size + zone_count size) (diversion_made size s) (other_made size s)
+    (λ d l. refl)
+    (joined_each (λ r. r.series ≡ false) (instream_count size) (zone_count size) (instream_made size s) (zone_made s)
+    (λ j l. refl)
+    (λ z l. zone_by (λ r. r.series ≡ false) z (s.zones z) (λ even. refl) (λ odd. refl))))

@@ -8,8 +8,8 @@ use Rattle.basin_gen.specs.Entries.{node_at}
 use Rattle.basin_gen.specs.Generator.{generated}
 use Rattle.basin_gen.proofs.Lists.{states_of, generated_made, right_made, diversion_count, instream_count, zone_count}
 use Rattle.basin_gen.proofs.Places.{entry_is}
-use Rattle.basin_gen.proofs.NetworkLaws.{nodes_valid, links_valid, reservoirs_valid, nodes_own, links_own, reservoirs_own, network_sound}
-use Rattle.basin_gen.proofs.RightsLaws.{rights_valid, no_volumes, returns_valid, rights_own, roll_sound, rights_ranked, few_rows, right_has_wants}
+use Rattle.basin_gen.proofs.NetworkLaws.{nodes_valid, links_valid, open_canals, reservoirs_valid, nodes_own, links_own, reservoirs_own, network_sound}
+use Rattle.basin_gen.proofs.RightsLaws.{rights_valid, no_volumes, not_in_series, returns_valid, rights_own, roll_sound, rights_ranked, few_rows, right_has_wants}
 
 pub generated_valid : (number size : ℕ) → 2 ≤ size → size ≤ 2000 → IsValidBasin (generated number size)
 unfolding generated
@@ -23,7 +23,12 @@ generated_valid number size some few =
       format = record {
         format = (omega arith, omega arith);
         year_start = (omega arith, omega arith);
-        first = λ e. record { year_start = refl; volumes = no_volumes b size s made };
+        first = λ e. record {
+          year_start = refl;
+          open_canals = open_canals b size s made;
+          volumes = no_volumes b size s made;
+          no_series = not_in_series b size s made;
+        };
       };
       run = record { first = record { year = (omega arith, omega arith); month = (omega arith, omega arith) }; months = (omega arith, omega arith); ends = omega arith };
       few = record { some_node = omega arith; nodes = omega arith; links = omega arith; rights = omega arith; rows = λ right l. few_rows b size s made right };

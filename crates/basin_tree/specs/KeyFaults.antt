@@ -5,7 +5,7 @@ use Rattle.std.specs.Option.{option_map_or}
 use Rattle.std.specs.Str.{bytes_eq}
 use Rattle.toml.specs.Data.{Data, Members, no_members, member, get_member, as_array}
 use Rattle.basin_tree.specs.declared.tables.BasinTable.{BasinTable}
-use Rattle.basin_tree.specs.declared.tables.BasinTable.TheVariants.{Top}
+use Rattle.basin_tree.specs.declared.tables.BasinTable.TheVariants.{Top, Link}
 use Rattle.basin_tree.specs.declared.tables.Kind.{Kind}
 use Rattle.basin_tree.specs.Tables.{KeyRow, keys_of}
 use Rattle.basin_tree.specs.Kinds.{has_kind}
@@ -42,18 +42,24 @@ has_no_nodes Top row =
     option_map_or (λ items. items_len items == 0) (option_and_then as_array (get_member (codes "node") row)) false
 has_no_nodes _ row = false
 
+-- a link says in which months it is shut, but not what it carries a day
+abbrev pub shuts_no_canal : BasinTable → Members → Bool
+shuts_no_canal Link row =
+    is_some (get_member (codes "closed") row) && not (is_some (get_member (codes "per_day") row))
+shuts_no_canal _ row = false
+
 -- a key that has to be there is absent, or no node is listed
 abbrev pub missing_key : Members → Entry → Bool
-missing_key tree e = lacks_key e.table e.row || has_no_nodes e.table e.row
+missing_key tree e = (lacks_key e.table e.row || has_no_nodes e.table e.row) || shuts_no_canal e.table e.row
 
 -- whether the value at some key of the entry passes a test of the key's kind and the value
 abbrev pub any_value : (Kind → Data → Bool) → BasinTable → Members → Bool
 any_value test table row =
     list_any (λ key. option_map_or (test key.kind) (get_member key.name row) false) (keys_of table)
 
--- a value isn't of its key's kind
+-- a value isn't of its key's kind in the document's format
 abbrev pub wrong_kind : Members → Entry → Bool
-wrong_kind tree e = any_value (λ kind d. not (has_kind kind d)) e.table e.row
+wrong_kind tree e = any_value (λ kind d. not (has_kind (format_of tree) kind d)) e.table e.row
 
 -- the run that is told by the top table ends too late
 abbrev pub runs_late : BasinTable → Members → Bool

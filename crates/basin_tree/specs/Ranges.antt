@@ -4,16 +4,20 @@ use Rattle.std.specs.Option.{option_map_or}
 use Rattle.toml.specs.Data.{Data, Items, item, Members, as_str, as_integer, as_array}
 use Rattle.water_text.specs.Months.{read_month, month_within}
 use Rattle.basin_tree.specs.declared.tables.Kind.{Kind}
-use Rattle.basin_tree.specs.declared.tables.Kind.TheVariants.{Whole, MonthText, Monthly, Inflow, Points}
+use Rattle.basin_tree.specs.declared.tables.Kind.TheVariants.{Whole, MonthText, Monthly, Want, CalendarMonths, Inflow, Points}
 use Rattle.toml_tree.specs.Items.{items_all}
 use Rattle.toml_tree.specs.Values.{is_between, whole_at, text_or_empty}
 
 abbrev pub number_in : ℕ → ℕ → Data → Bool
 number_in least most d = option_map_or (is_between least most) (as_integer d) true
 
+-- each number of the list
+abbrev pub listed_in : ℕ → ℕ → Data → Bool
+listed_in least most d = option_map_or (items_all (number_in least most)) (as_array d) true
+
 -- the number, or each number of the list
 abbrev pub numbers_in : ℕ → Data → Bool
-numbers_in most d = number_in 0 most d && option_map_or (items_all (number_in 0 most)) (as_array d) true
+numbers_in most d = number_in 0 most d && listed_in 0 most d
 
 -- a storage and an area
 abbrev pub pair_in : Items → Bool
@@ -26,6 +30,8 @@ points_in d = option_map_or (items_all (λ x. option_map_or pair_in (as_array x)
 abbrev pub in_range : Kind → Data → Bool
 in_range (Whole least most) d = number_in least most d
 in_range (Monthly most) d = numbers_in most d
+in_range Want d = numbers_in (10 ^ 9) d
+in_range CalendarMonths d = listed_in 1 12 d
 in_range Inflow d = numbers_in (10 ^ 9) d
 in_range MonthText d = option_map_or (λ text. is_some (read_month text)) (as_str d) true
 in_range Points d = points_in d

@@ -4,7 +4,7 @@ use Rattle.basin_tree.specs.declared.tables.BasinTable.{BasinTable}
 use Rattle.basin_tree.specs.declared.tables.BasinTable.TheVariants.{Top, Node, Link, Reservoir, Diversion, Instream, Zone, Return}
 use Rattle.basin_tree.specs.declared.tables.Key.{Key}
 use Rattle.basin_tree.specs.declared.tables.Kind.{Kind}
-use Rattle.basin_tree.specs.declared.tables.Kind.TheVariants.{Tables, Whole, Truth, Name, Refers, MonthText, DateText, Monthly, Inflow, Points}
+use Rattle.basin_tree.specs.declared.tables.Kind.TheVariants.{Tables, Whole, Truth, Name, Refers, MonthText, DateText, Monthly, Want, CalendarMonths, Inflow, Points}
 use Rattle.basin_tree.specs.declared.tables.Space.TheVariants.{Nodes, Links, Reservoirs, Diversions}
 
 -- the word for a table. The entries of each but the top are listed at this key of the top table
@@ -54,21 +54,21 @@ keys_of Node =
     required (codes "name") Name ∷ optional (codes "outlet") Truth ∷ optional (codes "inflow") Inflow ∷ []
 keys_of Link =
     required (codes "name") Name ∷ required (codes "from") (Refers Nodes) ∷ required (codes "to") (Refers Nodes)
-    ∷ optional (codes "per_day") (Whole 0 (10 ^ 9)) ∷ []
+    ∷ optional (codes "per_day") (Whole 0 (10 ^ 9)) ∷ second (codes "closed") CalendarMonths ∷ []
 keys_of Reservoir =
     required (codes "node") (Refers Nodes) ∷ required (codes "opening") (Whole 0 (16 * 10 ^ 9))
     ∷ optional (codes "area") Points ∷ optional (codes "rate") (Monthly 10000) ∷ []
 keys_of Diversion =
     required (codes "name") Name ∷ required (codes "node") (Refers Nodes) ∷ required (codes "date") DateText
-    ∷ required (codes "want") (Monthly (10 ^ 9)) ∷ optional (codes "order") (Whole 0 1000000)
+    ∷ required (codes "want") Want ∷ optional (codes "order") (Whole 0 1000000)
     ∷ second (codes "volume") (Whole 0 (16 * 10 ^ 9)) ∷ []
 keys_of Instream =
     required (codes "name") Name ∷ required (codes "link") (Refers Links) ∷ required (codes "date") DateText
-    ∷ required (codes "want") (Monthly (10 ^ 9)) ∷ optional (codes "order") (Whole 0 1000000) ∷ []
+    ∷ required (codes "want") Want ∷ optional (codes "order") (Whole 0 1000000) ∷ []
 keys_of Zone =
     required (codes "name") Name ∷ required (codes "reservoir") (Refers Reservoirs)
     ∷ required (codes "level") (Whole 1 16) ∷ required (codes "date") DateText
-    ∷ required (codes "want") (Monthly (10 ^ 9)) ∷ optional (codes "order") (Whole 0 1000000) ∷ []
+    ∷ required (codes "want") Want ∷ optional (codes "order") (Whole 0 1000000) ∷ []
 keys_of Return =
     required (codes "diversion") (Refers Diversions) ∷ required (codes "node") (Refers Nodes)
     ∷ required (codes "part") (Whole 1 10000) ∷ required (codes "lag") (Whole 1 120) ∷ []

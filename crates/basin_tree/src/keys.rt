@@ -10,7 +10,7 @@ ghost use Rattle.toml_tree.specs.Items.{items_len};
 ghost use Rattle.basin_tree.specs.Documents.{tree_of};
 ghost use Rattle.basin_tree.specs.declared.tables.Kind.{Kind};
 ghost use Rattle.basin_tree.specs.Tables.{keys_of};
-ghost use Rattle.basin_tree.specs.KeyFaults.{unknown_key, missing_key, lacks_key, has_no_nodes, any_value};
+ghost use Rattle.basin_tree.specs.KeyFaults.{unknown_key, missing_key, lacks_key, has_no_nodes, shuts_no_canal, any_value};
 
 use crate::document::Document;
 use crate::tables::{BasinTable, Key, Kind, keys};
@@ -53,7 +53,7 @@ impl EntryTest for MissingKey {
     ghost fails = { missing_key };
 
     fn fails_at(_document: &Document, table: BasinTable, _number: u64, row: &Table) -> bool {
-        lacks_key(table, row) || has_no_nodes(table, row)
+        lacks_key(table, row) || has_no_nodes(table, row) || shuts_no_canal(table, row)
     }
 }
 
@@ -89,6 +89,15 @@ fn has_no_nodes(table: BasinTable, row: &Table) -> bool
             Some(value) => is_empty_list(value),
             None => false,
         },
+        _ => false,
+    }
+}
+
+fn shuts_no_canal(table: BasinTable, row: &Table) -> bool
+    ensures { result ≡ shuts_no_canal table (table_view row.now) }
+{
+    match table {
+        BasinTable::Link => member(row, "closed").is_some() && member(row, "per_day").is_none(),
         _ => false,
     }
 }

@@ -1,5 +1,5 @@
 //! Values of the wrong kind.
-ghost use Rattle.std.specs.Prelude.{◌≡◌, ◌==◌, ◌&&◌, not, false, is_some, codes, length};
+ghost use Rattle.std.specs.Prelude.{◌≡◌, nat_le, ◌==◌, ◌&&◌, not, false, is_some, codes, length};
 ghost use Rattle.std.specs.List.{list_all};
 ghost use Rattle.std.specs.Option.{option_map_or};
 ghost use Rattle.std.specs.Str.{bytes_eq};
@@ -7,8 +7,9 @@ ghost use Rattle.toml.specs.Data.{as_array, as_table};
 ghost use Rattle.toml.specs.View.{view};
 ghost use Rattle.water_text.specs.Shapes.{has_shape};
 ghost use Rattle.toml_tree.specs.Items.{items_all};
-ghost use Rattle.basin_tree.specs.Kinds.{has_kind, is_whole, is_listed, is_monthly, is_text};
-ghost use Rattle.basin_tree.specs.KeyFaults.{wrong_kind};
+ghost use Rattle.basin_tree.specs.Kinds.{has_kind, is_whole, is_listed, is_monthly, is_text, is_want, is_whole_list};
+ghost use Rattle.basin_tree.specs.Documents.{tree_of};
+ghost use Rattle.basin_tree.specs.KeyFaults.{format_of, wrong_kind};
 
 use crate::document::Document;
 use crate::keys::{ValueTest, any_value};
@@ -23,10 +24,10 @@ use water_text::month::has_month_shape;
 pub struct WrongKind;
 
 impl ValueTest for WrongKind {
-    ghost fails = { λ _ kind d. not (has_kind kind d) };
+    ghost fails = { λ tree kind d. not (has_kind (format_of tree) kind d) };
 
-    fn fails_for(_document: &Document, kind: Kind, value: &Value) -> bool {
-        !has_kind(kind, value)
+    fn fails_for(document: &Document, kind: Kind, value: &Value) -> bool {
+        !has_kind(document.format(), kind, value)
     }
 }
 
@@ -56,7 +57,16 @@ fn are_so_many_whole(values: &[Value], count: usize) -> bool
     values.len() == count && are_whole(values)
 }
 
-fn is_whole_list(value: &Value, count: usize) -> bool
+fn is_whole_list(value: &Value) -> bool
+    ensures { result ≡ is_whole_list (view value.now) }
+{
+    match items_of(value) {
+        Some(values) => are_whole(values),
+        None => false,
+    }
+}
+
+fn is_list_of(value: &Value, count: usize) -> bool
     ensures { result ≡ is_listed is_whole count (view value.now) }
 {
     match items_of(value) {
@@ -68,7 +78,7 @@ fn is_whole_list(value: &Value, count: usize) -> bool
 fn is_monthly(value: &Value) -> bool
     ensures { result ≡ is_monthly (view value.now) }
 {
-    is_whole(value) || is_whole_list(value, 12)
+    is_whole(value) || is_list_of(value, 12)
 }
 
 fn are_tables(values: &[Value]) -> bool
@@ -89,7 +99,7 @@ fn is_table_list(value: &Value) -> bool
 fn are_pairs(values: &[Value]) -> bool
     ensures { result ≡ list_all (λ v. is_listed is_whole 2 (view v)) values.now }
 {
-    values.iter().all(|value| is_whole_list(value, 2))
+    values.iter().all(|value| is_list_of(value, 2))
 }
 
 fn is_pair_list(value: &Value) -> bool
@@ -128,8 +138,23 @@ fn is_gauged(value: &Value) -> bool
     }
 }
 
-fn has_kind(kind: Kind, value: &Value) -> bool
-    ensures { result ≡ has_kind kind (view value.now) }
+fn is_series(value: &Value) -> bool
+    ensures { result ≡ is_text (bytes_eq (codes "series")) (view value.now) }
+{
+    match value.as_str() {
+        Some(text) => "series" == text,
+        None => false,
+    }
+}
+
+fn is_want(format: u64, value: &Value) -> bool
+    ensures { result ≡ is_want format (view value.now) }
+{
+    is_monthly(value) || (2 <= format && is_series(value))
+}
+
+fn has_kind(format: u64, kind: Kind, value: &Value) -> bool
+    ensures { result ≡ has_kind format kind (view value.now) }
 {
     match kind {
         Kind::Tables => is_table_list(value),
@@ -140,6 +165,8 @@ fn has_kind(kind: Kind, value: &Value) -> bool
         Kind::MonthText => is_month_text(value),
         Kind::DateText => is_date_text(value),
         Kind::Monthly(_) => is_monthly(value),
+        Kind::Want => is_want(format, value),
+        Kind::CalendarMonths => is_whole_list(value),
         Kind::Inflow => is_monthly(value) || is_gauged(value),
         Kind::Points => is_pair_list(value),
     }

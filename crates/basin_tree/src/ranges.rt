@@ -6,7 +6,7 @@ ghost use Rattle.toml.specs.Data.{as_array, as_str};
 ghost use Rattle.toml.specs.View.{view, table_view, items_view};
 ghost use Rattle.water_text.specs.Months.{read_month};
 ghost use Rattle.toml_tree.specs.Items.{items_all};
-ghost use Rattle.basin_tree.specs.Ranges.{number_in, numbers_in, pair_in, points_in, in_range, ends_late};
+ghost use Rattle.basin_tree.specs.Ranges.{number_in, listed_in, numbers_in, pair_in, points_in, in_range, ends_late};
 ghost use Rattle.basin_tree.specs.KeyFaults.{out_of_range, runs_late};
 
 use crate::document::Document;
@@ -75,17 +75,17 @@ fn number_in(value: &Value, least: u64, most: u64) -> bool
     }
 }
 
-fn all_in(values: &[Value], most: u64) -> bool
-    ensures { result ≡ list_all (λ v. number_in 0 most (view v)) values.now }
+fn all_in(values: &[Value], least: u64, most: u64) -> bool
+    ensures { result ≡ list_all (λ v. number_in least most (view v)) values.now }
 {
-    values.iter().all(|value| number_in(value, 0, most))
+    values.iter().all(|value| number_in(value, least, most))
 }
 
-fn items_in(value: &Value, most: u64) -> bool
-    ensures { result ≡ option_map_or (items_all (number_in 0 most)) (as_array (view value.now)) true }
+fn items_in(value: &Value, least: u64, most: u64) -> bool
+    ensures { result ≡ listed_in least most (view value.now) }
 {
     match items_of(value) {
-        Some(values) => all_in(values, most),
+        Some(values) => all_in(values, least, most),
         None => true,
     }
 }
@@ -93,7 +93,7 @@ fn items_in(value: &Value, most: u64) -> bool
 fn numbers_in(value: &Value, most: u64) -> bool
     ensures { result ≡ numbers_in most (view value.now) }
 {
-    number_in(value, 0, most) && items_in(value, most)
+    number_in(value, 0, most) && items_in(value, 0, most)
 }
 
 fn pair_in(values: &[Value]) -> bool
@@ -137,6 +137,8 @@ fn in_range(kind: Kind, value: &Value) -> bool
     match kind {
         Kind::Whole(least, most) => number_in(value, least, most),
         Kind::Monthly(most) => numbers_in(value, most),
+        Kind::Want => numbers_in(value, 1_000_000_000),
+        Kind::CalendarMonths => items_in(value, 1, 12),
         Kind::Inflow => numbers_in(value, 1_000_000_000),
         Kind::MonthText => month_in(value),
         Kind::Points => points_in(value),

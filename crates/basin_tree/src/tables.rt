@@ -45,6 +45,10 @@ pub enum Kind {
     DateText,
     /// One whole number from 0 to the greatest, or twelve from January to December.
     Monthly(u64),
+    /// A right's amount or twelve, or in format 2 the text `series`.
+    Want,
+    /// A list of calendar months, from 1 for January to 12.
+    CalendarMonths,
     /// An amount or twelve, or the text `gauged`.
     Inflow,
     /// A list of pairs of a storage and an area.
@@ -121,6 +125,7 @@ pub fn keys(table: BasinTable) -> &'static [Key]
             required!("from", Kind::Refers(Space::Nodes)),
             required!("to", Kind::Refers(Space::Nodes)),
             optional!("per_day", Kind::Whole(0, 1_000_000_000)),
+            second!("closed", Kind::CalendarMonths),
         ],
         BasinTable::Reservoir => &[
             required!("node", Kind::Refers(Space::Nodes)),
@@ -132,7 +137,7 @@ pub fn keys(table: BasinTable) -> &'static [Key]
             required!("name", Kind::Name),
             required!("node", Kind::Refers(Space::Nodes)),
             required!("date", Kind::DateText),
-            required!("want", Kind::Monthly(1_000_000_000)),
+            required!("want", Kind::Want),
             optional!("order", Kind::Whole(0, 1_000_000)),
             second!("volume", Kind::Whole(0, 16_000_000_000)),
         ],
@@ -140,7 +145,7 @@ pub fn keys(table: BasinTable) -> &'static [Key]
             required!("name", Kind::Name),
             required!("link", Kind::Refers(Space::Links)),
             required!("date", Kind::DateText),
-            required!("want", Kind::Monthly(1_000_000_000)),
+            required!("want", Kind::Want),
             optional!("order", Kind::Whole(0, 1_000_000)),
         ],
         BasinTable::Zone => &[
@@ -148,7 +153,7 @@ pub fn keys(table: BasinTable) -> &'static [Key]
             required!("reservoir", Kind::Refers(Space::Reservoirs)),
             required!("level", Kind::Whole(1, 16)),
             required!("date", Kind::DateText),
-            required!("want", Kind::Monthly(1_000_000_000)),
+            required!("want", Kind::Want),
             optional!("order", Kind::Whole(0, 1_000_000)),
         ],
         BasinTable::Return => &[

@@ -6,7 +6,8 @@ use Rattle.std.proofs.lemmas.Option.{get_or_from_slice_get}
 use Rattle.place_sums.specs.Sums.{total}
 use Rattle.place_sums.proofs.Totals.{term_le_total, total_same}
 use Rattle.cut_cert.proofs.Bounds.{carry_most, all_most}
-use Rattle.month_terms.proofs.Amounts.{want_is, want_most, follows_small, deliveries_small, supply_small}
+use Rattle.water_model.proofs.Wants.{want_most}
+use Rattle.month_terms.proofs.Amounts.{follows_small, deliveries_small, supply_small}
 use Rattle.month_terms.proofs.Bounds.{returns_small}
 use Rattle.month_terms.proofs.WaterYears.{used_most}
 use Rattle.water_model.proofs.Histories.{IsMonth-run_month}
@@ -58,14 +59,14 @@ front_partial b series records i h = record {
 
 -- Reservoirs.
 
-closing_small : (b : Basin) (series : Inflows) (before : List MonthRecord) (m : MonthRecord) → IsValidBasin b → Follows b series before m → (v : ℕ) → v < length b.reservoirs →
+closing_small : (b : Basin) (series : Inflows) (before : List MonthRecord) (m : MonthRecord) → IsValidBasin b → IsSeriesOf b series → Follows b series before m → (v : ℕ) → v < length b.reservoirs →
     slice_index m.closing v ≤ 10 ^ 15
-closing_small b series before m valid f v l =
-    omega (arith, f.closing v l, valid.few.rights, all_most (length b.rights) (10 ^ 9) (λ r. is_zone_of b r v) (λ r. slice_index m.plan.take r) (follows_small b series before m valid f).takes)
+closing_small b series before m valid fits f v l =
+    omega (arith, f.closing v l, valid.few.rights, all_most (length b.rights) (10 ^ 9) (λ r. is_zone_of b r v) (λ r. slice_index m.plan.take r) (follows_small b series before m valid fits f).takes)
 
-opening_small : (b : Basin) (series : Inflows) (before : List MonthRecord) → IsValidBasin b → IsPartialHistory b series before → (v : ℕ) → v < length b.reservoirs →
+opening_small : (b : Basin) (series : Inflows) (before : List MonthRecord) → IsValidBasin b → IsSeriesOf b series → IsPartialHistory b series before → (v : ℕ) → v < length b.reservoirs →
     slice_index (opening_after b before) v ≤ 10 ^ 15
-opening_small b series before valid partial v l = by_last (slice_get before (length before - 1)) refl
+opening_small b series before valid fits partial v l = by_last (slice_get before (length before - 1)) refl
   where
     opens : Option MonthRecord → List ℕ
     opens o = unwrap_or (option_map (λ m. m.closing) o) (map (λ v. v.opening) b.reservoirs)
@@ -83,7 +84,7 @@ opening_small b series before valid partial v l = by_last (slice_get before (len
 
     by_last : (o : Option MonthRecord) → slice_get before (length before - 1) ≡ o → slice_index (opening_after b before) v ≤ 10 ^ 15
     by_last None e = rw (ap opens e) first
-    by_last (Some m) e = rw (ap opens e) (closing_small b series (take (length before - 1) before) m valid (partial.each (length before - 1) m e) v l)
+    by_last (Some m) e = rw (ap opens e) (closing_small b series (take (length before - 1) before) m valid fits (partial.each (length before - 1) m e) v l)
 
 -- what a month supplies is small
 
@@ -101,7 +102,7 @@ pub history_amounts : (b : Basin) (series : Inflows) (before : List MonthRecord)
 history_amounts b series before m valid fits partial left f = record {
   listed = listed;
   delivered = all_small m.delivered (length b.rights) f.fits.delivered
-      (λ r l. omega (arith, (follows_small b series before m valid f).delivered r));
+      (λ r l. omega (arith, (follows_small b series before m valid fits f).delivered r));
   want = all_small m.want (length b.rights) f.fits.want (λ r l. omega (arith, wanted r l));
 }
   where
@@ -109,7 +110,7 @@ history_amounts b series before m valid fits partial left f = record {
     month = subst IsMonth (sym f.month) (IsMonth-run_month b m.index valid.run (omega (arith, f.index)))
 
     opening : (v : ℕ) → v < length b.reservoirs → slice_index m.opening v ≤ 10 ^ 15
-    opening v l = rw (f.opening) (opening_small b series before valid partial v l)
+    opening v l = rw (f.opening) (opening_small b series before valid fits partial v l)
 
     evaporated : (v : ℕ) → v < length b.reservoirs → slice_index m.evaporated v ≤ 10 ^ 15
     evaporated v l =
@@ -119,7 +120,7 @@ history_amounts b series before m valid fits partial left f = record {
         omega (arith, is, opening v l)
 
     wanted : (r : ℕ) → r < length b.rights → slice_index m.want r ≤ 10 ^ 9
-    wanted r l = rw (f.want r l ∙ want_is b series r m.index (slice_index m.used r) valid l) (want_most b _ r (slice_index m.used r) valid l)
+    wanted r l = rw (f.want r l) (want_most b series r m.index (slice_index m.used r) valid fits l)
 
     listed : (q : Quantity) → AreTextAmounts (amounts_of q m)
     listed quantity.Opening = all_small m.opening (length b.reservoirs) f.fits.opening opening
@@ -128,13 +129,13 @@ history_amounts b series before m valid fits partial left f = record {
       arith,
       f.returned n l,
       term_le_total (length b.nodes) (λ n. returned_at b (map (λ k. k.delivered) before) n m.index) n l,
-      returns_small b (map (λ k. k.delivered) before) m.index valid (deliveries_small b series before valid partial),
+      returns_small b (map (λ k. k.delivered) before) m.index valid (deliveries_small b series before valid fits partial),
     ))
     listed quantity.Used = all_small m.used (length b.rights) f.fits.used
         (λ r l. omega (
           arith,
           f.used r l,
-          used_most b (map (λ k. k.delivered) before) r m.index (10 ^ 9) (deliveries_small b series before valid partial r),
+          used_most b (map (λ k. k.delivered) before) r m.index (10 ^ 9) (deliveries_small b series before valid fits partial r),
           f.index,
           valid.run.months.1,
         ))
@@ -147,7 +148,7 @@ history_amounts b series before m valid fits partial left f = record {
       whole_supply b series before m valid fits partial f,
     ))
     listed quantity.Closing = all_small m.closing (length b.reservoirs) f.fits.closing
-        (closing_small b series before m valid f)
+        (closing_small b series before m valid fits f)
 
 -- the records of a history are such as a text tells
 pub history_texts : (b : Basin) (series : Inflows) (records : List MonthRecord) → IsValidBasin b → IsSeriesOf b series → IsPartialHistory b series records → AreTextMonths b series records

@@ -10,7 +10,7 @@ use Rattle.water_model.specs.Lookups.{of_entry}
 use Rattle.water_model.specs.Places.{numbers_from, members_from, seniors_first}
 use Rattle.water_model.specs.Quantities.{entries_with_line}
 use Rattle.water_model.specs.Text.{call_items, items_of_month}
-use Rattle.water_model.specs.Valid.{IsValidBasin}
+use Rattle.water_model.specs.Valid.{IsValidBasin, IsSeriesOf}
 use Rattle.water_text.specs.declared.month.Month.{Month}
 use Rattle.water_model.specs.declared.item.Item.{Item}
 use Rattle.water_model.specs.declared.item.Item.TheVariants as line
@@ -243,12 +243,12 @@ stands_amid b valid s dues xs item ys e = elim (stands_in (amounts b s ++ calls 
         }
 
 -- what is told when a line of a month may come
-within_month : (b : Basin) → IsValidBasin b → (series : Inflows) (before : List MonthRecord) (i : ℕ) (t : Told) (s : Sheet) (dues : List (ℕ × ℕ)) (xs : List Item) (item : Item) (ys : List Item) →
+within_month : (b : Basin) → IsValidBasin b → (series : Inflows) → IsSeriesOf b series → (before : List MonthRecord) (i : ℕ) (t : Told) (s : Sheet) (dues : List (ℕ × ℕ)) (xs : List Item) (item : Item) (ys : List Item) →
     i ≡ length before → i < b.months → BehindMonths b series before t → sheet_lines b s dues ≡ xs ++ item ∷ ys → AreGood b series (tell b series t (line.Month (run_month b i))) xs →
     MayCome b series (fold (tell b series) (tell b series t (line.Month (run_month b i))) xs) item
-within_month b valid series before i t s dues xs item ys at left stands e g =
+within_month b valid series fits before i t s dues xs item ys at left stands e g =
     let a = stands_amid b valid s dues xs item ys e in
-    let m = in_month b valid series before i at left xs (tell b series t (line.Month (run_month b i))) a.amid g (month_begins b series before i t at stands.months) in
+    let m = in_month b valid series fits before i at left xs (tell b series t (line.Month (run_month b i))) a.amid g (month_begins b series before i t at stands.months) in
     record {
       partial = subst (IsPartialHistory b series) (sym m.months) stands.partial;
       outer = λ h. clash (sym h ∙ a.within);
@@ -284,11 +284,11 @@ between_months b series before t item outer front stands = record {
   free = λ r is. clash (sym front ∙ ap is_before_called is);
 }
 
-months_front : (b : Basin) → IsValidBasin b → (series : Inflows) (n i : ℕ) (before : List MonthRecord) (t : Told) (items : List Item) (item : Item) (rest : List Item) →
+months_front : (b : Basin) → IsValidBasin b → (series : Inflows) → IsSeriesOf b series → (n i : ℕ) (before : List MonthRecord) (t : Told) (items : List Item) (item : Item) (rest : List Item) →
     i ≡ length before → i + n ≡ b.months → BehindMonths b series before t → Fills b (from_month b i n) (items ++ item ∷ rest) → AreGood b series t items →
     MayCome b series (fold (tell b series) t items) item
 unfolding numbers_from
-months_front b valid series zero i before t items item rest at all stands h g = last items (last_line b (items ++ item ∷ rest) h) refl
+months_front b valid series fits zero i before t items item rest at all stands h g = last items (last_line b (items ++ item ∷ rest) h) refl
   where
     last : (xs : List Item) → xs ++ item ∷ rest ≡ line.Done b.months ∷ [] → xs ≡ items → MayCome b series (fold (tell b series) t items) item
     last [] e is =
@@ -297,8 +297,8 @@ months_front b valid series zero i before t items item rest at all stands h g = 
         (between_months b series before t item (ap is_within done) (ap is_before_called done) stands)
     last (x ∷ []) e is = cc
     last (x ∷ y ∷ xs) e is = cc
-months_front b valid series (suc n) i before t items item rest at all stands h g =
-    by_items items (one_month b valid i n (items ++ item ∷ rest) h).are g (λ later u zs at' all' stands' h' g'. months_front b valid series n (suc i) later u zs item rest at' all' stands' h' g')
+months_front b valid series fits (suc n) i before t items item rest at all stands h g =
+    by_items items (one_month b valid i n (items ++ item ∷ rest) h).are g (λ later u zs at' all' stands' h' g'. months_front b valid series fits n (suc i) later u zs item rest at' all' stands' h' g')
   where
     o : OneMonth b i n (items ++ item ∷ rest)
     o = one_month b valid i n (items ++ item ∷ rest) h
@@ -310,7 +310,7 @@ months_front b valid series (suc n) i before t items item rest at all stands h g
     by_place : (xs : List Item) → AreGood b series t (line.Month (run_month b i) ∷ xs) → Further →
         ((zs : List Item) × (sheet_lines b o.sheet o.dues ≡ xs ++ item ∷ zs)) ⊎ ((zs : List Item) × (xs ≡ sheet_lines b o.sheet o.dues ++ zs) × (o.others ≡ zs ++ item ∷ rest)) →
         MayCome b series (fold (tell b series) (tell b series t (line.Month (run_month b i))) xs) item
-    by_place xs good further (inl (zs, here)) = within_month b valid series before i t o.sheet o.dues xs item zs at (omega (arith, all)) stands here good.1
+    by_place xs good further (inl (zs, here)) = within_month b valid series fits before i t o.sheet o.dues xs item zs at (omega (arith, all)) stands here good.1
     by_place xs good further (inr (zs, is, others)) =
         let m : MonthRecord = record_of b series i o.sheet in
         let lines : List Item = line.Month (run_month b i) ∷ sheet_lines b o.sheet o.dues in
@@ -337,10 +337,10 @@ months_front b valid series (suc n) i before t items item rest at all stands h g
         (by_place xs good_month further (stands_in (sheet_lines b o.sheet o.dues) o.others xs item rest tail))
 
 -- what is told when a line may come behind the good lines of a text
-pub may_come : (b : Basin) → IsValidBasin b → (series : Inflows) (items : List Item) (item : Item) → AreGood b series (nothing_told b) items → IsFront b (items ++ item ∷ []) →
+pub may_come : (b : Basin) → IsValidBasin b → (series : Inflows) → IsSeriesOf b series → (items : List Item) (item : Item) → AreGood b series (nothing_told b) items → IsFront b (items ++ item ∷ []) →
     MayCome b series (fold (tell b series) (nothing_told b) items) item
 unfolding due
-may_come b valid series items item g front =
+may_come b valid series fits items item g front =
     let title = one_line b shape.Title (shape.Run ∷ from_month b 0 b.months) (items ++ item ∷ front.rest) refl whole in
     let run = one_line b shape.Run (from_month b 0 b.months) title.others refl title.rest in
     by_items items run.rest g (title.are ∙ ap (λ ms. line.Title ∷ (ms ++ title.others)) title.followed
@@ -366,5 +366,5 @@ may_come b valid series items item g front =
         let two : y ≡ line.Run first months = cc in
         let rest : others ≡ xs ++ item ∷ front.rest = cc in
         let begun : AreGood b series (nothing_told b) (line.Title ∷ line.Run first months ∷ xs) = rw (one, two) at good in
-        rw (one, two) (months_front b valid series b.months 0 [] (nothing_told b) xs item front.rest refl (omega arith) nothing
+        rw (one, two) (months_front b valid series fits b.months 0 [] (nothing_told b) xs item front.rest refl (omega arith) nothing
         (subst (λ (ys : List Item). Fills b (from_month b 0 b.months) ys) rest h) begun.1.1)

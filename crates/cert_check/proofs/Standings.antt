@@ -3,7 +3,7 @@ use Rattle.std.proofs.Common.{◌≡◌, ℕ, ◌+◌, ◌*◌, ◌^◌, ◌<◌
 use Rattle.std.specs.Prelude.{Option, Some, None, Result, Ok, Err}
 use Rattle.std.specs.Option.{option_and_then}
 use Rattle.std.proofs.Math.Nat.{mul-le-mul}
-use Rattle.water_model.specs.Valid.{IsValidBasin}
+use Rattle.water_model.specs.Valid.{IsValidBasin, IsSeriesOf}
 use Rattle.water_model.specs.declared.item.Item.{Item}
 use Rattle.water_model.specs.declared.types.Basin.{Basin}
 use Rattle.water_model.specs.declared.types.Inflows.{Inflows}
@@ -94,12 +94,12 @@ unfolding judge
 judged_item b series items bytes item open_yet read = rw (open_yet, read) refl
 
 -- what is known of a line that is read
-pub line_comes : (b : Basin) (series : Inflows) (lines : List (List ℕ)) (bytes : List ℕ) (items : List Item) (item : Item) → IsValidBasin b → verdict_from b series [] lines ≡ Ok items →
-    read_line b items bytes ≡ Ok item → MayCome b series (told_by b series items) item
-line_comes b series lines bytes items item valid h read =
+pub line_comes : (b : Basin) (series : Inflows) (lines : List (List ℕ)) (bytes : List ℕ) (items : List Item) (item : Item) → IsValidBasin b → IsSeriesOf b series →
+    verdict_from b series [] lines ≡ Ok items → read_line b items bytes ≡ Ok item → MayCome b series (told_by b series items) item
+line_comes b series lines bytes items item valid fits h read =
     let said = verdict_says b valid series [] items lines h in
     let front = ((fronts_are_accepted b items bytes item valid).0 read).2 in
-    may_come b valid series items item (rw said.are said.good) front
+    may_come b valid series fits items item (rw said.are said.good) front
 
 -- a line that is taken, or refused by a row
 pub took : (b : Basin) (series : Inflows) (k : Book) (lines : List (List ℕ)) (bytes : List ℕ) (items : List Item) (item : Item) (result : Result (Unit {0}) Refuted) →

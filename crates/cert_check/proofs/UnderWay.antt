@@ -12,7 +12,7 @@ use Rattle.water_model.specs.Lookups.{of_entry}
 use Rattle.water_model.specs.Plans.{carry_of}
 use Rattle.water_model.specs.CutSets.{set_of}
 use Rattle.water_model.specs.Quantities.{amounts_of}
-use Rattle.water_model.specs.Valid.{IsValidBasin}
+use Rattle.water_model.specs.Valid.{IsValidBasin, IsSeriesOf}
 use Rattle.water_model.proofs.Quantities.{cuts_with}
 use Rattle.water_model.specs.declared.item.Item.{Item}
 use Rattle.water_model.specs.declared.item.Item.TheVariants as line
@@ -24,7 +24,7 @@ use Rattle.water_model.specs.declared.types.Reservoir.{Reservoir}
 use Rattle.water_model.proofs.Histories.{IsMonth-run_month}
 use Rattle.result_reader.specs.Telling.{Told, tell, with_member}
 use Rattle.month_terms.proofs.Adds.{no_numbers}
-use Rattle.month_terms.proofs.Amounts.{want_is, want_most}
+use Rattle.water_model.proofs.Wants.{want_most}
 use Rattle.cut_cert.proofs.Bounds.{carry_most}
 use Rattle.cert_check.specs.Checking.{rows, amount_wrong}
 use Rattle.cert_check.specs.Coming.{IsBounded, is_before_called}
@@ -90,9 +90,9 @@ carried_most b valid i e l = elim (cases_lt e (length b.links)) [
   | inr past ↦ rw (slice_get_past b.links e past) (omega arith)
 ]
 
-wanted_most : (b : Basin) → IsValidBasin b → (series : Inflows) (i r used : ℕ) → want_of b series r i used ≤ 10 ^ 9
-wanted_most b valid series i r used = elim (cases_lt r (length b.rights)) [
-  | inl within ↦ rw (want_is b series r i used valid within) (want_most b (run_month b i) r used valid within)
+wanted_most : (b : Basin) → IsValidBasin b → (series : Inflows) → IsSeriesOf b series → (i r used : ℕ) → want_of b series r i used ≤ 10 ^ 9
+wanted_most b valid series fits i r used = elim (cases_lt r (length b.rights)) [
+  | inl within ↦ want_most b series r i used valid fits within
   | inr past ↦ rw (slice_get_past b.rights r past) (omega arith)
 ]
 
@@ -109,12 +109,12 @@ both_fail true q h = (refl, h)
 both_fail false q h = cc
 
 -- one line more
-pub in_month_more : (b : Basin) → IsValidBasin b → (series : Inflows) (before : List MonthRecord) (i : ℕ) → i ≡ length before → i < b.months → (t : Told) (item : Item) →
+pub in_month_more : (b : Basin) → IsValidBasin b → (series : Inflows) → IsSeriesOf b series → (before : List MonthRecord) (i : ℕ) → i ≡ length before → i < b.months → (t : Told) (item : Item) →
     is_amid item ≡ true → NoneHolds (rows b series t item) → InMonth b before i t → InMonth b before i (tell b series t item)
-in_month_more b valid series before i at l t line.Title h n m = m
-in_month_more b valid series before i at l t (line.Run first months) h n m = m
-in_month_more b valid series before i at l t (line.Month month) h n m = (let never : false ≡ true = h in cc)
-in_month_more b valid series before i at l t (line.Amount quantity.Opening v amount) h n m =
+in_month_more b valid series fits before i at l t line.Title h n m = m
+in_month_more b valid series fits before i at l t (line.Run first months) h n m = m
+in_month_more b valid series fits before i at l t (line.Month month) h n m = (let never : false ≡ true = h in cc)
+in_month_more b valid series fits before i at l t (line.Amount quantity.Opening v amount) h n m =
     let is : amount ≡ slice_index (opening_after b before) v =
     is_same amount (slice_index (opening_after b t.months) v) n.1.1.1.1.0
     ∙ ap (λ ms. slice_index (opening_after b ms) v) m.months in
@@ -131,7 +131,7 @@ in_month_more b valid series before i at l t (line.Amount quantity.Opening v amo
         delivered = m.bounded.delivered;
       };
     }
-in_month_more b valid series before i at l t (line.Amount quantity.Evaporated v amount) h n m =
+in_month_more b valid series fits before i at l t (line.Amount quantity.Evaporated v amount) h n m =
     let is = is_same amount
     (of_entry b.reservoirs v
     (λ r. evaporation r.area (slice_index t.now.opening v) (slice_index r.rate (in_year b t.now.index))) 0)
@@ -149,7 +149,7 @@ in_month_more b valid series before i at l t (line.Amount quantity.Evaporated v 
         delivered = m.bounded.delivered;
       };
     }
-in_month_more b valid series before i at l t (line.Amount quantity.Returned k amount) h n m =
+in_month_more b valid series fits before i at l t (line.Amount quantity.Returned k amount) h n m =
     let is = is_same amount (returned_at b (map (λ m. m.delivered) t.months) k t.now.index) n.1.1.1.1.0 in
     let same : returned_at b (map (λ m. m.delivered) t.months) k t.now.index ≡ returned_at b (map (λ m. m.delivered) before) k (length before) = rw (m.months, m.index, at) refl in
     record {
@@ -165,13 +165,13 @@ in_month_more b valid series before i at l t (line.Amount quantity.Returned k am
         delivered = m.bounded.delivered;
       };
     }
-in_month_more b valid series before i at l t (line.Amount quantity.Used r amount) h n m = record {
+in_month_more b valid series fits before i at l t (line.Amount quantity.Used r amount) h n m = record {
   months = m.months;
   index = m.index;
   month = m.month;
   bounded = record { opening = m.bounded.opening; evaporated = m.bounded.evaporated; returned = m.bounded.returned; flow = m.bounded.flow; take = m.bounded.take; delivered = m.bounded.delivered };
 }
-in_month_more b valid series before i at l t (line.Amount quantity.Flow e amount) h n m =
+in_month_more b valid series fits before i at l t (line.Amount quantity.Flow e amount) h n m =
     let most = at_most (carry_of b t.now.month e) amount n.1.1.1.1.0 in
     let same : carry_of b t.now.month e ≡ carry_of b (run_month b i) e = ap (λ k. carry_of b k e) m.month in
     record {
@@ -187,11 +187,11 @@ in_month_more b valid series before i at l t (line.Amount quantity.Flow e amount
         delivered = m.bounded.delivered;
       };
     }
-in_month_more b valid series before i at l t (line.Deliver r amount want) h n m =
+in_month_more b valid series fits before i at l t (line.Deliver r amount want) h n m =
     let two = both_fail (want == want_of b series r t.now.index (slice_index t.now.used r))
     (amount_wrong (instream_link b r) t.now.plan.flow amount want) n.1.1.1.1.0 in
     let is = equal want (want_of b series r t.now.index (slice_index t.now.used r)) two.0 in
-    let small : amount ≤ 10 ^ 9 = omega (arith, is, wanted_most b valid series t.now.index r (slice_index t.now.used r), amount_most (instream_link b r) t.now.plan.flow amount want two.1) in
+    let small : amount ≤ 10 ^ 9 = omega (arith, is, wanted_most b valid series fits t.now.index r (slice_index t.now.used r), amount_most (instream_link b r) t.now.plan.flow amount want two.1) in
     record {
       months = m.months;
       index = m.index;
@@ -208,19 +208,19 @@ in_month_more b valid series before i at l t (line.Deliver r amount want) h n m 
   where
     equal : (x y : ℕ) → x == y ≡ true → x ≡ y
     equal x y e = grind (arith, nat_tests)
-in_month_more b valid series before i at l t (line.Amount quantity.Outflow k amount) h n m = record {
+in_month_more b valid series fits before i at l t (line.Amount quantity.Outflow k amount) h n m = record {
   months = m.months;
   index = m.index;
   month = m.month;
   bounded = record { opening = m.bounded.opening; evaporated = m.bounded.evaporated; returned = m.bounded.returned; flow = m.bounded.flow; take = m.bounded.take; delivered = m.bounded.delivered };
 }
-in_month_more b valid series before i at l t (line.Call r) h n m = record {
+in_month_more b valid series fits before i at l t (line.Call r) h n m = record {
   months = m.months;
   index = m.index;
   month = m.month;
   bounded = record { opening = m.bounded.opening; evaporated = m.bounded.evaporated; returned = m.bounded.returned; flow = m.bounded.flow; take = m.bounded.take; delivered = m.bounded.delivered };
 }
-in_month_more b valid series before i at l t (line.Member k) h n m = by_call t.calling
+in_month_more b valid series fits before i at l t (line.Member k) h n m = by_call t.calling
   where
     by_call : (o : Option ℕ) → InMonth b before i (with_member t o k)
     by_call None = m
@@ -230,23 +230,23 @@ in_month_more b valid series before i at l t (line.Member k) h n m = by_call t.c
       month = m.month;
       bounded = record { opening = m.bounded.opening; evaporated = m.bounded.evaporated; returned = m.bounded.returned; flow = m.bounded.flow; take = m.bounded.take; delivered = m.bounded.delivered };
     }
-in_month_more b valid series before i at l t (line.Called r caller) h n m = record { months = m.months; index = m.index; month = m.month; bounded = m.bounded }
-in_month_more b valid series before i at l t (line.Amount quantity.Closing v amount) h n m = record {
+in_month_more b valid series fits before i at l t (line.Called r caller) h n m = record { months = m.months; index = m.index; month = m.month; bounded = m.bounded }
+in_month_more b valid series fits before i at l t (line.Amount quantity.Closing v amount) h n m = record {
   months = m.months;
   index = m.index;
   month = m.month;
   bounded = record { opening = m.bounded.opening; evaporated = m.bounded.evaporated; returned = m.bounded.returned; flow = m.bounded.flow; take = m.bounded.take; delivered = m.bounded.delivered };
 }
-in_month_more b valid series before i at l t line.End h n m = (let never : false ≡ true = h in cc)
-in_month_more b valid series before i at l t (line.Done months) h n m = m
+in_month_more b valid series fits before i at l t line.End h n m = (let never : false ≡ true = h in cc)
+in_month_more b valid series fits before i at l t (line.Done months) h n m = m
 
 -- all lines of a month so far
-pub in_month : (b : Basin) → IsValidBasin b → (series : Inflows) (before : List MonthRecord) (i : ℕ) → i ≡ length before → i < b.months → (xs : List Item) (t : Told) →
+pub in_month : (b : Basin) → IsValidBasin b → (series : Inflows) → IsSeriesOf b series → (before : List MonthRecord) (i : ℕ) → i ≡ length before → i < b.months → (xs : List Item) (t : Told) →
     list_all is_amid xs ≡ true → AreGood b series t xs → InMonth b before i t → InMonth b before i (fold (tell b series) t xs)
-in_month b valid series before i at l [] t h g m = m
-in_month b valid series before i at l (x ∷ xs) t h g m =
+in_month b valid series fits before i at l [] t h g m = m
+in_month b valid series fits before i at l (x ∷ xs) t h g m =
     let two = parts (is_amid x) (list_all is_amid xs) h in
-    in_month b valid series before i at l xs (tell b series t x) two.1 g.1 (in_month_more b valid series before i at l t x two.0 g.0 m)
+    in_month b valid series fits before i at l xs (tell b series t x) two.1 g.1 (in_month_more b valid series fits before i at l t x two.0 g.0 m)
   where
     parts : (p q : Bool) → p && q ≡ true → (p ≡ true) × (q ≡ true)
     parts true q e = (refl, e)

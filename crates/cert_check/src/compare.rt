@@ -11,7 +11,7 @@ ghost use Rattle.water_model.specs.History.{FitsBasin};
 ghost use Rattle.water_model.specs.Hydrology.{evaporation, run_month};
 ghost use Rattle.water_model.specs.Lookups.{of_entry};
 ghost use Rattle.water_model.specs.declared.types.Inflows.{Inflows};
-ghost use Rattle.water_model.specs.Valid.{IsValidBasin};
+ghost use Rattle.water_model.specs.Valid.{IsValidBasin, IsSeriesOf};
 ghost use Rattle.cert_check.specs.Checking as checking;
 ghost use Rattle.cert_check.specs.Shows.{Shows};
 
@@ -19,7 +19,7 @@ use reservoirs::AreaTable;
 use water_model::calls::{carry_of, want_of};
 use water_model::item::Item;
 use water_model::quantity::Quantity;
-use water_model::types::{Basin, MonthRecord, RightKind};
+use water_model::types::{Basin, Inflows, MonthRecord, RightKind};
 use water_text::month::Month;
 
 /// Whether a line is an `in` line.
@@ -172,6 +172,7 @@ fn amount_wrong(basin: &Basin, flow: &[u64], right: u32, amount: u64, want: u64)
 /// Whether a right's want is another, or what it is delivered is wrong by it.
 pub fn delivery_wrong(
     basin: &Basin,
+    series: &Inflows,
     month: &MonthRecord,
     right: u32,
     amount: u64,
@@ -179,13 +180,20 @@ pub fn delivery_wrong(
 ) -> bool
     requires basin { IsValidBasin basin.now }
     requires flow { length month.now.plan.flow ≡ length basin.now.links }
+    requires series { IsSeriesOf basin.now series.now }
     requires used { length month.now.used ≡ length basin.now.rights }
-    requires calendar { IsMonth month.now.month }
-    requires month { month.now.month ≡ run_month basin.now month.now.index }
+    requires index { month.now.index < basin.now.months }
     requires right { right < length basin.now.rights }
-    ensures { (series : Inflows) (t : Told) → Shows month.now t.now →
-        result ≡ checking.delivery_wrong basin.now series t right amount want }
+    ensures { (t : Told) → Shows month.now t.now →
+        result ≡ checking.delivery_wrong basin.now series.now t right amount want }
 {
-    !(want == want_of(basin, right, month.month, month.used[right as usize]))
+    !(want
+        == want_of(
+            basin,
+            series,
+            right,
+            month.index,
+            month.used[right as usize],
+        ))
         || amount_wrong(basin, month.plan.flow.as_slice(), right, amount, want)
 }

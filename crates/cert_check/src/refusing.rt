@@ -278,7 +278,14 @@ fn own_row(means: &Means, account: &Account, item: &Item) -> Option<RefutedKind>
             amount,
             want,
         } => kind_if(
-            compare::delivery_wrong(means.basin, &account.month, right, amount, want),
+            compare::delivery_wrong(
+                means.basin,
+                means.series,
+                &account.month,
+                right,
+                amount,
+                want,
+            ),
             RefutedKind::Delivery,
         ),
         _ => None,

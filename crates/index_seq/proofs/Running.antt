@@ -10,7 +10,7 @@ use Rattle.month_fold.specs.Runs.{RunSeen, StandsFor, run_pushes}
 use Rattle.reports.proofs.Room.{delivered_small}
 use Rattle.water_model.specs.History.{IsPartialHistory, IsHistory}
 use Rattle.water_model.specs.Places.{numbers_from}
-use Rattle.water_model.specs.Valid.{IsValidBasin}
+use Rattle.water_model.specs.Valid.{IsValidBasin, IsSeriesOf}
 use Rattle.water_model.specs.declared.types.Basin.{Basin}
 use Rattle.water_model.specs.declared.types.Inflows.{Inflows}
 use Rattle.water_model.specs.declared.types.MonthRecord.{MonthRecord}
@@ -54,9 +54,9 @@ month_fits b series records m so_far count partial = count ∙ sym (partial.each
 
 -- there is room for it
 pub month_room : (b : Basin) (series : Inflows) (trace years months : ℕ) (run : RunSeen) (all : List (List ℕ)) (so_far : List ℕ) (m : MonthRecord) → IsValidBasin b →
-    (u : IsUnderWay b series trace years months run all so_far) → IsPartialHistory b (begun_after series trace) (u.records ++ m ∷ []) →
+    IsSeriesOf b (begun_after series trace) → (u : IsUnderWay b series trace years months run all so_far) → IsPartialHistory b (begun_after series trace) (u.records ++ m ∷ []) →
     (r : ℕ) → r < length so_far → slice_index so_far r + slice_index m.delivered r < 2 ^ 64
-month_room b series trace years months run all so_far m valid u partial r l =
+month_room b series trace years months run all so_far m valid fits u partial r l =
     let f : MonthRecord → ℕ = λ k. slice_index k.delivered r in
     let within : r < length b.rights = omega (arith, u.year.count) in
     let most : length (u.records ++ m ∷ []) ≤ 1200 = omega (arith, partial.within, valid.run.months.1) in
@@ -65,7 +65,7 @@ month_room b series trace years months run all so_far m valid u partial r l =
       u.year.each r within,
       sum_by-take-drop f u.records (12 * years),
       sum_by_push f u.records m,
-      delivered_small b (begun_after series trace) (u.records ++ m ∷ []) r valid partial,
+      delivered_small b (begun_after series trace) (u.records ++ m ∷ []) r valid fits partial,
       most,
     )
 

@@ -2,7 +2,7 @@
 ghost use Rattle.std.specs.Prelude.{ℕ, List, ◌≡◌, ◌+◌, ◌*◌, ◌<◌, ◌≤◌, length, slice_index, IfOk, OnOk};
 ghost use Rattle.water_model.specs.Valid.{IsValidBasin, IsSeriesOf};
 ghost use Rattle.index_seq.specs.Sums.{IsUnderWay, HaveSums};
-ghost use Rattle.index_seq.specs.Traces.{HasWholeYears, years_of};
+ghost use Rattle.index_seq.specs.Traces.{HasWholeYears, begun_after, years_of};
 ghost use Rattle.senior_hold.specs.MonthNetwork.{month_pushes};
 ghost use Rattle.month_fold.specs.Runs.{run_pushes};
 
@@ -34,6 +34,7 @@ fn run_month<L: Ledger>(
     searches: &mut Steps<L>,
 )
     requires basin { IsValidBasin basin.now }
+    requires begun { IsSeriesOf basin.now (begun_after series.now at.trace) }
     requires left { run.old.done < basin.now.months }
     requires under_way { IsUnderWay basin.now series.now at.trace at.years at.months run.old sums.now year.old }
     ensures done { run.new.done ≡ run.old.done + 1 }
@@ -56,6 +57,7 @@ fn run_year<L: Ledger>(
     searches: &mut Steps<L>,
 )
     requires basin { IsValidBasin basin.now }
+    requires begun { IsSeriesOf basin.now (begun_after series.now trace) }
     requires left { run.old.done + 12 ≤ basin.now.months }
     requires under_way { IsUnderWay basin.now series.now trace years 0 run.old sums.now year.old }
     ensures done { run.new.done ≡ run.old.done + 12 }
@@ -84,6 +86,7 @@ fn next_year<L: Ledger>(
     searches: &mut Steps<L>,
 ) -> Result<(), AllocError>
     requires basin { IsValidBasin basin.now }
+    requires begun { IsSeriesOf basin.now (begun_after series.now trace) }
     requires left { run.old.done + 12 ≤ basin.now.months }
     requires under_way { IsUnderWay basin.now series.now trace years 0 run.old sums.old year.old }
     ensures done { OnOk result (run.new.done ≡ run.old.done + 12) }
@@ -107,6 +110,7 @@ fn run_years<L: Ledger>(
     searches: &mut Steps<L>,
 ) -> Result<(), AllocError>
     requires basin { IsValidBasin basin.now }
+    requires begun { IsSeriesOf basin.now (begun_after series.now trace) }
     requires whole { HasWholeYears basin.now }
     requires first { run.old.done ≡ 0 }
     requires under_way { IsUnderWay basin.now series.now trace 0 0 run.old sums.old year.old }

@@ -9,21 +9,22 @@ use Rattle.std.proofs.lemmas.Nat.{div-add-mod', div_below, mod_below, mul-le}
 use Rattle.water_text.specs.Months.{IsMonth}
 use Rattle.water_text.specs.declared.month.Month.{Month}
 use Rattle.water_model.specs.Hydrology.{run_month, place_in}
-use Rattle.water_model.specs.Valid.{gauged_nodes, is_gauged}
+use Rattle.water_model.specs.Valid.{HasFewEntries}
 use Rattle.water_model.specs.declared.types.Basin.{Basin}
 use Rattle.water_model.proofs.Gauges.{cell_within}
+use Rattle.inflow_file.specs.Columns.{IsColumn, column_numbers, count_of_both, is_column}
 use Rattle.inflow_file.specs.Entries.{IsEntry}
 use Rattle.inflow_file.specs.Given.{given}
 use Rattle.inflow_file.specs.SeriesFaults.{amount_for, due, is_same_month, months_of, repeats, is_in_run}
 use Rattle.inflow_file.specs.declared.entry.Entry.{Entry}
-use Rattle.inflow_file.proofs.NodeLaws.{passed_most, place_holds, place_of_passing}
+use Rattle.inflow_file.proofs.ColumnLaws.{passed_most, place_holds, place_of_passing}
 use Rattle.inflow_file.proofs.RunLaws.{both, same_number, same_itself, length-months, month_there, month_in_run, same_index, same_month_is, same_month_itself}
 
 or_none : {X : Type 0} (r : Option X) → option_or r None ≡ r
 or_none None = refl
 or_none (Some n) = refl
 
--- a table of months and nodes, row by row
+-- a table of months and numbers, row by row
 abbrev row_of : List ℕ → Month → List (Month × ℕ)
 row_of nodes month = map (λ node. (month, node)) nodes
 
@@ -60,70 +61,70 @@ grid_at (first ∷ months) nodes (suc i) g m n l k =
     ∙ (get_or-append-add (row_of nodes first) (grid months nodes) (i * length nodes + g) (m, n)
     ∙ grid_at months nodes i g m n (omega arith) k)
 
-abbrev pub gauges : Basin → ℕ
-gauges b = length (gauged_nodes b)
+abbrev pub width : Basin → ℕ
+width b = length (column_numbers b)
 
-pub length-due : (b : Basin) → length (due b) ≡ b.months * gauges b
-length-due b = length-grid (months_of b) (gauged_nodes b) ∙ ap (λ k. k * gauges b) (length-months b)
+pub length-due : (b : Basin) → length (due b) ≡ b.months * width b
+length-due b = length-grid (months_of b) (column_numbers b) ∙ ap (λ k. k * width b) (length-months b)
 
--- what stands in a month's row at a gauge
-pub due_at : (b : Basin) (i g : ℕ) (m : Month) → i < b.months → g < gauges b →
-    get_or (due b) (i * gauges b + g) (m, 0) ≡ (run_month b i, get_or (gauged_nodes b) g 0)
+-- what stands in a month's row at a column
+pub due_at : (b : Basin) (i g : ℕ) (m : Month) → i < b.months → g < width b →
+    get_or (due b) (i * width b + g) (m, 0) ≡ (run_month b i, get_or (column_numbers b) g 0)
 due_at b i g m l k =
-    grid_at (months_of b) (gauged_nodes b) i g m 0 (omega (arith, length-months b)) k
-    ∙ ap (λ (month : Month). (month, get_or (gauged_nodes b) g 0)) (month_there b i m l)
+    grid_at (months_of b) (column_numbers b) i g m 0 (omega (arith, length-months b)) k
+    ∙ ap (λ (month : Month). (month, get_or (column_numbers b) g 0)) (month_there b i m l)
 
-pub few_gauges : (b : Basin) → length b.nodes ≤ 2000 → gauges b ≤ 2000
-few_gauges b few = omega (arith, few, passed_most (λ n. is_gauged b n) (length b.nodes))
+pub few_columns : (b : Basin) → HasFewEntries b → width b ≤ 4000
+few_columns b few = omega (arith, few.nodes, few.rights, passed_most (λ n. is_column b n) (count_of_both b))
 
 -- the table is small enough for numbers of the machine
-pub small_table : (b : Basin) → b.months ≤ 1200 → length b.nodes ≤ 2000 → b.months * gauges b ≤ 2400000
-small_table b months few = small b.months (gauges b) months (few_gauges b few)
+pub small_table : (b : Basin) → b.months ≤ 1200 → HasFewEntries b → b.months * width b ≤ 4800000
+small_table b months few = small b.months (width b) months (few_columns b few)
   where
-    small : (m g : ℕ) → m ≤ 1200 → g ≤ 2000 → m * g ≤ 2400000
-    small m g h k = mul-le m g 1200 2000 h k
+    small : (m g : ℕ) → m ≤ 1200 → g ≤ 4000 → m * g ≤ 4800000
+    small m g h k = mul-le m g 1200 4000 h k
 
--- the gauge of a gauged node
-pub node_there : (b : Basin) (node : ℕ) → node < length b.nodes → is_gauged b node ≡ true →
-    (place_in (gauged_nodes b) node < gauges b) × (get_or (gauged_nodes b) (place_in (gauged_nodes b) node) 0 ≡ node)
-node_there b node l h = place_holds (λ n. is_gauged b n) 0 (length b.nodes) node node l (omega arith) h
+-- the place of a column
+pub column_there : (b : Basin) (n : ℕ) → IsColumn b n →
+    (place_in (column_numbers b) n < width b) × (get_or (column_numbers b) (place_in (column_numbers b) n) 0 ≡ n)
+column_there b n h = place_holds (λ k. is_column b k) 0 (count_of_both b) n n h.within (omega arith) h.due
 
-pub small_place : (b : Basin) (i node : ℕ) → b.months ≤ 1200 → length b.nodes ≤ 2000 → i < b.months → node < length b.nodes → is_gauged b node ≡ true →
-    (i * gauges b ≤ 2400000) × (i * gauges b + place_in (gauged_nodes b) node < b.months * gauges b)
-small_place b i node months few l k h =
-    let within = cell_within i b.months (gauges b) (place_in (gauged_nodes b) node) l (node_there b node k h).0 in
+pub small_place : (b : Basin) (i n : ℕ) → b.months ≤ 1200 → HasFewEntries b → i < b.months → IsColumn b n →
+    (i * width b ≤ 4800000) × (i * width b + place_in (column_numbers b) n < b.months * width b)
+small_place b i n months few l h =
+    let within = cell_within i b.months (width b) (place_in (column_numbers b) n) l (column_there b n h).0 in
     (omega (arith, within, small_table b months few), within)
 
--- the row and the gauge of a place
+-- the row and the column of a place
 pub record IsSplit (b : Basin) (k : ℕ) : Type 0 where
-  pub row : k / gauges b < b.months
-  pub gauge : k % gauges b < gauges b
-  pub place : k / gauges b * gauges b + k % gauges b ≡ k
+  pub row : k / width b < b.months
+  pub gauge : k % width b < width b
+  pub place : k / width b * width b + k % width b ≡ k
 
-pub split : (b : Basin) (k : ℕ) → k < b.months * gauges b → IsSplit b k
+pub split : (b : Basin) (k : ℕ) → k < b.months * width b → IsSplit b k
 split b k l =
-    let some : 0 < gauges b = some_gauge b.months (gauges b) l in
-    record { row = div_below k (gauges b) b.months some l; gauge = mod_below k (gauges b) some; place = div-add-mod' k (gauges b) }
+    let some : 0 < width b = some_gauge b.months (width b) l in
+    record { row = div_below k (width b) b.months some l; gauge = mod_below k (width b) some; place = div-add-mod' k (width b) }
   where
     some_gauge : (m g : ℕ) → k < m * g → 0 < g
     some_gauge m zero h = absurd (omega arith)
     some_gauge m (suc g) h = omega arith
 
-pub length-given : (b : Basin) (entries : List Entry) → length (given b entries) ≡ b.months * gauges b
+pub length-given : (b : Basin) (entries : List Entry) → length (given b entries) ≡ b.months * width b
 unfolding given
 length-given b entries = length-map (due b) (λ d. amount_for entries d.0 d.1) ∙ length-due b
 
-pub given_at : (b : Basin) (entries : List Entry) (i g : ℕ) → i < b.months → g < gauges b →
-    get_or (given b entries) (i * gauges b + g) None ≡ amount_for entries (run_month b i) (get_or (gauged_nodes b) g 0)
+pub given_at : (b : Basin) (entries : List Entry) (i g : ℕ) → i < b.months → g < width b →
+    get_or (given b entries) (i * width b + g) None ≡ amount_for entries (run_month b i) (get_or (column_numbers b) g 0)
 unfolding given
 given_at b entries i g l k =
-    let within : i * gauges b + g < length (due b) = rw (length-due b) (cell_within i b.months (gauges b) g l k) in
-    get_or-map (λ d. amount_for entries d.0 d.1) (due b) (i * gauges b + g) (run_month b i, 0) None within
+    let within : i * width b + g < length (due b) = rw (length-due b) (cell_within i b.months (width b) g l k) in
+    get_or-map (λ d. amount_for entries d.0 d.1) (due b) (i * width b + g) (run_month b i, 0) None within
     ∙ ap (λ (d : Month × ℕ). amount_for entries d.0 d.1) (due_at b i g (run_month b i) l k)
 
 -- one entry more
 abbrev is_for : Month → ℕ → Entry → Bool
-is_for month node e = is_same_month month e.month && e.node == node
+is_for month node e = is_same_month month e.month && e.column == node
 
 pub one_entry_more : (entries : List Entry) (e : Entry) (month : Month) (node : ℕ) →
     amount_for (entries ++ e ∷ []) month node ≡ option_or (amount_for entries month node) (if is_for month node e then Some e.amount else None)
@@ -140,64 +141,64 @@ one_entry_more (x ∷ entries) e month node = by_test (is_for month node x) (one
     by_test true h = refl
     by_test false h = h
 
--- each gauge has its own node
-pub own_gauge : (b : Basin) (g node : ℕ) → g < gauges b → get_or (gauged_nodes b) g 0 ≡ node → place_in (gauged_nodes b) node ≡ g
-own_gauge b g node l e = ap (place_in (gauged_nodes b)) (sym e) ∙ place_of_passing (λ n. is_gauged b n) 0 (length b.nodes) g l
+-- each column has its own place
+pub own_gauge : (b : Basin) (g node : ℕ) → g < width b → get_or (column_numbers b) g 0 ≡ node → place_in (column_numbers b) node ≡ g
+own_gauge b g node l e = ap (place_in (column_numbers b)) (sym e) ∙ place_of_passing (λ n. is_column b n) 0 (count_of_both b) g l
 
 abbrev pub place_for : Basin → ℕ → ℕ → ℕ
-place_for b i node = i * gauges b + place_in (gauged_nodes b) node
+place_for b i node = i * width b + place_in (column_numbers b) node
 
 -- an entry that is for a place of the table has this place
-same_place : (b : Basin) (e : Entry) (i k g : ℕ) → IsMonth b.first → k < b.months → g < gauges b → e.month ≡ run_month b i →
-    is_for (run_month b k) (get_or (gauged_nodes b) g 0) e ≡ true → k * gauges b + g ≡ place_for b i e.node
+same_place : (b : Basin) (e : Entry) (i k g : ℕ) → IsMonth b.first → k < b.months → g < width b → e.month ≡ run_month b i →
+    is_for (run_month b k) (get_or (column_numbers b) g 0) e ≡ true → k * width b + g ≡ place_for b i e.column
 same_place b e i k g first l m month h =
-    let tests = both (is_same_month (run_month b k) e.month) (e.node == get_or (gauged_nodes b) g 0) h in
+    let tests = both (is_same_month (run_month b k) e.month) (e.column == get_or (column_numbers b) g 0) h in
     let index : k ≡ i = same_index b k i first (same_month_is (run_month b k) e.month tests.0 ∙ month) in
-    let gauge : place_in (gauged_nodes b) e.node ≡ g = own_gauge b g e.node m (sym (same_number e.node (get_or (gauged_nodes b) g 0) tests.1)) in
+    let gauge : place_in (column_numbers b) e.column ≡ g = own_gauge b g e.column m (sym (same_number e.column (get_or (column_numbers b) g 0) tests.1)) in
     rw (index, gauge) refl
 
 -- an entry for a month of the run adds its amount, where there was none
 added_here : (b : Basin) (earlier : List Entry) (e : Entry) (i : ℕ) → IsEntry b e → i < b.months → e.month ≡ run_month b i →
-    amount_for earlier (run_month b i) e.node ≡ None → get_or (given b (earlier ++ e ∷ [])) (place_for b i e.node) None ≡ Some e.amount
+    amount_for earlier (run_month b i) e.column ≡ None → get_or (given b (earlier ++ e ∷ [])) (place_for b i e.column) None ≡ Some e.amount
 added_here b earlier e i entry l month absent =
-    let there = node_there b e.node entry.node entry.gauged in
-    let for_it : is_for (run_month b i) e.node e ≡ true = rw (month, same_month_itself (run_month b i), same_itself e.node) refl in
-    given_at b (earlier ++ e ∷ []) i (place_in (gauged_nodes b) e.node) l there.0
+    let there = column_there b e.column entry.column in
+    let for_it : is_for (run_month b i) e.column e ≡ true = rw (month, same_month_itself (run_month b i), same_itself e.column) refl in
+    given_at b (earlier ++ e ∷ []) i (place_in (column_numbers b) e.column) l there.0
     ∙ (ap (amount_for (earlier ++ e ∷ []) (run_month b i)) there.1
-    ∙ (one_entry_more earlier e (run_month b i) e.node ∙ rw (absent, for_it) refl))
+    ∙ (one_entry_more earlier e (run_month b i) e.column ∙ rw (absent, for_it) refl))
 
 kept_elsewhere : (b : Basin) (earlier : List Entry) (e : Entry) (i k n g : ℕ) → IsMonth b.first → e.month ≡ run_month b i →
-    n < b.months → g < gauges b → n * gauges b + g ≡ k → k ≢ place_for b i e.node → get_or (given b (earlier ++ e ∷ [])) k None ≡ get_or (given b earlier) k None
+    n < b.months → g < width b → n * width b + g ≡ k → k ≢ place_for b i e.column → get_or (given b (earlier ++ e ∷ [])) k None ≡ get_or (given b earlier) k None
 kept_elsewhere b earlier e i k n g first month row gauge place other =
-    let apart : is_for (run_month b n) (get_or (gauged_nodes b) g 0) e ≡ false = elim (cases_Bool (is_for (run_month b n) (get_or (gauged_nodes b) g 0) e)) [
+    let apart : is_for (run_month b n) (get_or (column_numbers b) g 0) e ≡ false = elim (cases_Bool (is_for (run_month b n) (get_or (column_numbers b) g 0) e)) [
       | inl here ↦ absurd (other (sym place ∙ same_place b e i n g first row gauge month here))
       | inr off ↦ off
     ] in
     rw (← place) (given_at b (earlier ++ e ∷ []) n g row gauge
-    ∙ (one_entry_more earlier e (run_month b n) (get_or (gauged_nodes b) g 0)
-    ∙ (rw apart (or_none (amount_for earlier (run_month b n) (get_or (gauged_nodes b) g 0)))
+    ∙ (one_entry_more earlier e (run_month b n) (get_or (column_numbers b) g 0)
+    ∙ (rw apart (or_none (amount_for earlier (run_month b n) (get_or (column_numbers b) g 0)))
     ∙ sym (given_at b earlier n g row gauge))))
 
 pub enters : (b : Basin) (earlier : List Entry) (e : Entry) (i : ℕ) → IsMonth b.first → IsEntry b e → i < b.months → e.month ≡ run_month b i →
-    amount_for earlier (run_month b i) e.node ≡ None → given b (earlier ++ e ∷ []) ≡ set (given b earlier) (place_for b i e.node) (Some e.amount)
+    amount_for earlier (run_month b i) e.column ≡ None → given b (earlier ++ e ∷ []) ≡ set (given b earlier) (place_for b i e.column) (Some e.amount)
 enters b earlier e i first entry l month absent =
-    ext_get_or None (given b (earlier ++ e ∷ [])) (set (given b earlier) (place_for b i e.node) (Some e.amount))
-    (length-given b (earlier ++ e ∷ []) ∙ sym (length-set (given b earlier) (place_for b i e.node) (Some e.amount) ∙ length-given b earlier))
-    (λ k below. at k (split b k (omega (arith, length-given b (earlier ++ e ∷ [])))) (cases_eq k (place_for b i e.node)))
+    ext_get_or None (given b (earlier ++ e ∷ [])) (set (given b earlier) (place_for b i e.column) (Some e.amount))
+    (length-given b (earlier ++ e ∷ []) ∙ sym (length-set (given b earlier) (place_for b i e.column) (Some e.amount) ∙ length-given b earlier))
+    (λ k below. at k (split b k (omega (arith, length-given b (earlier ++ e ∷ [])))) (cases_eq k (place_for b i e.column)))
   where
-    within : place_for b i e.node < length (given b earlier)
-    within = rw (length-given b earlier) (cell_within i b.months (gauges b) (place_in (gauged_nodes b) e.node) l (node_there b e.node entry.node entry.gauged).0)
+    within : place_for b i e.column < length (given b earlier)
+    within = rw (length-given b earlier) (cell_within i b.months (width b) (place_in (column_numbers b) e.column) l (column_there b e.column entry.column).0)
 
-    at : (k : ℕ) → IsSplit b k → (k ≡ place_for b i e.node) ⊎ (k ≡ place_for b i e.node → ⊥) →
-        get_or (given b (earlier ++ e ∷ [])) k None ≡ get_or (set (given b earlier) (place_for b i e.node) (Some e.amount)) k None
+    at : (k : ℕ) → IsSplit b k → (k ≡ place_for b i e.column) ⊎ (k ≡ place_for b i e.column → ⊥) →
+        get_or (given b (earlier ++ e ∷ [])) k None ≡ get_or (set (given b earlier) (place_for b i e.column) (Some e.amount)) k None
     at k s (inl here) =
         ap (λ j. get_or (given b (earlier ++ e ∷ [])) j None) here
         ∙ (added_here b earlier e i entry l month absent
-        ∙ (sym (get_or-set_same (given b earlier) (place_for b i e.node) (Some e.amount) None within)
-        ∙ ap (λ j. get_or (set (given b earlier) (place_for b i e.node) (Some e.amount)) j None) (sym here)))
+        ∙ (sym (get_or-set_same (given b earlier) (place_for b i e.column) (Some e.amount) None within)
+        ∙ ap (λ j. get_or (set (given b earlier) (place_for b i e.column) (Some e.amount)) j None) (sym here)))
     at k s (inr other) =
-        kept_elsewhere b earlier e i k (k / gauges b) (k % gauges b) first month s.row s.gauge s.place other
-        ∙ sym (get_or-set_other (given b earlier) (place_for b i e.node) k (Some e.amount) None other)
+        kept_elsewhere b earlier e i k (k / width b) (k % width b) first month s.row s.gauge s.place other
+        ∙ sym (get_or-set_other (given b earlier) (place_for b i e.column) k (Some e.amount) None other)
 
 -- an entry for a month outside the run adds nothing
 pub passes_by : (b : Basin) (earlier : List Entry) (e : Entry) → is_in_run b e.month ≡ false → given b (earlier ++ e ∷ []) ≡ given b earlier
@@ -207,7 +208,7 @@ passes_by b earlier e outside =
   where
     never : (n g : ℕ) → n < b.months → is_for (run_month b n) g e ≡ false
     never n g row = elim (cases_Bool (is_for (run_month b n) g e)) [
-      | inl here ↦ (let same : run_month b n ≡ e.month = same_month_is (run_month b n) e.month (both (is_same_month (run_month b n) e.month) (e.node == g) here).0 in
+      | inl here ↦ (let same : run_month b n ≡ e.month = same_month_is (run_month b n) e.month (both (is_same_month (run_month b n) e.month) (e.column == g) here).0 in
           let inside : is_in_run b e.month ≡ true = ap (is_in_run b) (sym same) ∙ month_in_run b n row in
           absurd (false≢true (sym outside ∙ inside)))
       | inr off ↦ off
@@ -215,10 +216,10 @@ passes_by b earlier e outside =
 
     at : (k : ℕ) → IsSplit b k → get_or (given b (earlier ++ e ∷ [])) k None ≡ get_or (given b earlier) k None
     at k s =
-        rw (← s.place) (given_at b (earlier ++ e ∷ []) (k / gauges b) (k % gauges b) s.row s.gauge
-        ∙ (one_entry_more earlier e (run_month b (k / gauges b)) (get_or (gauged_nodes b) (k % gauges b) 0)
-        ∙ (rw (never (k / gauges b) (get_or (gauged_nodes b) (k % gauges b) 0) s.row) (or_none (amount_for earlier (run_month b (k / gauges b)) (get_or (gauged_nodes b) (k % gauges b) 0)))
-        ∙ sym (given_at b earlier (k / gauges b) (k % gauges b) s.row s.gauge))))
+        rw (← s.place) (given_at b (earlier ++ e ∷ []) (k / width b) (k % width b) s.row s.gauge
+        ∙ (one_entry_more earlier e (run_month b (k / width b)) (get_or (column_numbers b) (k % width b) 0)
+        ∙ (rw (never (k / width b) (get_or (column_numbers b) (k % width b) 0) s.row) (or_none (amount_for earlier (run_month b (k / width b)) (get_or (column_numbers b) (k % width b) 0)))
+        ∙ sym (given_at b earlier (k / width b) (k % width b) s.row s.gauge))))
 
 -- what entering an entry does, where its month is outside the run
 pub outside_is : (b : Basin) (earlier : List Entry) (e : Entry) (amounts : List (Option ℕ)) → is_in_run b e.month ≡ false → amounts ≡ given b earlier →
@@ -227,27 +228,27 @@ outside_is b earlier e amounts outside is = (rw outside refl, is ∙ sym (passes
 
 -- where it has a place in the table, what stands there
 pub stands_there : (b : Basin) (earlier : List Entry) (e : Entry) (i : ℕ) (amounts : List (Option ℕ)) → IsEntry b e → i < b.months → e.month ≡ run_month b i → amounts ≡ given b earlier →
-    get_or amounts (place_for b i e.node) None ≡ amount_for earlier e.month e.node
+    get_or amounts (place_for b i e.column) None ≡ amount_for earlier e.month e.column
 stands_there b earlier e i amounts entry l month is =
-    let there = node_there b e.node entry.node entry.gauged in
-    ap (λ xs. get_or xs (place_for b i e.node) None) is
-    ∙ (given_at b earlier i (place_in (gauged_nodes b) e.node) l there.0
-    ∙ (ap (amount_for earlier (run_month b i)) there.1 ∙ ap (λ m. amount_for earlier m e.node) (sym month)))
+    let there = column_there b e.column entry.column in
+    ap (λ xs. get_or xs (place_for b i e.column) None) is
+    ∙ (given_at b earlier i (place_in (column_numbers b) e.column) l there.0
+    ∙ (ap (amount_for earlier (run_month b i)) there.1 ∙ ap (λ m. amount_for earlier m e.column) (sym month)))
 
 pub repeated_is : (b : Basin) (earlier : List Entry) (e : Entry) (i : ℕ) (amounts : List (Option ℕ)) → IsEntry b e → i < b.months → e.month ≡ run_month b i → amounts ≡ given b earlier →
-    is_some (get_or amounts (place_for b i e.node) None) ≡ repeats b earlier e
+    is_some (get_or amounts (place_for b i e.column) None) ≡ repeats b earlier e
 repeated_is b earlier e i amounts entry l month is =
     let inside : is_in_run b e.month ≡ true = ap (is_in_run b) month ∙ month_in_run b i l in
     rw (inside, stands_there b earlier e i amounts entry l month is) refl
 
 pub entered_is : (b : Basin) (earlier : List Entry) (e : Entry) (i : ℕ) (amounts : List (Option ℕ)) → IsMonth b.first → IsEntry b e → i < b.months → e.month ≡ run_month b i →
-    amounts ≡ given b earlier → is_some (get_or amounts (place_for b i e.node) None) ≡ false →
-    (repeats b earlier e ≡ false) × (set amounts (place_for b i e.node) (Some e.amount) ≡ given b (earlier ++ e ∷ []))
+    amounts ≡ given b earlier → is_some (get_or amounts (place_for b i e.column) None) ≡ false →
+    (repeats b earlier e ≡ false) × (set amounts (place_for b i e.column) (Some e.amount) ≡ given b (earlier ++ e ∷ []))
 entered_is b earlier e i amounts first entry l month is free =
-    let absent : amount_for earlier (run_month b i) e.node ≡ None =
-    ap (λ m. amount_for earlier m e.node) (sym month) ∙ (sym (stands_there b earlier e i amounts entry l month is) ∙ none_there _ free) in (
+    let absent : amount_for earlier (run_month b i) e.column ≡ None =
+    ap (λ m. amount_for earlier m e.column) (sym month) ∙ (sym (stands_there b earlier e i amounts entry l month is) ∙ none_there _ free) in (
       sym (repeated_is b earlier e i amounts entry l month is) ∙ free,
-      ap (λ xs. set xs (place_for b i e.node) (Some e.amount)) is ∙ sym (enters b earlier e i first entry l month absent),
+      ap (λ xs. set xs (place_for b i e.column) (Some e.amount)) is ∙ sym (enters b earlier e i first entry l month absent),
     )
   where
     none_there : (r : Option ℕ) → is_some r ≡ false → r ≡ None
@@ -259,6 +260,6 @@ none_of : (ds : List (Month × ℕ)) → map (λ d. amount_for [] d.0 d.1) ds �
 none_of [] = refl
 none_of (d ∷ ds) = ap (λ xs. None ∷ xs) (none_of ds)
 
-pub none_given : (b : Basin) → given b [] ≡ replicate (b.months * gauges b) None
+pub none_given : (b : Basin) → given b [] ≡ replicate (b.months * width b) None
 unfolding given
 none_given b = none_of (due b) ∙ ap (λ n. replicate n None) (length-due b)

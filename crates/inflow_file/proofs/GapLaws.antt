@@ -1,37 +1,38 @@
 -- The first amount that is missing, and the series where none is.
-use Rattle.std.proofs.Common.{◌≡◌, ℕ, zero, suc, ◌+◌, ◌*◌, ◌/◌, ◌%◌, ◌^◌, ◌<◌, ◌≤◌, Bool, true, false, refl, sym, ap, ◌∙◌, arith, List, [], ◌∷◌, length, get_or, map, filter, Option, Some, None, if◌then◌else◌, is_some, option_map, unwrap_or, slice_get, All, Ok, Err, Result}
-use Rattle.std.specs.Prelude.{◌==◌, ◌&&◌, not}
+use Rattle.std.proofs.Common.{◌≡◌, ℕ, zero, suc, ◌+◌, ◌*◌, ◌/◌, ◌%◌, ◌^◌, ◌<◌, ◌≤◌, Bool, true, false, refl, sym, ap, ◌∙◌, arith, List, [], ◌∷◌, ◌++◌, length, get_or, map, Option, Some, None, if◌then◌else◌, is_some, option_map, unwrap_or, slice_get, All, Ok, Err, Result, inl, inr, subst}
+use Rattle.std.specs.Prelude.{◌==◌, ◌&&◌, not, IfOk, IfErr, OnOk}
 use Rattle.std.specs.List.{find, cons_option}
 use Rattle.std.specs.Result.{result_ok}
-use Rattle.std.proofs.lemmas.Bool.{false≢true}
-use Rattle.std.proofs.lemmas.List.{length-map, get_or-map}
-use Rattle.std.proofs.lemmas.List.Elements.{All-from_get_or, All-nil}
-use Rattle.std.proofs.lemmas.Option.{get_or_from_slice_get, same_Some, slice_get_within}
+use Rattle.std.proofs.lemmas.Bool.{cases_lt, false≢true}
+use Rattle.std.proofs.lemmas.List.{get_or-map, get_or_append_left, get_or_push}
+use Rattle.std.proofs.lemmas.List.Elements.{All-from_get_or}
+use Rattle.std.proofs.lemmas.Nat.{div-mul-add, mod-mul-add, div_below, mod_below}
+use Rattle.std.proofs.lemmas.Option.{same_Some}
 use Rattle.water_text.specs.Amounts.{read_amount}
 use Rattle.water_text.specs.Months.{read_month}
 use Rattle.water_text.specs.declared.month.Month.{Month}
 use Rattle.water_model.specs.Hydrology.{run_month, place_in, inflow_at, inflow_of_kind, table_at}
-use Rattle.water_model.specs.Lookups.{of_entry}
-use Rattle.water_model.specs.Places.{numbers_from}
-use Rattle.water_model.specs.Valid.{IsSeriesOf, IsValidBasin, IsValidRight, gauged_nodes, is_gauged, is_gauged_kind, rights_in_series}
+use Rattle.water_model.specs.Valid.{IsSeriesOf, gauged_nodes, is_gauged, is_gauged_kind, is_in_series, rights_in_series}
 use Rattle.water_model.specs.declared.types.Basin.{Basin}
 use Rattle.water_model.specs.declared.types.Inflow.{Inflow}
 use Rattle.water_model.specs.declared.types.Inflow.TheVariants.{Monthly, Gauged}
 use Rattle.water_model.specs.declared.types.Inflows.{Inflows}
 use Rattle.water_model.specs.declared.types.Node.{Node}
-use Rattle.water_model.specs.declared.types.Right.{Right}
 use Rattle.water_text.proofs.AmountLaws.{amount_is_read}
 use Rattle.water_model.proofs.Gauges.{cell_within}
-use Rattle.inflow_file.specs.Entries.{need, node_named, read_record}
-use Rattle.inflow_file.specs.Given.{given, given_by}
-use Rattle.inflow_file.specs.Readable.{IsReadable}
-use Rattle.inflow_file.specs.SeriesFaults.{IsRefusalOf, SpellsAmounts, amount_for, due, entries_of, is_same_month, missing}
+use Rattle.inflow_file.specs.Cells.{IsPart}
+use Rattle.inflow_file.specs.Columns.{IsColumn, column_numbers, right_number}
+use Rattle.inflow_file.specs.Entries.{column_of, go_on, need, read_record}
+use Rattle.inflow_file.specs.CsvRecords.{records_of}
+use Rattle.inflow_file.specs.Given.{Completes, TookTable, given, given_by}
+use Rattle.inflow_file.specs.SeriesFaults.{IsRefusalOf, IsSeriesRefusal, SpellsAmounts, SpellsSeries, amount_for, body_of, series_fault, due, entries_of, is_same_month, missing, missing_of}
 use Rattle.inflow_file.specs.declared.entry.Entry.{Entry}
 use Rattle.inflow_file.specs.declared.refused.SeriesFault.{SeriesFault}
 use Rattle.inflow_file.specs.declared.refused.SeriesFault.TheVariants as fault
 use Rattle.inflow_file.specs.declared.refused.SeriesRefused.{SeriesRefused}
 use Rattle.inflow_file.specs.declared.refused.SeriesRefused.TheVariants as refused
-use Rattle.inflow_file.proofs.DueLaws.{IsSplit, due_at, gauges, given_at, length-due, length-given, node_there, split}
+use Rattle.inflow_file.proofs.ColumnLaws.{count_of_columns, is_gauge, is_want, place_holds, place_of_gauge, place_of_want}
+use Rattle.inflow_file.proofs.DueLaws.{IsSplit, column_there, due_at, given_at, length-due, length-given, split, width}
 
 -- the first element that passes a test, by its place
 find_first : {X : Type 0} (p : X → Bool) (xs : List X) (k : ℕ) (d : X) → k < length xs → ((j : ℕ) → j < k → p (get_or xs j d) ≡ false) →
@@ -54,7 +55,7 @@ given_there b entries k d l = get_or-map (λ e. amount_for entries e.0 e.1) (due
 pub none_missing : (b : Basin) (entries : List Entry) (amounts : List (Option ℕ)) → amounts ≡ given b entries →
     ((k : ℕ) → k < length amounts → is_some (get_or amounts k None) ≡ true) → missing b entries ≡ None
 none_missing b entries amounts is all =
-    ap (option_map (λ (d : Month × ℕ). refused.Missing d.0 d.1))
+    ap (option_map (λ (d : Month × ℕ). missing_of b d.0 d.1))
     (find_none (λ d. not (is_some (amount_for entries d.0 d.1))) (due b) (b.first, 0) (λ k l. there k l (all k (rw is (rw (length-given b entries) (rw (← length-due b) l))))))
   where
     there : (k : ℕ) → k < length (due b) → is_some (get_or amounts k None) ≡ true →
@@ -64,9 +65,9 @@ none_missing b entries amounts is all =
 -- the first that isn't
 pub first_missing : (b : Basin) (entries : List Entry) (amounts : List (Option ℕ)) (k : ℕ) → amounts ≡ given b entries → k < length amounts →
     ((j : ℕ) → j < k → is_some (get_or amounts j None) ≡ true) → is_some (get_or amounts k None) ≡ false →
-    missing b entries ≡ Some (refused.Missing (run_month b (k / gauges b)) (get_or (gauged_nodes b) (k % gauges b) 0))
+    missing b entries ≡ Some (missing_of b (run_month b (k / width b)) (get_or (column_numbers b) (k % width b) 0))
 first_missing b entries amounts k is l before here =
-    ap (option_map (λ (d : Month × ℕ). refused.Missing d.0 d.1))
+    ap (option_map (λ (d : Month × ℕ). missing_of b d.0 d.1))
     (find_first (λ d. not (is_some (amount_for entries d.0 d.1))) (due b) k (b.first, 0) within (λ j m. tested j (omega (arith, within)) true (before j m)) (tested k within false here)
     ∙ ap (λ d. Some d) (pair (split b k (rw (← length-due b) within))))
   where
@@ -77,8 +78,8 @@ first_missing b entries amounts k is l before here =
         not (is_some (amount_for entries (get_or (due b) j (b.first, 0)).0 (get_or (due b) j (b.first, 0)).1)) ≡ not t
     tested j m t h = rw (← given_there b entries j (b.first, 0) m, ← is, h) refl
 
-    pair : IsSplit b k → get_or (due b) k (b.first, 0) ≡ (run_month b (k / gauges b), get_or (gauged_nodes b) (k % gauges b) 0)
-    pair s = ap (λ j. get_or (due b) j (b.first, 0)) (sym s.place) ∙ due_at b (k / gauges b) (k % gauges b) b.first s.row s.gauge
+    pair : IsSplit b k → get_or (due b) k (b.first, 0) ≡ (run_month b (k / width b), get_or (column_numbers b) (k % width b) 0)
+    pair s = ap (λ j. get_or (due b) j (b.first, 0)) (sym s.place) ∙ due_at b (k / width b) (k % width b) b.first s.row s.gauge
 
 abbrev AreSmall : List Entry → Type 0
 AreSmall [] = Unit {0}
@@ -97,28 +98,36 @@ needed f (Some x) next y e = record { value = x; there = refl; gave = e }
 same_ok : (x y : Entry) → ◌≡◌ {A = Result Entry SeriesFault} (Ok x) (Ok y) → x ≡ y
 same_ok x y e = cc
 
--- the last step of reading a record: the amount of a node that is gauged
-abbrev amount_in : List ℕ → Month → ℕ → Bool → Result Entry SeriesFault
-amount_in amount m n gauged =
-    if gauged then need fault.BadAmount (read_amount amount (10 ^ 9)) (λ a. Ok (record { month = m; node = n; amount = a })) else Err fault.NotGauged
+-- what came of what was found
+record IsGoneOn {X Y : Type 0} (r : Result X SeriesFault) (next : X → Result Y SeriesFault) (y : Y) : Type 0 where
+  value : X
+  gave : next value ≡ Ok y
 
-small_in : (amount : List ℕ) (m : Month) (n : ℕ) (gauged : Bool) (e : Entry) → amount_in amount m n gauged ≡ Ok e → e.amount ≤ 10 ^ 9
-small_in amount m n false e h = cc
-small_in amount m n true e h =
-    let a = needed fault.BadAmount (read_amount amount (10 ^ 9)) (λ a. Ok (record { month = m; node = n; amount = a })) e h in
-    let same : record { month = m; node = n; amount = a.value } ≡ e = same_ok (record { month = m; node = n; amount = a.value }) e a.gave in
+gone_on : {X Y : Type 0} (r : Result X SeriesFault) (next : X → Result Y SeriesFault) (y : Y) → go_on r next ≡ Ok y → IsGoneOn r next y
+gone_on (Err f) next y e = cc
+gone_on (Ok x) next y e = record { value = x; gave = e }
+
+-- the last steps of reading a record
+abbrev amount_in : List ℕ → Month → ℕ → Result Entry SeriesFault
+amount_in amount m n = need fault.BadAmount (read_amount amount (10 ^ 9)) (λ a. Ok (record { month = m; column = n; amount = a }))
+
+small_in : (amount : List ℕ) (m : Month) (n : ℕ) (e : Entry) → amount_in amount m n ≡ Ok e → e.amount ≤ 10 ^ 9
+small_in amount m n e h =
+    let a = needed fault.BadAmount (read_amount amount (10 ^ 9)) (λ a. Ok (record { month = m; column = n; amount = a })) e h in
+    let same : record { month = m; column = n; amount = a.value } ≡ e = same_ok (record { month = m; column = n; amount = a.value }) e a.gave in
     rw (← ap (λ (x : Entry). x.amount) same) (amount_is_read amount (10 ^ 9) a.value a.there).within
 
 small_record : (b : Basin) (row : List (List ℕ)) (e : Entry) → read_record b row ≡ Ok e → e.amount ≤ 10 ^ 9
 unfolding read_record
 small_record b [] e h = cc
 small_record b (month ∷ []) e h = cc
-small_record b (month ∷ name ∷ []) e h = cc
-small_record b (month ∷ name ∷ amount ∷ other ∷ row) e h = cc
-small_record b (month ∷ name ∷ amount ∷ []) e h =
-    let m = needed fault.BadMonth (read_month month) (λ m. need fault.NoSuchNode (node_named b name) (λ n. amount_in amount m n (is_gauged b n))) e h in
-    let n = needed fault.NoSuchNode (node_named b name) (λ n. amount_in amount m.value n (is_gauged b n)) e m.gave in
-    small_in amount m.value n.value (is_gauged b n.value) e n.gave
+small_record b (month ∷ kind ∷ []) e h = cc
+small_record b (month ∷ kind ∷ name ∷ []) e h = cc
+small_record b (month ∷ kind ∷ name ∷ amount ∷ other ∷ row) e h = cc
+small_record b (month ∷ kind ∷ name ∷ amount ∷ []) e h =
+    let m = needed fault.BadMonth (read_month month) (λ m. go_on (column_of b kind name) (λ n. amount_in amount m n)) e h in
+    let n = gone_on (column_of b kind name) (λ n. amount_in amount m.value n) e m.gave in
+    small_in amount m.value n.value e n.gave
 
 small_entries : (b : Basin) (rows : List (List (List ℕ))) → AreSmall (entries_of b rows)
 small_entries b [] = tt
@@ -129,12 +138,12 @@ small_entries b (row ∷ rows) = by_read (read_record b row) refl (small_entries
     by_read (Ok e) h further = (small_record b row e h, further)
     by_read (Err f) h further = further
 
-small_given : (entries : List Entry) (month : Month) (node a : ℕ) → AreSmall entries → amount_for entries month node ≡ Some a → a ≤ 10 ^ 9
-small_given [] month node a small e = cc
-small_given (x ∷ entries) month node a small e = by_test (is_same_month month x.month && x.node == node) e (small_given entries month node a small.1)
+small_given : (entries : List Entry) (month : Month) (n a : ℕ) → AreSmall entries → amount_for entries month n ≡ Some a → a ≤ 10 ^ 9
+small_given [] month n a small e = cc
+small_given (x ∷ entries) month n a small e = by_test (is_same_month month x.month && x.column == n) e (small_given entries month n a small.1)
   where
-    by_test : (t : Bool) → option_map (λ (y : Entry). y.amount) (if t then Some x else find (λ y. is_same_month month y.month && y.node == node) entries) ≡ Some a →
-        (amount_for entries month node ≡ Some a → a ≤ 10 ^ 9) → a ≤ 10 ^ 9
+    by_test : (t : Bool) → option_map (λ (y : Entry). y.amount) (if t then Some x else find (λ y. is_same_month month y.month && y.column == n) entries) ≡ Some a →
+        (amount_for entries month n ≡ Some a → a ≤ 10 ^ 9) → a ≤ 10 ^ 9
     by_test true h further = rw (← same_Some x.amount a h) small.0
     by_test false h further = further h
 
@@ -151,81 +160,140 @@ inflow_gauged b series node i h = by_entry (slice_get b.nodes node) h
         by_kind (Monthly amounts) f = absurd (false≢true f)
         by_kind Gauged f = refl
 
--- a series in which each amount that is due stands as it was given
-pub record IsFilled (amounts : List (Option ℕ)) (filled : List ℕ) : Type 0 where
-  pub all : (k : ℕ) → k < length amounts → is_some (get_or amounts k None) ≡ true
-  pub filled_is : filled ≡ map (λ a. unwrap_or a 0) amounts
+-- all amounts are there
+abbrev pub AreThere : List (Option ℕ) → Type 0
+AreThere amounts = (k : ℕ) → k < length amounts → is_some (get_or amounts k None) ≡ true
 
 some_is : (o : Option ℕ) → is_some o ≡ true → o ≡ Some (unwrap_or o 0)
 some_is None h = absurd (false≢true h)
 some_is (Some n) h = refl
 
-filled_at : (amounts : List (Option ℕ)) (filled : List ℕ) (k : ℕ) → IsFilled amounts filled → k < length amounts → get_or amounts k None ≡ Some (get_or filled k 0)
-filled_at amounts filled k h l =
-    some_is (get_or amounts k None) (h.all k l)
-    ∙ ap (λ n. Some n) (sym (ap (λ xs. get_or xs k 0) h.filled_is ∙ get_or-map (λ a. unwrap_or a 0) amounts k None 0 l))
+-- one amount more
+pub part_more : (f : ℕ → ℕ) (part : List ℕ) (n k x : ℕ) → length part ≡ n → ((m : ℕ) → m < n → get_or part m 0 ≡ f m) → x ≡ f n → k < n + 1 →
+    get_or (part ++ x ∷ []) k 0 ≡ f k
+part_more f part n k x count each is l =
+    elim (cases_lt k n) [
+      | inl below ↦ get_or_append_left part (x ∷ []) 0 k (omega arith) ∙ each k below
+      | inr past ↦ let same : k ≡ n = omega arith in rw same (get_or_push part x 0 n count ∙ is)
+    ]
 
-pub small_filled : (b : Basin) (rows : List (List (List ℕ))) (amounts : List (Option ℕ)) (filled : List ℕ) → amounts ≡ given_by b rows → IsFilled amounts filled →
-    All (λ n. n ≤ 10 ^ 9) filled
-small_filled b rows amounts filled is h = All-from_get_or (λ n. n ≤ 10 ^ 9) filled 0 (λ k l. small k (rw (length-filled) at l))
+-- a place below so many columns of months is one of some column
+pub some_column : (k m g : ℕ) → k < m * g → 0 < g
+some_column k m zero h = absurd (omega arith)
+some_column k m (suc g) h = omega arith
+
+-- where the amount at a place of a part stands among all
+pub cell_below : (k all from months count : ℕ) → from + count ≤ all → k < months * count → k / count * all + from + k % count < months * all
+cell_below k all from months count h l =
+    let some : 0 < count = some_column k months count l in
+    let row = div_below k count months some l in
+    let column = mod_below k count some in
+    let cell = cell_within (k / count) months all (from + k % count) row (omega arith) in
+    omega (arith, cell)
+
+part_at : (amounts : List (Option ℕ)) (w from months count : ℕ) (part : List ℕ) (k : ℕ) → AreThere amounts → length amounts ≡ months * w → from + count ≤ w →
+    IsPart amounts w from months count part → k < months * count → get_or amounts (k / count * w + from + k % count) None ≡ Some (get_or part k 0)
+part_at amounts w from months count part k all cells fits h l =
+    let below = cell_below k w from months count fits l in
+    some_is (get_or amounts (k / count * w + from + k % count) None) (all (k / count * w + from + k % count) (omega (arith, below, cells)))
+    ∙ ap (λ n. Some n) (sym (h.each k l))
+
+small_part : (b : Basin) (rows : List (List (List ℕ))) (amounts : List (Option ℕ)) (from count : ℕ) (part : List ℕ) → amounts ≡ given_by b rows → AreThere amounts →
+    from + count ≤ width b → IsPart amounts (width b) from b.months count part → All (λ n. n ≤ 10 ^ 9) part
+small_part b rows amounts from count part is all fits h =
+    All-from_get_or (λ n. n ≤ 10 ^ 9) part 0 (λ k l. small k (rw h.count_is at l))
   where
-    length-filled : length filled ≡ length amounts
-    length-filled = ap length h.filled_is ∙ length-map amounts (λ a. unwrap_or a 0)
-
-    small : (k : ℕ) → k < length amounts → get_or filled k 0 ≤ 10 ^ 9
+    small : (k : ℕ) → k < b.months * count → get_or part k 0 ≤ 10 ^ 9
     small k l =
-        let within : k < length (due b) = rw (length-due b) (rw (← length-given b (entries_of b rows)) (rw (← is) l)) in
-        small_given (entries_of b rows) (get_or (due b) k (b.first, 0)).0 (get_or (due b) k (b.first, 0)).1 (get_or filled k 0) (small_entries b rows)
-        (sym (given_there b (entries_of b rows) k (b.first, 0) within) ∙ (ap (λ xs. get_or xs k None) (sym is) ∙ filled_at amounts filled k h l))
+        let cell : ℕ = k / count * width b + from + k % count in
+        let below : cell < b.months * width b = cell_below k (width b) from b.months count fits l in
+        let within : cell < length (due b) = omega (arith, length-due b) in
+        small_given (entries_of b rows) (get_or (due b) cell (b.first, 0)).0 (get_or (due b) cell (b.first, 0)).1 (get_or part k 0) (small_entries b rows)
+        (sym (given_there b (entries_of b rows) cell (b.first, 0) within) ∙ (ap (λ xs. get_or xs cell None) (sym is)
+        ∙ part_at amounts (width b) from b.months count part k all (ap length is ∙ length-given b (entries_of b rows)) fits h l))
 
--- what the filled table says is what the entries say
-pub spelled : (b : Basin) (rows : List (List (List ℕ))) (series : Inflows) (amounts : List (Option ℕ)) (node i : ℕ) → amounts ≡ given_by b rows → IsFilled amounts series.amount →
-    series.gauged ≡ gauged_nodes b → node < length b.nodes → is_gauged b node ≡ true → i < b.months →
-    amount_for (entries_of b rows) (run_month b i) node ≡ Some (inflow_at b series node i)
-spelled b rows series amounts node i is filled gauged l g m =
-    let there = node_there b node l g in
-    let within : i * gauges b + place_in (gauged_nodes b) node < length amounts = rw is (rw (length-given b (entries_of b rows)) (cell_within i b.months (gauges b) (place_in (gauged_nodes b) node) m there.0)) in
+-- what a part says of a column is what the entries say
+part_says : (b : Basin) (rows : List (List (List ℕ))) (amounts : List (Option ℕ)) (from count : ℕ) (part : List ℕ) (i g n : ℕ) → amounts ≡ given_by b rows → AreThere amounts →
+    from + count ≤ width b → IsPart amounts (width b) from b.months count part → i < b.months → g < count → IsColumn b n → place_in (column_numbers b) n ≡ from + g →
+    amount_for (entries_of b rows) (run_month b i) n ≡ Some (get_or part (i * count + g) 0)
+part_says b rows amounts from count part i g n is all fits h l k column place =
+    let there = column_there b n column in
+    let within : i * count + g < b.months * count = cell_within i b.months count g l k in
+    let at : (i * count + g) / count * width b + from + (i * count + g) % count ≡ i * width b + place_in (column_numbers b) n =
+    rw (div-mul-add i count g k, mod-mul-add i count g k, place) (omega arith) in
     ap (amount_for (entries_of b rows) (run_month b i)) (sym there.1)
-    ∙ (sym (given_at b (entries_of b rows) i (place_in (gauged_nodes b) node) m there.0)
-    ∙ (ap (λ xs. get_or xs (i * gauges b + place_in (gauged_nodes b) node) None) (sym is)
-    ∙ (filled_at amounts series.amount (i * gauges b + place_in (gauged_nodes b) node) filled within
-    ∙ ap (λ n. Some n) (sym (inflow_gauged b series node i g ∙ ap (λ xs. table_at xs series.amount i node) gauged)))))
+    ∙ (sym (given_at b (entries_of b rows) i (place_in (column_numbers b) n) l there.0)
+    ∙ (ap (λ xs. get_or xs (i * width b + place_in (column_numbers b) n) None) (sym is)
+    ∙ (ap (λ j. get_or amounts j None) (sym at)
+    ∙ part_at amounts (width b) from b.months count part (i * count + g) all (ap length is ∙ length-given b (entries_of b rows)) fits h within)))
 
--- no right of a valid basin of format 1 stands in the series
-none_marked : (p : ℕ → Bool) (from count : ℕ) → ((k : ℕ) → k < from + count → p k ≡ false) → filter p (numbers_from from count) ≡ []
-unfolding numbers_from
-none_marked p from zero h = refl
-none_marked p from (suc count) h = rw (h from (omega arith)) (none_marked p (suc from) count (λ k l. h k (omega arith)))
+-- a table of all amounts is the series of a faultless one
+pub record AreParts (b : Basin) (amounts : List (Option ℕ)) (series : Inflows) : Type 0 where
+  pub there : AreThere amounts
+  pub gauged : series.gauged ≡ gauged_nodes b
+  pub wanted : series.wanted ≡ rights_in_series b
+  pub amount : IsPart amounts (width b) 0 b.months (length (gauged_nodes b)) series.amount
+  pub want : IsPart amounts (width b) (length (gauged_nodes b)) b.months (length (rights_in_series b)) series.want
 
-no_rights : (b : Basin) → All (λ r. IsValidRight b r) b.rights → rights_in_series b ≡ []
-no_rights b valid = none_marked (λ r. of_entry b.rights r (λ right. right.series) false) 0 (length b.rights) (λ k l. by_entry k (slice_get b.rights k) refl)
-  where
-    by_entry : (k : ℕ) (o : Option Right) → slice_get b.rights k ≡ o → unwrap_or (option_map (λ (r : Right). r.series) o) false ≡ false
-    by_entry k None e = refl
-    by_entry k (Some r) e =
-        ap (λ (x : Right). x.series) (sym (get_or_from_slice_get b.rights k r r e)) ∙ (valid k r (slice_get_within b.rights k r e)).no_series
-
--- a filled table is the series of a faultless one
-pub complete_series : (b : Basin) (rows : List (List (List ℕ))) (amounts : List (Option ℕ)) (series : Inflows) → IsReadable b → amounts ≡ given_by b rows →
-    IsFilled amounts series.amount → series.gauged ≡ gauged_nodes b → series.wanted ≡ [] → series.want ≡ [] →
-    (missing b (entries_of b rows) ≡ None) × IsSeriesOf b series × SpellsAmounts b rows series
-complete_series b rows amounts series readable is filled gauged wanted want = (
-  none_missing b (entries_of b rows) amounts is filled.all,
+pub complete_series : (b : Basin) (rows : List (List (List ℕ))) (amounts : List (Option ℕ)) (series : Inflows) → amounts ≡ given_by b rows →
+    AreParts b amounts series → (missing b (entries_of b rows) ≡ None) × IsSeriesOf b series × SpellsAmounts b rows series
+complete_series b rows amounts series is parts = (
+  none_missing b (entries_of b rows) amounts is parts.there,
   record {
-    gauged = gauged;
-    amounts = ap length filled.filled_is ∙ (length-map amounts (λ a. unwrap_or a 0) ∙ (ap length is ∙ (length-given b (entries_of b rows) ∙ ap (λ xs. b.months * length xs) (sym gauged))));
-    small_amounts = small_filled b rows amounts series.amount is filled;
-    wanted = wanted ∙ sym readable.rights;
-    wants = rw (want, wanted) (omega arith);
-    small_wants = rw want (All-nil (λ n. n ≤ 10 ^ 9));
+    gauged = parts.gauged;
+    amounts = parts.amount.count_is ∙ ap (λ xs. b.months * length xs) (sym parts.gauged);
+    small_amounts = small_part b rows amounts 0 (length (gauged_nodes b)) series.amount is parts.there gauges_fit parts.amount;
+    wanted = parts.wanted;
+    wants = parts.want.count_is ∙ ap (λ xs. b.months * length xs) (sym parts.wanted);
+    small_wants = small_part b rows amounts (length (gauged_nodes b)) (length (rights_in_series b)) series.want is parts.there wants_fit parts.want;
   },
-  record { each = λ node i l g m. spelled b rows series amounts node i is filled gauged l g m },
+  record {
+    each = λ node i l g m.
+        part_says b rows amounts 0 (length (gauged_nodes b)) series.amount i (place_in (gauged_nodes b) node) node is parts.there gauges_fit parts.amount m (gauge_there node l g) (is_gauge b node l g)
+        (omega (arith, place_of_gauge b node l g))
+        ∙ ap (λ n. Some n) (sym (inflow_gauged b series node i g ∙ ap (λ xs. table_at xs series.amount i node) parts.gauged));
+    wants = λ right i l w m.
+        part_says b rows amounts (length (gauged_nodes b)) (length (rights_in_series b)) series.want i (place_in (rights_in_series b) right) (right_number b right) is parts.there wants_fit parts.want m
+        (want_within right l w) (is_want b right l w) (place_of_want b right l w)
+        ∙ ap (λ n. Some n) (sym (ap (λ xs. table_at xs series.want i right) parts.wanted));
+  },
 )
+  where
+    gauges_fit : 0 + length (gauged_nodes b) ≤ width b
+    gauges_fit = omega (arith, count_of_columns b)
+
+    wants_fit : length (gauged_nodes b) + length (rights_in_series b) ≤ width b
+    wants_fit = omega (arith, count_of_columns b)
+
+    gauge_there : (node : ℕ) → node < length b.nodes → is_gauged b node ≡ true → place_in (gauged_nodes b) node < length (gauged_nodes b)
+    gauge_there node l g = (place_holds (λ n. is_gauged b n) 0 (length b.nodes) node node l (omega arith) g).0
+
+    want_within : (right : ℕ) → right < length b.rights → is_in_series b right ≡ true → place_in (rights_in_series b) right < length (rights_in_series b)
+    want_within right l w = (place_holds (λ r. is_in_series b r) 0 (length b.rights) right right l (omega arith) w).0
 
 pub missing_told : (b : Basin) (rows : List (List (List ℕ))) (amounts : List (Option ℕ)) (k : ℕ) (e : SeriesRefused) → amounts ≡ given_by b rows → k < length amounts →
     ((j : ℕ) → j < k → is_some (get_or amounts j None) ≡ true) → is_some (get_or amounts k None) ≡ false →
-    e ≡ refused.Missing (run_month b (k / gauges b)) (get_or (gauged_nodes b) (k % gauges b) 0) → IsRefusalOf (missing b (entries_of b rows)) e
-missing_told b rows amounts k e is l before here told = rw told (first_missing b (entries_of b rows) amounts k is l before here)
+    e ≡ missing_of b (run_month b (k / width b)) (get_or (column_numbers b) (k % width b) 0) → IsRefusalOf (missing b (entries_of b rows)) e
+missing_told b rows amounts k e is l before here told = by_kind e (told ∙ refl) (first_missing b (entries_of b rows) amounts k is l before here)
+  where
+    by_kind : (e : SeriesRefused) → e ≡ missing_of b (run_month b (k / width b)) (get_or (column_numbers b) (k % width b) 0) →
+        missing b (entries_of b rows) ≡ Some (missing_of b (run_month b (k / width b)) (get_or (column_numbers b) (k % width b) 0)) → IsRefusalOf (missing b (entries_of b rows)) e
+    by_kind refused.OutOfMemory same first = tt
+    by_kind (refused.Record f n) same first = first ∙ ap (λ x. Some x) (sym same)
+    by_kind (refused.Missing m n) same first = first ∙ ap (λ x. Some x) (sym same)
+    by_kind (refused.MissingWant m n) same first = first ∙ ap (λ x. Some x) (sym same)
 
-pub valid_is_readable : (b : Basin) → IsValidBasin b → IsReadable b
-valid_is_readable b valid = record { run = valid.run; few = valid.few; rights = no_rights b valid.rights }
+-- what a table is read as
+pub record IsRead (b : Basin) (text : List ℕ) (r : Result Inflows SeriesRefused) : Type 0 where
+  pub spelled : IfOk r (SpellsSeries b text)
+  pub valid : IfOk r (IsSeriesOf b)
+  pub faultless : OnOk r (series_fault b text ≡ None)
+  pub refused : IfErr r (λ e. IsSeriesRefusal e b text)
+
+pub series_read : (b c : Basin) (text : List ℕ) (amounts : List (Option ℕ)) (r : Result Inflows SeriesRefused) → c ≡ b → TookTable c (records_of text) amounts →
+    Completes c (body_of c (records_of text)) r → IsRead b text r
+series_read b c text amounts r same took done = subst (λ (x : Basin). IsRead x text r) same (by r done)
+  where
+    by : (r : Result Inflows SeriesRefused) → Completes c (body_of c (records_of text)) r → IsRead c text r
+    by (Ok series) h = record { spelled = h.2; valid = h.1; faultless = took.fault ∙ h.0; refused = tt }
+    by (Err e) h = record { spelled = tt; valid = tt; faultless = tt; refused = subst (λ (o : Option SeriesRefused). IsRefusalOf o e) (sym took.fault) h }

@@ -1,15 +1,18 @@
 -- The records of a table, from the first to the last.
-use Rattle.std.proofs.Common.{◌≡◌, ℕ, ◌+◌, true, false, refl, sym, ap, ◌∙◌, List, [], ◌∷◌, ◌++◌, append_assoc, Option, Some, None, Result, Ok, Err, MatchResult}
+use Rattle.std.proofs.Common.{◌≡◌, ℕ, ◌+◌, Bool, true, false, map, refl, sym, ap, ◌∙◌, List, [], ◌∷◌, ◌++◌, append_assoc, Option, Some, None, Result, Ok, Err, MatchResult}
+use Rattle.std.specs.Prelude.{◌||◌}
 use Rattle.std.specs.Result.{result_ok}
 use Rattle.std.proofs.lemmas.List.{append-nil}
 use Rattle.std.proofs.lemmas.List.Elements.{filter_map-append}
 use Rattle.water_model.specs.declared.types.Basin.{Basin}
+use Rattle.inflow_file.specs.CsvRecords.{is_header, with_kind}
 use Rattle.inflow_file.specs.Entries.{read_record}
-use Rattle.inflow_file.specs.Given.{given, Takes}
-use Rattle.inflow_file.specs.SeriesFaults.{entries_of, first_fault, record_fault, repeats}
+use Rattle.inflow_file.specs.Given.{given, Takes, TakesAll, TakesTable}
+use Rattle.inflow_file.specs.SeriesFaults.{IsRefusalOf, entries_of, first_fault, record_fault, repeats, table_fault, tells_kinds}
 use Rattle.inflow_file.specs.declared.entry.Entry.{Entry}
 use Rattle.inflow_file.specs.declared.refused.SeriesFault.{SeriesFault}
 use Rattle.inflow_file.specs.declared.refused.SeriesFault.TheVariants as fault
+use Rattle.inflow_file.specs.declared.refused.SeriesRefused.{SeriesRefused}
 use Rattle.inflow_file.specs.declared.refused.SeriesRefused.TheVariants as refused
 
 -- the entries of one record more
@@ -53,3 +56,26 @@ one_further before left rows all row is h = append_assoc before (row ∷ []) row
 
 pub none_further : {X : Type 0} (before left all : List X) → left ≡ [] → before ++ left ≡ all → before ≡ all
 none_further before left all is h = sym (append-nil before) ∙ (ap (λ xs. before ++ xs) (sym is) ∙ h)
+
+-- the records of a table whose header is one are all taken, or refused
+pub table_taken : (b : Basin) (header : List (List ℕ)) (rows table : List (List (List ℕ))) (kinds : Bool) (new : List (Option ℕ)) (result : Result (Unit {0}) SeriesRefused) →
+    table ≡ header ∷ rows → kinds ≡ tells_kinds b header → (is_header header || kinds) ≡ true → TakesAll b (map (with_kind kinds) rows) new result → TakesTable b table new result
+table_taken b header rows table kinds new (Ok done) is tells good took = record {
+  fault = rw (is, ← tells, good, took.0) refl;
+  given = rw (is, ← tells) took.1;
+}
+table_taken b header rows table kinds new (Err e) is tells good took = by_kind e took
+  where
+    first : (e : SeriesRefused) → first_fault b [] 2 (map (with_kind kinds) rows) ≡ Some e → table_fault b table ≡ Some e
+    first e h = rw (is, ← tells, good, h) refl
+
+    by_kind : (e : SeriesRefused) → IsRefusalOf (first_fault b [] 2 (map (with_kind kinds) rows)) e → IsRefusalOf (table_fault b table) e
+    by_kind refused.OutOfMemory h = tt
+    by_kind (refused.Record f n) h = first (refused.Record f n) h
+    by_kind (refused.Missing m n) h = first (refused.Missing m n) h
+    by_kind (refused.MissingWant m n) h = first (refused.MissingWant m n) h
+
+-- and one without a header is refused
+pub no_header : (b : Basin) (header : List (List ℕ)) (rows table : List (List (List ℕ))) (kinds : Bool) →
+    table ≡ header ∷ rows → kinds ≡ tells_kinds b header → (is_header header || kinds) ≡ false → table_fault b table ≡ Some (refused.Record fault.Header 1)
+no_header b header rows table kinds is tells bad = rw (is, ← tells, bad) refl

@@ -1,9 +1,9 @@
 -- What is kept of the records that were read, and what each step of the reading does.
-use Rattle.std.specs.Prelude.{◌≡◌, ℕ, ◌++◌, ◌∷◌, [], List, drop, map, Option, Some, None, Result, Ok, Err, MatchResult}
+use Rattle.std.specs.Prelude.{◌≡◌, ℕ, ◌++◌, ◌∷◌, [], List, map, Option, Some, None, Result, Ok, Err, MatchResult}
 use Rattle.water_model.specs.Valid.{IsSeriesOf}
 use Rattle.water_model.specs.declared.types.Basin.{Basin}
 use Rattle.water_model.specs.declared.types.Inflows.{Inflows}
-use Rattle.inflow_file.specs.SeriesFaults.{IsRefusalOf, SpellsAmounts, amount_for, due, entries_of, first_fault, missing, record_fault, table_fault}
+use Rattle.inflow_file.specs.SeriesFaults.{IsRefusalOf, SpellsAmounts, amount_for, body_of, due, entries_of, first_fault, missing, record_fault, table_fault}
 use Rattle.inflow_file.specs.declared.entry.Entry.{Entry}
 use Rattle.inflow_file.specs.declared.refused.SeriesFault.{SeriesFault}
 use Rattle.inflow_file.specs.declared.refused.SeriesRefused.{SeriesRefused}
@@ -29,8 +29,8 @@ TakesAll b rows new (Err e) = IsRefusalOf (first_fault b [] 2 rows) e
 
 -- all records of a table are taken, so that nothing but a missing amount can be at fault
 pub record TookTable (b : Basin) (table : List (List (List ℕ))) (amounts : List (Option ℕ)) : Type 0 where
-  pub fault : table_fault b table ≡ missing b (entries_of b (drop 1 table))
-  pub given : amounts ≡ given_by b (drop 1 table)
+  pub fault : table_fault b table ≡ missing b (entries_of b (body_of b table))
+  pub given : amounts ≡ given_by b (body_of b table)
 
 -- they are, or the first fault is told
 abbrev pub TakesTable : Basin → List (List (List ℕ)) → List (Option ℕ) → Result (Unit {0}) SeriesRefused → Type 0

@@ -1,8 +1,8 @@
 pub mod CsvRecords
 pub mod Entries
 pub mod FaultNames
-pub mod GaugePlaces
+pub mod Cells
+pub mod Columns
 pub mod Given
-pub mod Readable
 pub mod RecordsLeft
 pub mod SeriesFaults

@@ -1,9 +1,9 @@
-//! Reads the table of gauged inflows: the series of a basin that the bytes spell, or the first fault in them.
+//! Reads the table of gauged inflows and of wants by month: the series of a basin that the bytes spell, or the first fault in them.
 #![tactic(auto)]
 
-mod amounts;
+mod cells;
+mod columns;
 mod entry;
-mod gauges;
 mod read;
 mod records;
 mod refused;

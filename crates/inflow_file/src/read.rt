@@ -1,126 +1,139 @@
 //! Reads a series.
-ghost use Rattle.std.specs.Prelude.{◌≡◌, ◌++◌, ◌∷◌, [], ◌<◌, ◌≤◌, ◌+◌, ◌*◌, ◌^◌, List, ℕ, length, None, Some, MatchResult, IfOk, IfErr, OnOk};
+ghost use Rattle.std.specs.Prelude.{◌≡◌, ◌++◌, ◌∷◌, [], ◌||◌, ◌<◌, ◌≤◌, ◌+◌, ◌*◌, ◌^◌, List, ℕ, length, map, None, Some, MatchResult, IfOk, IfErr, OnOk};
 ghost use Rattle.csv.specs.Records.{fields_of};
-ghost use Rattle.water_model.specs.Valid.{IsValidBasin, IsSeriesOf, gauged_nodes};
-ghost use Rattle.inflow_file.specs.CsvRecords.{records_of};
+ghost use Rattle.water_model.specs.Valid.{IsValidBasin, IsSeriesOf};
+ghost use Rattle.inflow_file.specs.Columns.{column_numbers};
+ghost use Rattle.inflow_file.specs.CsvRecords.{records_of, is_header, with_kind};
 ghost use Rattle.inflow_file.specs.Given.{given_by, Takes, TakesAll, TakesTable, TookTable};
 ghost use Rattle.inflow_file.specs.RecordsLeft.{IsReading, records_left};
-ghost use Rattle.inflow_file.specs.Readable.{IsReadable};
-ghost use Rattle.inflow_file.specs.SeriesFaults.{IsSeriesRefusal, SpellsSeries, series_fault};
+ghost use Rattle.inflow_file.specs.SeriesFaults.{IsSeriesRefusal, SpellsSeries, series_fault, tells_kinds};
 
-use crate::amounts::{complete, enter};
-use crate::gauges::Gauges;
-use crate::records::{is_header, read_row, reader_of};
+use crate::cells::{complete, enter};
+use crate::columns::Columns;
+use crate::records::{is_header, is_kind_header, read_row, reader_of};
 use crate::refused::{SeriesFault, SeriesRefused};
 use csv::{ByteRecord, Reader};
 use std::alloc::{AllocError, Global};
 use water_model::types::{Basin, Inflows};
 
 /// Takes a record behind the header, unless it is at fault.
-fn take(gauges: &Gauges, amounts: &mut [Option<u64>], row: &ByteRecord) -> Result<(), SeriesFault>
-    requires basin { IsReadable gauges.now.basin.now }
-    requires count { length amounts.old ≡ gauges.now.basin.now.months * length (gauged_nodes gauges.now.basin.now) }
-    ensures { (before : List (List (List ℕ))) → Takes gauges.now.basin.now before (fields_of row.now) amounts.old amounts.new result }
+fn take(
+    columns: &Columns,
+    kinds: bool,
+    amounts: &mut [Option<u64>],
+    row: &ByteRecord,
+) -> Result<(), SeriesFault>
+    requires basin { IsValidBasin columns.now.basin.now }
+    requires count { length amounts.old ≡ columns.now.basin.now.months * length (column_numbers columns.now.basin.now) }
+    ensures { (before : List (List (List ℕ))) → Takes columns.now.basin.now before (with_kind kinds (fields_of row.now)) amounts.old amounts.new result }
 {
-    let entry = match gauges.read_record(row) {
+    let entry = match columns.read_record(kinds, row) {
         Ok(entry) => entry,
         Err(fault) => return Err(fault),
     };
-    enter(gauges, amounts, &entry)
+    enter(columns, amounts, &entry)
 }
 
 /// Takes the records that a reader has left behind the header, or refuses the first that is at fault.
 fn take_all(
     reader: &mut Reader<&[u8]>,
     row: &mut ByteRecord,
-    gauges: &Gauges,
+    columns: &Columns,
+    kinds: bool,
     amounts: &mut [Option<u64>],
 ) -> Result<(), SeriesRefused>
     requires reader { IsReading reader.old }
     requires few { length (records_left reader.old) + 1 < 2 ^ 64 }
-    requires basin { IsReadable gauges.now.basin.now }
-    requires empty { amounts.old ≡ given_by gauges.now.basin.now [] }
-    ensures { TakesAll gauges.now.basin.now (records_left reader.old) amounts.new result }
+    requires basin { IsValidBasin columns.now.basin.now }
+    requires empty { amounts.old ≡ given_by columns.now.basin.now [] }
+    ensures { TakesAll columns.now.basin.now (map (with_kind kinds) (records_left reader.old)) amounts.new result }
 {
     let mut number = 1;
     'rows: while read_row(reader, row)? {
         number += 1;
-        if let Err(fault) = take(gauges, amounts, row) {
+        if let Err(fault) = take(columns, kinds, amounts, row) {
             return Err(SeriesRefused::Record { fault, number });
         }
     }
     Ok(())
 }
 
-/// Takes the records of a table, whose first has to be the header.
+fn no_header() -> SeriesRefused
+    ensures { result ≡ SeriesRefused.Record SeriesFault.Header 1 }
+{
+    SeriesRefused::Record {
+        fault: SeriesFault::Header,
+        number: 1,
+    }
+}
+
+/// Whether a header tells kinds. That of a basin of format 1 never does.
+fn tells_kinds(basin: &Basin, row: &ByteRecord) -> bool
+    ensures { result ≡ tells_kinds basin.now (fields_of row.now) }
+{
+    basin.format == 2 && is_kind_header(row)
+}
+
+/// Whether a record is a header, without kinds or with them.
+fn has_header(row: &ByteRecord, kinds: bool) -> bool
+    ensures { result ≡ (is_header (fields_of row.now) || kinds) }
+{
+    is_header(row) || kinds
+}
+
+/// Takes the records of a table, whose first has to be a header.
 fn take_table(
     alloc: Global,
     text: &[u8],
-    gauges: &Gauges,
+    columns: &Columns,
     amounts: &mut [Option<u64>],
 ) -> Result<(), SeriesRefused>
-    requires basin { IsReadable gauges.now.basin.now }
-    requires empty { amounts.old ≡ given_by gauges.now.basin.now [] }
-    ensures { TakesTable gauges.now.basin.now (records_of text.now) amounts.new result }
+    requires basin { IsValidBasin columns.now.basin.now }
+    requires empty { amounts.old ≡ given_by columns.now.basin.now [] }
+    ensures { TakesTable columns.now.basin.now (records_of text.now) amounts.new result }
 {
     let mut reader = reader_of(alloc, text);
     let mut row = ByteRecord::new(alloc);
     let found = read_row(&mut reader, &mut row)?;
-    if !found || !is_header(&row) {
-        return Err(SeriesRefused::Record {
-            fault: SeriesFault::Header,
-            number: 1,
-        });
+    if !found {
+        return Err(no_header());
     }
-    take_all(&mut reader, &mut row, gauges, amounts)
+    let kinds = tells_kinds(columns.basin, &row);
+    if !has_header(&row, kinds) {
+        return Err(no_header());
+    }
+    take_all(&mut reader, &mut row, columns, kinds, amounts)
 }
 
 /// A place for each amount that is due, none of which is given.
-fn no_amounts(alloc: Global, gauges: &Gauges) -> Result<Vec<Option<u64>>, AllocError>
-    requires { IsReadable gauges.now.basin.now }
-    ensures { IfOk result (λ amounts. amounts.items ≡ given_by gauges.now.basin.now []) }
+fn no_amounts(alloc: Global, columns: &Columns) -> Result<Vec<Option<u64>>, AllocError>
+    requires { IsValidBasin columns.now.basin.now }
+    ensures { IfOk result (λ amounts. amounts.items ≡ given_by columns.now.basin.now []) }
 {
-    let due = gauges.basin.months as usize * gauges.count();
+    let due = columns.basin.months as usize * columns.count();
     vec![in alloc; None; due]
 }
 
 /// The amounts that a table gives for what is due.
 fn read_amounts(
     alloc: Global,
-    gauges: &Gauges,
+    columns: &Columns,
     text: &[u8],
 ) -> Result<Vec<Option<u64>>, SeriesRefused>
-    requires { IsReadable gauges.now.basin.now }
-    ensures ok { IfOk result (λ amounts. TookTable gauges.now.basin.now (records_of text.now) amounts.items) }
-    ensures refused { IfErr result (λ e. IsSeriesRefusal e gauges.now.basin.now text.now) }
+    requires { IsValidBasin columns.now.basin.now }
+    ensures ok { IfOk result (λ amounts. TookTable columns.now.basin.now (records_of text.now) amounts.items) }
+    ensures refused { IfErr result (λ e. IsSeriesRefusal e columns.now.basin.now text.now) }
 {
-    let mut amounts = no_amounts(alloc, gauges)?;
-    take_table(alloc, text, gauges, amounts.as_mut_slice())?;
+    let mut amounts = no_amounts(alloc, columns)?;
+    take_table(alloc, text, columns, amounts.as_mut_slice())?;
     Ok(amounts)
 }
 
-/// The same as `read_inflows`, of a basin that has what the reading needs.
-pub(crate) fn read_series(
-    alloc: Global,
-    basin: &Basin,
-    text: &[u8],
-) -> Result<Inflows, SeriesRefused>
-    requires { IsReadable basin.now }
-    ensures spelled { IfOk result (SpellsSeries basin.now text.now) }
-    ensures valid { IfOk result (IsSeriesOf basin.now) }
-    ensures faultless { OnOk result (series_fault basin.now text.now ≡ None) }
-    ensures refused { IfErr result (λ e. IsSeriesRefusal e basin.now text.now) }
-{
-    let gauges = Gauges::of(alloc, basin)?;
-    let amounts = read_amounts(alloc, &gauges, text)?;
-    complete(alloc, gauges, amounts.as_slice())
-}
-
-/// The bytes of a table of the header alone: the series of a basin without gauges.
+/// The bytes of a table of the header alone: the series of a basin without gauges and without wants in the series.
 pub const HEADER: &[u8] = b"month,node,amount\n";
 
-/// The series of a basin that a table spells: for each month of the run an inflow of each gauged node, in units of
-/// 1,000 cubic metres. Where the table is at fault, the first fault is told, and want of memory may come at any point.
+/// The series of a basin that a table spells: for each month of the run an inflow of each gauged node, and a want of each
+/// right whose wants stand in the series, in units of 1,000 cubic metres. Where the table is at fault, the first fault is told, and want of memory may come at any point.
 ///
 /// A record takes the time of a look-up by name. The memory is that of the series and of a mark for each of its amounts:
 /// records aren't kept.
@@ -131,5 +144,7 @@ pub fn read_inflows(alloc: Global, basin: &Basin, text: &[u8]) -> Result<Inflows
     ensures faultless { OnOk result (series_fault basin.now text.now ≡ None) }
     ensures refused { IfErr result (λ e. IsSeriesRefusal e basin.now text.now) }
 {
-    read_series(alloc, basin, text)
+    let columns = Columns::of(alloc, basin)?;
+    let amounts = read_amounts(alloc, &columns, text)?;
+    complete(alloc, &columns, amounts.as_slice())
 }

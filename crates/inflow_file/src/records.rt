@@ -1,7 +1,7 @@
 //! The records of a table, read one after the other.
 ghost use Rattle.std.specs.Prelude.{◌≡◌, true, IfOk};
 ghost use Rattle.csv.specs.Records.{fields_of};
-ghost use Rattle.inflow_file.specs.CsvRecords.{records_of, is_header, IsThree};
+ghost use Rattle.inflow_file.specs.CsvRecords.{records_of, is_header, is_kind_header, IsThree, IsFour};
 ghost use Rattle.inflow_file.specs.RecordsLeft.{records_left, IsReading, TakesFirst};
 
 use csv::{ByteRecord, Reader, ReaderBuilder};
@@ -50,7 +50,42 @@ pub(crate) fn three_fields(row: &ByteRecord) -> Option<(&[u8], &[u8], &[u8])>
     Some((first, second, third))
 }
 
-/// Whether a record is the header.
+/// The four fields of a record, or `None` where it has another number of fields.
+pub(crate) fn four_fields(row: &ByteRecord) -> Option<(&[u8], &[u8], &[u8], &[u8])>
+    ensures { IsFour (fields_of row.now) result }
+{
+    if row.len() != 4 {
+        return None;
+    }
+    let Some(first) = row.get(0) else {
+        return None;
+    };
+    let Some(second) = row.get(1) else {
+        return None;
+    };
+    let Some(third) = row.get(2) else {
+        return None;
+    };
+    let Some(fourth) = row.get(3) else {
+        return None;
+    };
+    Some((first, second, third, fourth))
+}
+
+/// Whether a record is the header that tells kinds.
+pub(crate) fn is_kind_header(row: &ByteRecord) -> bool
+    ensures { result ≡ is_kind_header (fields_of row.now) }
+{
+    match four_fields(row) {
+        Some((first, second, third, fourth)) => {
+            (first == b"month".as_slice() && second == b"kind".as_slice())
+                && (third == b"name".as_slice() && fourth == b"amount".as_slice())
+        }
+        None => false,
+    }
+}
+
+/// Whether a record is the header without kinds.
 pub(crate) fn is_header(row: &ByteRecord) -> bool
     ensures { result ≡ is_header (fields_of row.now) }
 {

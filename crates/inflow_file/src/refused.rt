@@ -10,19 +10,26 @@ use water_text::month::Month;
 /// which is looked for at the first record alone.
 #[derive(Clone, Copy, Debug, PartialEq, Eq)]
 pub enum SeriesFault {
-    /// A record behind the header hasn't three fields.
+    /// A record behind the header hasn't as many fields as the header.
     Csv,
-    /// The first record is absent, or other than `month,node,amount`.
+    /// The first record is absent, or other than `month,node,amount` and, for a basin of format 2, than
+    /// `month,kind,name,amount`.
     Header,
-    /// The first field is no month from 1800-01 to 2999-12.
+    /// The field `month` is no month from 1800-01 to 2999-12.
     BadMonth,
-    /// The second field is no node's name.
+    /// The field `kind` is neither `inflow` nor `want`.
+    BadKind,
+    /// The record is an inflow, and its name is no node's.
     NoSuchNode,
     /// That node isn't gauged.
     NotGauged,
-    /// The third field isn't 1 to 19 digits of a number up to 10^9.
+    /// The record is a want, and its name is no right's.
+    NoSuchRight,
+    /// The wants of that right don't stand in the series.
+    NotSeries,
+    /// The field `amount` isn't 1 to 19 digits of a number up to 10^9.
     BadAmount,
-    /// The month is in the run, and an earlier record has this month and node.
+    /// The month is in the run, and an earlier record has this month, kind and name.
     Repeated,
 }
 
@@ -36,8 +43,11 @@ impl SeriesFault {
             SeriesFault::Csv => "Csv",
             SeriesFault::Header => "Header",
             SeriesFault::BadMonth => "BadMonth",
+            SeriesFault::BadKind => "BadKind",
             SeriesFault::NoSuchNode => "NoSuchNode",
             SeriesFault::NotGauged => "NotGauged",
+            SeriesFault::NoSuchRight => "NoSuchRight",
+            SeriesFault::NotSeries => "NotSeries",
             SeriesFault::BadAmount => "BadAmount",
             SeriesFault::Repeated => "Repeated",
         }
@@ -49,9 +59,11 @@ impl SeriesFault {
 pub enum SeriesRefused {
     /// A record is at fault. Records count from 1, and the header is one of them.
     Record { fault: SeriesFault, number: u64 },
-    /// No record is at fault, and none gives this gauged node an inflow in this month: the first such month of the run,
-    /// and in it the first such node. Nodes are numbered from 0.
+    /// No record is at fault, and none gives this gauged node an inflow in this month: the first month of the run in which
+    /// something is missing, and in it the first such node. Nodes are numbered from 0.
     Missing { month: Month, node: u32 },
+    /// The same of a want of this right, where no inflow of the month is missing. Rights are numbered from 0.
+    MissingWant { month: Month, right: u32 },
     OutOfMemory,
 }
 

@@ -319,17 +319,3 @@ junior_injures_nobody first second at x series other records others valid valid'
     same valid' more g one =
         (months_alike first at x more series other records others valid give f g i m n here there).delivered r one.in_first
         ∙ ap (slice_index n.delivered) (sym (one_place first at x more r s valid' one))
-
--- where no right stands in the series, one series gives both basins the same
-pub one_series : (b : Basin) (at : ℕ) (series : Inflows) → IsValidBasin b → GiveSame b at series series
-one_series b at series valid = record { amounts = λ n i h l. refl; wants = λ r i h l. absurd (never r h) }
-  where
-    none : (r : ℕ) → (y : Right) × (slice_get b.rights r ≡ Some y) × IsValidRight b y → of_entry b.rights r (λ y. y.series) false ≡ false
-    none r entry = ap (λ o. unwrap_or (option_map (λ y. y.series) o) false) entry.1 ∙ entry.2.no_series
-
-    by_get : (r : ℕ) (o : Option Right) → slice_get b.rights r ≡ o → of_entry b.rights r (λ y. y.series) false ≡ false
-    by_get r None e = ap (λ o. unwrap_or (option_map (λ y. y.series) o) false) e
-    by_get r (Some y) e = none r (entry_holds (λ y. IsValidRight b y) b.rights r valid.rights (slice_get_within b.rights r y e))
-
-    never : (r : ℕ) → of_entry b.rights r (λ y. y.series) false ≡ true → ⊥
-    never r h = let no = by_get r (slice_get b.rights r) refl in cc

@@ -1,8 +1,13 @@
 //! Wants that a volume bounds, and the months with which water years begin.
+ghost use Rattle.std.specs.Prelude.{IfOk};
+ghost use Rattle.water_model.specs.Valid.{IsValidBasin, IsSeriesOf};
+
 use crate::basins::basin_of;
+use inflow_file::{HEADER, read_inflows};
+use std::alloc::{AllocError, Global};
 use std::test::Fail;
 use water_model::calls::{begins_year, want_of};
-use water_text::month::Month;
+use water_model::types::{Basin, Inflows};
 
 /// A farm that wants 10 and may take 25 in a water year, which begins with March, and a town without a volume.
 const BASIN: &str = r#"format = 2
@@ -28,17 +33,25 @@ const WANTS: [(u64, u64); 7] = [
     (18_446_744_073_709_551_615, 0),
 ];
 
+/// The series of a basin that has nothing in it.
+fn series_of(alloc: Global, basin: &Basin) -> Result<Inflows, AllocError>
+    requires { IsValidBasin basin.now }
+    ensures { IfOk result (IsSeriesOf basin.now) }
+{
+    match read_inflows(alloc, basin, HEADER) {
+        Ok(series) => Ok(series),
+        Err(_) => Err(AllocError),
+    }
+}
+
 #[test]
 fn wants_what_is_left_of_a_volume(rt: HostRuntime) -> Result<(), Fail> {
     let basin = basin_of(rt.alloc(), BASIN)?;
-    assert!(&rt; basin.rights.len() == 2);
-    let january = Month {
-        year: 1900,
-        month: 1,
-    };
+    let series = series_of(rt.alloc(), &basin)?;
+    assert!(&rt; basin.rights.len() == 2 && basin.months == 24);
     for (used, want) in WANTS {
-        assert_eq!(&rt; want_of(&basin, 0, january, used), want);
-        assert_eq!(&rt; want_of(&basin, 1, january, used), 8);
+        assert_eq!(&rt; want_of(&basin, &series, 0, 0, used), want);
+        assert_eq!(&rt; want_of(&basin, &series, 1, 23, used), 8);
     }
     Ok(())
 }

@@ -6,7 +6,7 @@ use Rattle.water_model.specs.Cuts.{IsReach}
 use Rattle.water_model.specs.CutSets.{CutSets, set_of, without_sets}
 use Rattle.water_model.specs.History.{IsPartialHistory, Follows, IsShort, cut_of, opening_after, is_zone_of}
 use Rattle.water_model.specs.Lookups.{of_entry}
-use Rattle.water_model.specs.Hydrology.{inflow_at, returned_at, stored_at, run_month, in_year, evaporation, used_of, want_of, want_in_month}
+use Rattle.water_model.specs.Hydrology.{inflow_at, returned_at, stored_at, run_month, in_year, evaporation, used_of, want_of}
 use Rattle.water_model.specs.Laws.{AreDeliveries}
 use Rattle.water_model.specs.Plans.{IsPlan, delivery}
 use Rattle.water_model.specs.Valid.{IsValidBasin, IsSeriesOf}
@@ -15,7 +15,8 @@ use Rattle.water_model.specs.declared.types.Inflows.{Inflows}
 use Rattle.water_model.specs.declared.types.MonthRecord.{MonthRecord}
 use Rattle.water_model.specs.declared.types.Plan.{Plan}
 use Rattle.month_terms.specs.Terms.{FitsRecord, HasReturned, HasUsed, IsSettled, IsConcluded}
-use Rattle.month_terms.proofs.Amounts.{supply_small, want_is, want_most, want_carried, follows_small}
+use Rattle.water_model.proofs.Wants.{want_most, want_carried}
+use Rattle.month_terms.proofs.Amounts.{supply_small, follows_small}
 use Rattle.senior_hold.specs.Solved.{IsGiven, IsSolved, AreSupplies, AreWants, FitsCuts}
 use Rattle.senior_hold.specs.Solved as sweep
 use Rattle.month_fold.specs.Runs.{RunSeen, StandsFor, IsNext}
@@ -194,8 +195,7 @@ made_follows b series records i begun settled planned made valid fits starts at 
     wanted : (r : ℕ) → r < length b.rights → slice_index made.want r ≡ want_of b series r made.index (slice_index made.used r)
     wanted r l =
         ap (λ xs. slice_index xs r) f.want ∙ (is.is_settled.want.each r l
-        ∙ (ap₂ (λ k xs. want_in_month b (run_month b k) r (slice_index xs r)) (sym f.index) (sym f.used)
-        ∙ sym (want_is b series r made.index (slice_index made.used r) valid l)))
+        ∙ ap₂ (λ k xs. want_of b series r k (slice_index xs r)) (sym f.index) (sym f.used))
 
     delivered : (r : ℕ) → r < length b.rights → slice_index made.delivered r ≡ delivery b made.want made.plan r
     delivered = rw (f.want ∙ sym f.planned_want, f.plan) is.is_concluded.delivered
@@ -219,12 +219,12 @@ made_follows b series records i begun settled planned made valid fits starts at 
     ]
 
 -- the wants that are settled are small, and of no instream right more than its link carries
-pub wants_given : (b : Basin) (series : Inflows) (i : ℕ) (m settled : MonthRecord) → IsValidBasin b → IsSettled b series i m settled →
-    AreWants b settled.month settled.want
-wants_given b series i m settled valid is = record {
+pub wants_given : (b : Basin) (series : Inflows) (i : ℕ) (m settled : MonthRecord) → IsValidBasin b → IsSeriesOf b series →
+    IsSettled b series i m settled → AreWants b settled.month settled.want
+wants_given b series i m settled valid fits is = record {
   count = is.want.count;
-  small = λ r l. rw (is.want.each r l) (want_most b (run_month b i) r (slice_index m.used r) valid l);
-  instream = λ r e l on. rw (is.want.each r l, is.month) (want_carried b (run_month b i) r (slice_index m.used r) e on);
+  small = λ r l. rw (is.want.each r l) (want_most b series r i (slice_index m.used r) valid fits l);
+  instream = λ r e l on. rw (is.want.each r l, is.month) (want_carried b series r i (slice_index m.used r) e on);
 }
 
 pub settled_given : (b : Basin) (series : Inflows) (records : List MonthRecord) (i : ℕ) (m settled : MonthRecord) (cuts : CutSets) → IsValidBasin b →
@@ -232,7 +232,7 @@ pub settled_given : (b : Basin) (series : Inflows) (records : List MonthRecord) 
     cuts ≡ without_sets settled.cuts → IsGiven b settled.month settled.supply settled.want settled.plan cuts
 settled_given b series records i m settled cuts valid fits begun at shape is none = record {
   supplies = supplies_given b series records m settled i valid fits begun at is;
-  wants = wants_given b series i m settled valid is;
+  wants = wants_given b series i m settled valid fits is;
   fits_plan = record {
     flow = ap (λ k. length k.plan.flow) is.rest ∙ shape.flow;
     take = ap (λ k. length k.plan.take) is.rest ∙ shape.take;
@@ -258,25 +258,25 @@ settled_given b series records i m settled cuts valid fits begun at shape is non
     no_set (x ∷ sets) (suc r) = no_set sets r
 
 -- what is planned takes little
-pub planned_small : (b : Basin) (series : Inflows) (i : ℕ) (m settled : MonthRecord) (plan : Plan) (cuts : CutSets) → IsValidBasin b →
+pub planned_small : (b : Basin) (series : Inflows) (i : ℕ) (m settled : MonthRecord) (plan : Plan) (cuts : CutSets) → IsValidBasin b → IsSeriesOf b series →
     IsSettled b series i m settled → IsSolved b settled.month settled.supply settled.want plan cuts →
     (r : ℕ) → r < length b.rights → slice_index plan.take r ≤ 10 ^ 9
-planned_small b series i m settled plan cuts valid is solved r l =
-    omega (arith, solved.greatest.plan.wants r l, (wants_given b series i m settled valid is).small r l)
+planned_small b series i m settled plan cuts valid fits is solved r l =
+    omega (arith, solved.greatest.plan.wants r l, (wants_given b series i m settled valid fits is).small r l)
 
 -- and delivers little
-pub deliveries_small : (b : Basin) (series : Inflows) (before : List MonthRecord) (m : MonthRecord) → IsValidBasin b → Follows b series before m →
-    All (λ n. n ≤ 10 ^ 9) m.delivered
-deliveries_small b series before m valid follows = λ k d l. rw (any_default m.delivered k d 0 l) ((follows_small b series before m valid follows).delivered k)
+pub deliveries_small : (b : Basin) (series : Inflows) (before : List MonthRecord) (m : MonthRecord) → IsValidBasin b → IsSeriesOf b series →
+    Follows b series before m → All (λ n. n ≤ 10 ^ 9) m.delivered
+deliveries_small b series before m valid fits follows = λ k d l. rw (any_default m.delivered k d 0 l) ((follows_small b series before m valid fits follows).delivered k)
   where
     any_default : (xs : List ℕ) (k d e : ℕ) → k < length xs → get_or xs k d ≡ get_or xs k e
     any_default [] k d e l = absurd (omega arith)
     any_default (x ∷ xs) zero d e l = refl
     any_default (x ∷ xs) (suc k) d e l = any_default xs k d e (omega arith)
 
-pub next_small : (b : Basin) (series : Inflows) (records : List MonthRecord) (m : MonthRecord) → IsValidBasin b → IsNext b series records m →
-    All (λ n. n ≤ 10 ^ 9) m.delivered
-next_small b series records m valid next = deliveries_small b series records m valid next.follows
+pub next_small : (b : Basin) (series : Inflows) (records : List MonthRecord) (m : MonthRecord) → IsValidBasin b → IsSeriesOf b series →
+    IsNext b series records m → All (λ n. n ≤ 10 ^ 9) m.delivered
+next_small b series records m valid fits next = deliveries_small b series records m valid fits next.follows
 
 -- the record in which a run's next month begins, with what comes back
 pub run_begun : (run : RunSeen) (records : List MonthRecord) (m : MonthRecord) → StandsFor run records →

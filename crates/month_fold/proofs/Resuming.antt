@@ -6,7 +6,7 @@ use Rattle.std.proofs.lemmas.Option.{slice_get-map, slice_get-get_or, slice_get_
 use Rattle.water_model.specs.History.{IsPartialHistory, opening_after}
 use Rattle.water_model.specs.Hydrology.{delivered_in, used_of}
 use Rattle.water_model.proofs.Balance.{entry_at}
-use Rattle.water_model.specs.Valid.{IsValidBasin}
+use Rattle.water_model.specs.Valid.{IsValidBasin, IsSeriesOf}
 use Rattle.water_model.specs.declared.types.Basin.{Basin}
 use Rattle.water_model.specs.declared.types.Inflows.{Inflows}
 use Rattle.water_model.specs.declared.types.MonthRecord.{MonthRecord}
@@ -20,12 +20,12 @@ use Rattle.month_fold.proofs.Following.{deliveries_small}
 
 -- what each month delivered
 pub have_deliveries : {X : Type 0} (f : X → MonthRecord) (b : Basin) (series : Inflows) (xs : List X) → IsValidBasin b →
-    IsPartialHistory b series (map f xs) → All (λ x. HasDeliveries b (f x)) xs
-have_deliveries f b series xs valid partial = λ k d l.
+    IsSeriesOf b series → IsPartialHistory b series (map f xs) → All (λ x. HasDeliveries b (f x)) xs
+have_deliveries f b series xs valid fits partial = λ k d l.
     let follows = partial.each k (f (get_or xs k d)) (slice_get-map f xs k ∙ ap (option_map f) (slice_get-get_or xs k d l)) in
     record {
       count = follows.fits.delivered;
-      small = deliveries_small b series (take k (map f xs)) (f (get_or xs k d)) valid follows;
+      small = deliveries_small b series (take k (map f xs)) (f (get_or xs k d)) valid fits follows;
     }
 
 -- what was used
@@ -38,15 +38,15 @@ delivered_front (m ∷ ms) zero r j = omega arith
 delivered_front (m ∷ ms) (suc i) r zero = omega arith
 delivered_front (m ∷ ms) (suc i) r (suc j) = delivered_front ms i r j
 
-pub tell_use : (b : Basin) (series : Inflows) (records : List MonthRecord) → IsValidBasin b → IsPartialHistory b series records → TellUse b records
-tell_use b series records valid partial i m at =
+pub tell_use : (b : Basin) (series : Inflows) (records : List MonthRecord) → IsValidBasin b → IsSeriesOf b series → IsPartialHistory b series records → TellUse b records
+tell_use b series records valid fits partial i m at =
     let follows = partial.each i m at in
     let within = slice_get_within records i m at in
     let count = length-take i records in
     record {
       index = follows.index;
       within = omega (arith, follows.index, partial.within);
-      delivered = record { count = follows.fits.delivered; small = deliveries_small b series (take i records) m valid follows };
+      delivered = record { count = follows.fits.delivered; small = deliveries_small b series (take i records) m valid fits follows };
       used = record {
         count = follows.fits.used;
         each = λ r l. follows.used r l ∙ ap (used_of b (map (λ k. k.delivered) (take i records)) r)
@@ -63,7 +63,7 @@ tell_use b series records valid partial i m at =
     }
   where
     small : (r j : ℕ) → delivered_in (map (λ k. k.delivered) (take i records)) r j ≤ 10 ^ 9
-    small r j = omega (arith, delivered_front records i r j, all_small b series records valid partial r j)
+    small r j = omega (arith, delivered_front records i r j, all_small b series records valid fits partial r j)
 
 -- all months are those before the last, and the last
 whole : (ys : List MonthRecord) (i : ℕ) (y : MonthRecord) → slice_get ys i ≡ Some y → i + 1 ≡ length ys →
@@ -116,13 +116,13 @@ none_ok f b xs n (Ok used) none count is =
 none_ok f b xs n (Err e) none count is = tt
 
 -- what a run keeps is little
-pub used_little : (run : RunSeen) (records : List MonthRecord) → IsValidBasin run.basin → StandsFor run records →
-    (r : ℕ) → r < length run.basin.rights → slice_index run.used r ≤ 10 ^ 15
-used_little run records valid stands r l = omega (
+pub used_little : (run : RunSeen) (records : List MonthRecord) → IsValidBasin run.basin → IsSeriesOf run.basin run.series →
+    StandsFor run records → (r : ℕ) → r < length run.basin.rights → slice_index run.used r ≤ 10 ^ 15
+used_little run records valid fits stands r l = omega (
   arith,
   stands.used.each r l,
   used_most run.basin (map (λ k. k.delivered) records) r (length (map (λ (k : MonthRecord). k.delivered) records)) (10 ^ 9)
-      (all_small run.basin run.series records valid stands.partial r),
+      (all_small run.basin run.series records valid fits stands.partial r),
   length-map records (λ (k : MonthRecord). k.delivered),
   stands.partial.within,
   valid.run.months.1,

@@ -1,76 +1,33 @@
 -- How large the amounts of a partial history's months can be.
-use Rattle.std.proofs.Common.{◌≡◌, ℕ, ◌+◌, ◌-◌, ◌*◌, ◌^◌, ◌<◌, ◌≤◌, false, refl, sym, ◌∙◌, ap, arith, List, length, map, take, inl, inr}
-use Rattle.std.specs.Prelude.{slice_index, slice_get, Option, Some, None, unwrap_or, option_map, min}
+use Rattle.std.proofs.Common.{◌≡◌, ℕ, ◌+◌, ◌-◌, ◌*◌, ◌^◌, ◌<◌, ◌≤◌, refl, sym, ◌∙◌, ap, arith, List, length, map, take, inl, inr}
+use Rattle.std.specs.Prelude.{slice_index, slice_get, Option, Some, None, unwrap_or, option_map}
 use Rattle.std.proofs.lemmas.Bool.{cases_lt}
 use Rattle.std.proofs.lemmas.List.{get_or_past}
 use Rattle.std.proofs.lemmas.Option.{slice_get-map, get_or_from_slice_get}
 use Rattle.place_sums.specs.Sums.{total}
 use Rattle.place_sums.proofs.Totals.{total_add}
-use Rattle.water_text.specs.declared.month.Month.{Month}
-use Rattle.water_model.specs.Lookups.{of_entry}
 use Rattle.water_model.specs.Basin.{instream_link}
-use Rattle.water_model.specs.Plans.{carry_of, delivery_by_link}
-use Rattle.water_model.specs.Hydrology.{run_month, inflow_at, returned_at, stored_at, target_in_month, want_in_month, want_of, want_by_volume, volume_of, cap_by_link, number_of, delivered_in}
+use Rattle.water_model.specs.Plans.{delivery_by_link}
+use Rattle.water_model.specs.Hydrology.{inflow_at, returned_at, stored_at, delivered_in}
 use Rattle.water_model.specs.History.{IsPartialHistory, Follows, opening_after}
-use Rattle.water_model.specs.Valid.{IsValidBasin, IsValidRight, IsValidReservoir, IsSeriesOf}
+use Rattle.water_model.specs.Valid.{IsValidBasin, IsValidReservoir, IsSeriesOf}
 use Rattle.water_model.specs.declared.types.Basin.{Basin}
 use Rattle.water_model.specs.declared.types.Inflows.{Inflows}
 use Rattle.water_model.specs.declared.types.MonthRecord.{MonthRecord}
-use Rattle.water_model.specs.declared.types.Right.{Right}
 use Rattle.water_model.proofs.Balance.{entry_holds}
-use Rattle.month_terms.proofs.Bounds.{entry_most, inflows_small, returns_small, first_stored, later_stored}
-
--- in a basin without series, the want by the month alone
-pub want_is : (b : Basin) (series : Inflows) (r i used : ℕ) → IsValidBasin b → r < length b.rights →
-    want_of b series r i used ≡ want_in_month b (run_month b i) r used
-want_is b series r i used valid l =
-    let entry = entry_holds (λ x. IsValidRight b x) b.rights r valid.rights l in
-    let number : of_entry b.rights r (λ x. number_of b series r i x) 0 ≡ of_entry b.rights r (λ x. slice_index x.want ((run_month b i).month - 1)) 0 =
-    ap (λ o. unwrap_or (option_map (λ x. number_of b series r i x) o) 0) entry.1
-    ∙ (plain entry.0 entry.2.no_series ∙ sym (ap (λ o. unwrap_or (option_map (λ x. slice_index x.want ((run_month b i).month - 1)) o) 0) entry.1)) in
-    ap (λ n. want_by_volume (volume_of b r) (cap_by_link b (run_month b i) (instream_link b r) n) used) number
-  where
-    plain : (x : Right) → x.series ≡ false → number_of b series r i x ≡ slice_index x.want ((run_month b i).month - 1)
-    plain x e = rw e refl
-
--- wants are small, and an instream right wants no more than its link carries
-cap_most : (b : Basin) (month : Month) (o : Option ℕ) (n : ℕ) → cap_by_link b month o n ≤ n
-cap_most b month None n = omega arith
-cap_most b month (Some link) n = omega arith
-
-volume_most : (v : Option ℕ) (target used : ℕ) → want_by_volume v target used ≤ target
-volume_most None target used = omega arith
-volume_most (Some volume) target used = omega arith
-
-pub want_most : (b : Basin) (month : Month) (r used : ℕ) → IsValidBasin b → r < length b.rights → want_in_month b month r used ≤ 10 ^ 9
-want_most b month r used valid l =
-    let entry = entry_holds (λ x. IsValidRight b x) b.rights r valid.rights l in
-    let at : of_entry b.rights r (λ x. slice_index x.want (month.month - 1)) 0 ≡ slice_index entry.0.want (month.month - 1) =
-    ap (λ o. unwrap_or (option_map (λ x. slice_index x.want (month.month - 1)) o) 0) entry.1 in
-    let most = entry_most entry.0.want (10 ^ 9) (month.month - 1) entry.2.want.each in
-    omega (
-      arith,
-      volume_most (volume_of b r) (target_in_month b month r) used,
-      cap_most b month (instream_link b r) (of_entry b.rights r (λ x. slice_index x.want (month.month - 1)) 0),
-    )
-
-pub want_carried : (b : Basin) (month : Month) (r used link : ℕ) → instream_link b r ≡ Some link → want_in_month b month r used ≤ carry_of b month link
-want_carried b month r used link e =
-    let n : ℕ = of_entry b.rights r (λ x. slice_index x.want (month.month - 1)) 0 in
-    let at : target_in_month b month r ≡ min n (carry_of b month link) = ap (λ o. cap_by_link b month o n) e in
-    omega (arith, volume_most (volume_of b r) (target_in_month b month r) used)
+use Rattle.water_model.proofs.Wants.{want_most}
+use Rattle.month_terms.proofs.Bounds.{inflows_small, returns_small, first_stored, later_stored}
 
 -- what a record delivers is small, and so is what it takes
 pub record IsSmall (b : Basin) (m : MonthRecord) : Type 0 where
   pub takes : (r : ℕ) → r < length b.rights → slice_index m.plan.take r ≤ 10 ^ 9
   pub delivered : (r : ℕ) → slice_index m.delivered r ≤ 10 ^ 9
 
-pub follows_small : (b : Basin) (series : Inflows) (before : List MonthRecord) (m : MonthRecord) → IsValidBasin b → Follows b series before m → IsSmall b m
-follows_small b series before m valid follows = record { takes = takes; delivered = delivered }
+pub follows_small : (b : Basin) (series : Inflows) (before : List MonthRecord) (m : MonthRecord) → IsValidBasin b → IsSeriesOf b series → Follows b series before m → IsSmall b m
+follows_small b series before m valid fits follows = record { takes = takes; delivered = delivered }
   where
     wanted : (r : ℕ) → r < length b.rights → slice_index m.want r ≤ 10 ^ 9
-    wanted r l =
-        rw (follows.want r l ∙ want_is b series r m.index (slice_index m.used r) valid l) (want_most b (run_month b m.index) r (slice_index m.used r) valid l)
+    wanted r l = rw (follows.want r l) (want_most b series r m.index (slice_index m.used r) valid fits l)
 
     takes : (r : ℕ) → r < length b.rights → slice_index m.plan.take r ≤ 10 ^ 9
     takes r l = omega (arith, follows.plan.wants r l, wanted r l)
@@ -85,20 +42,20 @@ follows_small b series before m valid follows = record { takes = takes; delivere
       | inr past ↦ rw (get_or_past m.delivered r 0 (omega (arith, follows.fits.delivered))) (omega arith)
     ]
 
-pub deliveries_small : (b : Basin) (series : Inflows) (records : List MonthRecord) → IsValidBasin b → IsPartialHistory b series records →
-    (r j : ℕ) → delivered_in (map (λ m. m.delivered) records) r j ≤ 10 ^ 9
-deliveries_small b series records valid partial r j =
+pub deliveries_small : (b : Basin) (series : Inflows) (records : List MonthRecord) → IsValidBasin b → IsSeriesOf b series →
+    IsPartialHistory b series records → (r j : ℕ) → delivered_in (map (λ m. m.delivered) records) r j ≤ 10 ^ 9
+deliveries_small b series records valid fits partial r j =
     rw (slice_get-map (λ m. m.delivered) records j) (of_month (slice_get records j) refl)
   where
     of_month : (o : Option MonthRecord) → slice_get records j ≡ o →
         unwrap_or (option_map (λ (delivered : List ℕ). slice_index delivered r) (option_map (λ m. m.delivered) o)) 0 ≤ 10 ^ 9
     of_month None e = omega arith
-    of_month (Some m) e = (follows_small b series (take j records) m valid (partial.each j m e)).delivered r
+    of_month (Some m) e = (follows_small b series (take j records) m valid fits (partial.each j m e)).delivered r
 
 -- what the reservoirs hold when a month opens
-pub stored_small : (b : Basin) (series : Inflows) (records : List MonthRecord) (evaporated : List ℕ) → IsValidBasin b → IsPartialHistory b series records →
-    total (length b.nodes) (λ n. stored_at b (opening_after b records) evaporated n) ≤ 32 * 10 ^ 12
-stored_small b series records evaporated valid partial = by_last (slice_get records (length records - 1)) refl
+pub stored_small : (b : Basin) (series : Inflows) (records : List MonthRecord) (evaporated : List ℕ) → IsValidBasin b → IsSeriesOf b series →
+    IsPartialHistory b series records → total (length b.nodes) (λ n. stored_at b (opening_after b records) evaporated n) ≤ 32 * 10 ^ 12
+stored_small b series records evaporated valid fits partial = by_last (slice_get records (length records - 1)) refl
   where
     opens : Option MonthRecord → List ℕ
     opens o = unwrap_or (option_map (λ m. m.closing) o) (map (λ v. v.opening) b.reservoirs)
@@ -114,7 +71,7 @@ stored_small b series records evaporated valid partial = by_last (slice_get reco
     by_last None e = rw (ap opens e) (first_stored b (map (λ v. v.opening) b.reservoirs) evaporated valid first)
     by_last (Some m) e =
         let follows = partial.each (length records - 1) m e in
-        let small = follows_small b series (take (length records - 1) records) m valid follows in
+        let small = follows_small b series (take (length records - 1) records) m valid fits follows in
         let most = later_stored b m.closing evaporated m.plan.take valid follows.closing small.takes in
         rw (ap opens e) (omega (arith, most))
 
@@ -130,6 +87,6 @@ supply_small b series records evaporated i valid fits partial =
       parts,
       more,
       inflows_small b series i valid fits,
-      returns_small b (map (λ m. m.delivered) records) i valid (deliveries_small b series records valid partial),
-      stored_small b series records evaporated valid partial,
+      returns_small b (map (λ m. m.delivered) records) i valid (deliveries_small b series records valid fits partial),
+      stored_small b series records evaporated valid fits partial,
     )

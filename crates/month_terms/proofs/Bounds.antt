@@ -22,14 +22,8 @@ use Rattle.water_model.specs.declared.types.RightKind.{RightKind}
 use Rattle.water_model.specs.declared.types.RightKind.TheVariants.{Diversion, Instream, Zone}
 use Rattle.water_model.specs.History.{is_zone_of, is_zone_of_kind}
 use Rattle.water_model.proofs.Balance.{entry_holds}
+use Rattle.water_model.proofs.Wants.{entry_most}
 use Rattle.month_terms.proofs.Adds.{total_most}
-
--- the entries of a list of small amounts
-pub entry_most : (xs : List ℕ) (m k : ℕ) → All (λ x. x ≤ m) xs → slice_index xs k ≤ m
-entry_most xs m k all = elim (cases_lt k (length xs)) [
-  | inl within ↦ all k 0 within
-  | inr past ↦ rw (get_or_past xs k 0 past) (omega arith)
-]
 
 -- no inflow is more than 10^9
 pub inflow_most : (b : Basin) (series : Inflows) (n i : ℕ) → IsValidBasin b → IsSeriesOf b series → n < length b.nodes → inflow_at b series n i ≤ 10 ^ 9

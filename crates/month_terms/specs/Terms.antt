@@ -2,7 +2,7 @@
 use Rattle.std.specs.Prelude.{◌≡◌, ℕ, ◌+◌, ◌<◌, List, length, slice_index}
 use Rattle.water_text.specs.Months.{IsMonth}
 use Rattle.water_model.specs.Lookups.{of_entry}
-use Rattle.water_model.specs.Hydrology.{run_month, in_year, inflow_at, evaporation, returned_at, stored_at, used_of, want_in_month}
+use Rattle.water_model.specs.Hydrology.{run_month, in_year, inflow_at, evaporation, returned_at, stored_at, used_of, want_of}
 use Rattle.water_model.specs.History.{FitsBasin, is_zone_of}
 use Rattle.water_model.specs.Plans.{delivery}
 use Rattle.place_sums.specs.Sums.{total_where}
@@ -33,9 +33,9 @@ pub record HasUsed (b : Basin) (deliveries : List (List ℕ)) (used : List ℕ) 
   pub each : (r : ℕ) → r < length b.rights → slice_index used r ≡ used_of b deliveries r (length deliveries)
 
 -- the want of each right, by what it used
-pub record HasWants (b : Basin) (index : ℕ) (used want : List ℕ) : Type 0 where
+pub record HasWants (b : Basin) (series : Inflows) (index : ℕ) (used want : List ℕ) : Type 0 where
   pub count : length want ≡ length b.rights
-  pub each : (r : ℕ) → r < length b.rights → slice_index want r ≡ want_in_month b (run_month b index) r (slice_index used r)
+  pub each : (r : ℕ) → r < length b.rights → slice_index want r ≡ want_of b series r index (slice_index used r)
 
 -- a record's lists have a number for each reservoir, node, link or right
 pub record FitsRecord (b : Basin) (m : MonthRecord) : Type 0 where
@@ -53,7 +53,7 @@ pub record IsSettled (b : Basin) (series : Inflows) (index : ℕ) (old new : Mon
   pub opening : new.opening ≡ old.closing
   pub evaporated : HasEvaporated b index new.opening new.evaporated
   pub supply : HasSupply b series index new.opening new.evaporated old.returned new.supply
-  pub want : HasWants b index old.used new.want
+  pub want : HasWants b series index old.used new.want
   pub rest : new ≡ record old { index = new.index; month = new.month; opening = new.opening; evaporated = new.evaporated; supply = new.supply; want = new.want }
 
 -- a record has what its plan delivers and what its reservoirs close with. All else stays

@@ -6,9 +6,10 @@ ghost use Rattle.month_terms.specs.Terms.{FitsRecord, IsSettled, IsConcluded};
 
 use crate::closing::close_zones;
 use crate::evaporation::evaporate;
-use crate::supply::{add_stored, month_at, read_inflows};
+use crate::supply::{add_stored, read_inflows};
 use crate::want::{read_deliveries, read_wants};
 use reservoirs::AreaTable;
+use water_model::calls::month_at;
 use water_model::types::{Basin, Inflows, MonthRecord};
 
 /// Settles in a record what is known of the month with this index before its plan: its opening, evaporation, supply and
@@ -59,7 +60,8 @@ pub fn settle(
     );
     read_wants(
         basin,
-        calendar,
+        series,
+        index,
         month.used.as_slice(),
         month.want.as_mut_slice(),
     );

@@ -1,26 +1,11 @@
 //! What a month supplies to each node.
 ghost use Rattle.std.specs.Prelude.{ℕ, ◌≡◌, ◌+◌, ◌-◌, ◌<◌, ◌≤◌, ◌^◌, length, slice_index};
-ghost use Rattle.water_text.specs.Months.{IsMonth};
-ghost use Rattle.water_model.specs.Hydrology.{run_month, inflow_at, stored_at};
+ghost use Rattle.water_model.specs.Hydrology.{inflow_at, stored_at};
 ghost use Rattle.water_model.specs.Valid.{IsValidBasin, IsSeriesOf};
 
 use crate::add::add_at;
 use water_model::calls::inflow_of;
 use water_model::types::{Basin, Inflows};
-use water_text::month::Month;
-
-/// The month of the run with this index.
-pub fn month_at(basin: &Basin, index: u32) -> Month
-    requires basin { IsValidBasin basin.now }
-    requires index { index < basin.now.months }
-    ensures month { result ≡ run_month basin.now index }
-    ensures valid { IsMonth result }
-{
-    match basin.first.plus(index) {
-        Some(month) => month,
-        None => unreachable!(),
-    }
-}
 
 /// Writes what flows in and what comes back at each node in the month with this index.
 pub fn read_inflows(

@@ -1,26 +1,26 @@
 //! What the rights want in a month, and what a plan delivers to them.
 ghost use Rattle.std.specs.Prelude.{ℕ, ◌≡◌, ◌<◌, length, slice_index};
-ghost use Rattle.water_text.specs.Months.{IsMonth};
-ghost use Rattle.water_model.specs.Hydrology.{want_in_month};
+ghost use Rattle.water_model.specs.Hydrology.{want_of};
 ghost use Rattle.water_model.specs.Plans.{delivery};
-ghost use Rattle.water_model.specs.Valid.{IsValidBasin};
+ghost use Rattle.water_model.specs.Valid.{IsValidBasin, IsSeriesOf};
 
 use water_model::calls::want_of;
-use water_model::types::{Basin, Plan, RightKind};
-use water_text::month::Month;
+use water_model::types::{Basin, Inflows, Plan, RightKind};
 
-/// Writes the want of each right in a month. `used` is what each right used of its volume before in the water year.
-pub fn read_wants(basin: &Basin, month: Month, used: &[u64], want: &mut [u64])
+/// Writes the want of each right in the month with this index. `used` is what each right used of its volume before in the
+/// water year.
+pub fn read_wants(basin: &Basin, series: &Inflows, index: u32, used: &[u64], want: &mut [u64])
     requires basin { IsValidBasin basin.now }
-    requires month { IsMonth month }
+    requires series { IsSeriesOf basin.now series.now }
+    requires index { index < basin.now.months }
     requires used { length used.now ≡ length basin.now.rights }
     requires want { length want.old ≡ length basin.now.rights }
     ensures length { length want.new ≡ length want.old }
     ensures each { (r : ℕ) → r < length basin.now.rights →
-        slice_index want.new r ≡ want_in_month basin.now month r (slice_index used.now r) }
+        slice_index want.new r ≡ want_of basin.now series.now r index (slice_index used.now r) }
 {
     for right in 0..basin.rights.len() {
-        want[right] = want_of(basin, right as u32, month, used[right]);
+        want[right] = want_of(basin, series, right as u32, index, used[right]);
     }
 }
 

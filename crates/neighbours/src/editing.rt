@@ -66,6 +66,56 @@ fn shows_months_of_the_changed_series(rt: HostRuntime) -> Result<(), Fail> {
     expect(rt.alloc(), &WORDS, set, (Status::Done, SHOWN.1, ""))
 }
 
+/// A farm whose wants stand in the series.
+const ORDERED: &str = r#"format = 2
+first_month = "1900-01"
+months = 2
+node = [{ name = "head", inflow = 10 }, { name = "mouth", outlet = true }]
+link = [{ name = "a", from = "head", to = "mouth" }]
+
+[[diversion]]
+name = "farm"
+node = "head"
+date = "1900-01-01"
+want = "series"
+"#;
+
+const ORDERED_SERIES: &str = "month,kind,name,amount\n1900-01,want,farm,4\n1900-02,want,farm,12\n";
+
+/// A short month, and the same with a want that is met.
+const ORDERED_SHOWN: (&str, &str) = (
+    "river-edit 1\nshow 1900-02\nwant 1900-02 farm 3\nshow 1900-02\ndone\n",
+    r#"month 1900-02
+flow a 0
+deliver farm 10 12
+out mouth 0
+call farm
+in head
+in mouth
+end
+month 1900-02
+flow a 7
+deliver farm 3 3
+out mouth 7
+end
+done 2
+"#,
+);
+
+#[test]
+fn changes_a_want(rt: HostRuntime) -> Result<(), Fail> {
+    let set = with_script(rt.alloc(), ORDERED, ORDERED_SERIES, ORDERED_SHOWN.0)?;
+    expect(rt.alloc(), &WORDS, set, (Status::Done, ORDERED_SHOWN.1, ""))?;
+    let script = "river-edit 1\ninflow 1900-01 head 5\nshow 1900-02\ndone\n";
+    let set = with_script(rt.alloc(), ORDERED, ORDERED_SERIES, script)?;
+    let want = (Status::ScriptRefused, "", "script: NotSeries 2\n");
+    expect(rt.alloc(), &WORDS, set, want)?;
+    let script = "river-edit 1\nshow 1900-02\nwant 1900-02 farm 3\nshow 1900-02\n";
+    let set = with_script(rt.alloc(), ORDERED, ORDERED_SERIES, script)?;
+    let want = (Status::ScriptRefused, "", "script: EarlyEnd 5\n");
+    expect(rt.alloc(), &WORDS, set, want)
+}
+
 /// The same user with a volume of 20 for the water year from March on, over four months.
 const BOUNDED: &str = r#"format = 2
 first_month = "1900-01"

@@ -19,7 +19,8 @@ use Rattle.water_model.specs.declared.types.MonthRecord.{MonthRecord}
 use Rattle.water_model.proofs.Balance.{balanced, sum_total}
 use Rattle.water_model.proofs.Order.{length-numbers_from}
 use Rattle.month_fold.proofs.Standing.{opens_with_last}
-use Rattle.month_terms.proofs.Amounts.{want_is, want_most, follows_small, deliveries_small}
+use Rattle.water_model.proofs.Wants.{want_most}
+use Rattle.month_terms.proofs.Amounts.{follows_small, deliveries_small}
 use Rattle.month_terms.proofs.Bounds.{inflows_small, returns_small}
 use Rattle.reports.specs.Figures.{waters_of, wanted, delivered, called_in, called_count}
 use Rattle.reports.specs.Tallies.{figures_of, HasRoom, HasRoomForMonth}
@@ -73,26 +74,26 @@ each_month P b series records partial h =
     λ k d l. h (take k records) (get_or records k d) (front_partial b series records k partial) (partial.each k (get_or records k d) (slice_get-get_or records k d l))
 
 -- the figures of a right
-pub wanted_small : (b : Basin) (series : Inflows) (records : List MonthRecord) (r : ℕ) → IsValidBasin b → IsPartialHistory b series records → r < length b.rights →
-    wanted records r ≤ length records * 10 ^ 9
-wanted_small b series records r valid partial l = sum_by-le (λ m. slice_index m.want r) (10 ^ 9) records (each_month _ b series records partial most)
+pub wanted_small : (b : Basin) (series : Inflows) (records : List MonthRecord) (r : ℕ) → IsValidBasin b → IsSeriesOf b series →
+    IsPartialHistory b series records → r < length b.rights → wanted records r ≤ length records * 10 ^ 9
+wanted_small b series records r valid fits partial l = sum_by-le (λ m. slice_index m.want r) (10 ^ 9) records (each_month _ b series records partial most)
   where
     most : (before : List MonthRecord) (m : MonthRecord) → IsPartialHistory b series before → Follows b series before m → slice_index m.want r ≤ 10 ^ 9
-    most before m front follows = rw (follows.want r l ∙ want_is b series r m.index (slice_index m.used r) valid l) (want_most b (run_month b m.index) r (slice_index m.used r) valid l)
+    most before m front follows = rw (follows.want r l) (want_most b series r m.index (slice_index m.used r) valid fits l)
 
-pub delivered_small : (b : Basin) (series : Inflows) (records : List MonthRecord) (r : ℕ) → IsValidBasin b → IsPartialHistory b series records →
-    delivered records r ≤ length records * 10 ^ 9
-delivered_small b series records r valid partial =
-    sum_by-le (λ m. slice_index m.delivered r) (10 ^ 9) records (each_month _ b series records partial (λ before m front follows. (follows_small b series before m valid follows).delivered r))
+pub delivered_small : (b : Basin) (series : Inflows) (records : List MonthRecord) (r : ℕ) → IsValidBasin b → IsSeriesOf b series →
+    IsPartialHistory b series records → delivered records r ≤ length records * 10 ^ 9
+delivered_small b series records r valid fits partial =
+    sum_by-le (λ m. slice_index m.delivered r) (10 ^ 9) records (each_month _ b series records partial (λ before m front follows. (follows_small b series before m valid fits follows).delivered r))
 
 -- there is room for one month more
-pub right_room : (b : Basin) (series : Inflows) (records : List MonthRecord) (m : MonthRecord) (r : ℕ) (f : RightFigures) → IsValidBasin b →
+pub right_room : (b : Basin) (series : Inflows) (records : List MonthRecord) (m : MonthRecord) (r : ℕ) (f : RightFigures) → IsValidBasin b → IsSeriesOf b series →
     IsPartialHistory b series (records ++ m ∷ []) → r < length b.rights → f ≡ figures_of records r → HasRoom f m r
 unfolding figures_of
-right_room b series records m r f valid partial l is = record {
+right_room b series records m r f valid fits partial l is = record {
   short_months = omega (arith, months, ap (λ v. v.short_months) is, count_by-le-length (λ k. nat_lt (slice_index k.delivered r) (slice_index k.want r)) records, length-append records (m ∷ []));
-  wanted = omega (arith, months, ap (λ v. v.wanted) is, wanted_small b series (records ++ m ∷ []) r valid partial l, sum_by_push (λ k. slice_index k.want r) records m);
-  delivered = omega (arith, months, ap (λ v. v.delivered) is, delivered_small b series (records ++ m ∷ []) r valid partial, sum_by_push (λ k. slice_index k.delivered r) records m);
+  wanted = omega (arith, months, ap (λ v. v.wanted) is, wanted_small b series (records ++ m ∷ []) r valid fits partial l, sum_by_push (λ k. slice_index k.want r) records m);
+  delivered = omega (arith, months, ap (λ v. v.delivered) is, delivered_small b series (records ++ m ∷ []) r valid fits partial, sum_by_push (λ k. slice_index k.delivered r) records m);
 }
   where
     months : length (records ++ m ∷ []) ≤ 1200
@@ -104,15 +105,15 @@ inflows_all_small : (b : Basin) (series : Inflows) (records : List MonthRecord) 
 inflows_all_small b series records valid fits partial =
     sum_by-le (λ m. whole_inflow b series m.index) (2 * 10 ^ 12) records (λ k d l. inflows_small b series (get_or records k d).index valid fits)
 
-returns_all_small : (b : Basin) (series : Inflows) (records : List MonthRecord) → IsValidBasin b → IsPartialHistory b series records →
+returns_all_small : (b : Basin) (series : Inflows) (records : List MonthRecord) → IsValidBasin b → IsSeriesOf b series → IsPartialHistory b series records →
     sum_by (λ m. sum m.returned) records ≤ length records * (2 * 10 ^ 12)
-returns_all_small b series records valid partial = sum_by-le (λ m. sum m.returned) (2 * 10 ^ 12) records (each_month _ b series records partial most)
+returns_all_small b series records valid fits partial = sum_by-le (λ m. sum m.returned) (2 * 10 ^ 12) records (each_month _ b series records partial most)
   where
     most : (before : List MonthRecord) (m : MonthRecord) → IsPartialHistory b series before → Follows b series before m → sum m.returned ≤ 2 * 10 ^ 12
     most before m front follows =
         let whole : sum m.returned ≡ total (length b.nodes) (λ n. slice_index m.returned n) = sum_total m.returned ∙ ap (λ k. total k (λ n. slice_index m.returned n)) follows.fits.returned in
         let each = total_same (length b.nodes) (λ n. slice_index m.returned n) (λ n. returned_at b (map (λ k. k.delivered) before) n m.index) follows.returned in
-        omega (arith, whole, each, returns_small b (map (λ k. k.delivered) before) m.index valid (deliveries_small b series before valid front))
+        omega (arith, whole, each, returns_small b (map (λ k. k.delivered) before) m.index valid (deliveries_small b series before valid fits front))
 
 -- and so what is left and went out
 pub record AreSmall (w : Waters) : Type 0 where
@@ -145,7 +146,7 @@ waters_small b series records valid fits partial = record {
     inflows = inflows_all_small b series records valid fits partial
 
     returns : sum_by (λ m. sum m.returned) records ≤ length records * (2 * 10 ^ 12)
-    returns = returns_all_small b series records valid partial
+    returns = returns_all_small b series records valid fits partial
 
     months : length records ≤ 1200
     months = omega (arith, partial.within, valid.run.months.1)

@@ -11,7 +11,7 @@ use Rattle.std.proofs.lemmas.Option.{slice_get-get_or}
 use Rattle.water_text.specs.Months.{IsMonth}
 use Rattle.water_model.specs.History.{IsPartialHistory}
 use Rattle.water_model.specs.Places.{places_of, seniors_first}
-use Rattle.water_model.specs.Valid.{IsValidBasin}
+use Rattle.water_model.specs.Valid.{IsValidBasin, IsSeriesOf}
 use Rattle.water_model.specs.declared.types.Basin.{Basin}
 use Rattle.water_model.specs.declared.types.Inflows.{Inflows}
 use Rattle.water_model.specs.declared.types.MonthRecord.{MonthRecord}
@@ -98,10 +98,10 @@ sum_mapped f g (n ∷ ns) =
     sum_by-cons f (g n) (map g ns) ∙ (ap (λ k. f (g n) + k) (sum_mapped f g ns) ∙ sym (sum_by-cons (λ k. f (g k)) n ns))
 
 -- which fit
-pub totals_room : (b : Basin) (series : Inflows) (records : List MonthRecord) (t : Tally) → IsValidBasin b → IsPartialHistory b series records → IsTally b series records t →
-    AreFew t.rights
+pub totals_room : (b : Basin) (series : Inflows) (records : List MonthRecord) (t : Tally) → IsValidBasin b → IsSeriesOf b series → IsPartialHistory b series records →
+    IsTally b series records t → AreFew t.rights
 unfolding figures_of
-totals_room b series records t valid partial is = record {
+totals_room b series records t valid fits partial is = record {
   short_months = omega (arith, sum_by-le (λ f. f.short_months) 1200 t.rights (each 1200 (λ f. f.short_months) short), count, valid.few.rights);
   wanted = omega (arith, sum_by-le (λ f. f.wanted) (1200 * 10 ^ 9) t.rights (each (1200 * 10 ^ 9) (λ f. f.wanted) want), count, valid.few.rights);
   delivered = omega (arith, sum_by-le (λ f. f.delivered) (1200 * 10 ^ 9) t.rights (each (1200 * 10 ^ 9) (λ f. f.delivered) given), count, valid.few.rights);
@@ -122,10 +122,10 @@ totals_room b series records t valid partial is = record {
     short r l = omega (arith, months, count_by-le-length (λ m. nat_lt (slice_index m.delivered r) (slice_index m.want r)) records)
 
     want : (r : ℕ) → r < length b.rights → wanted records r ≤ 1200 * 10 ^ 9
-    want r l = omega (arith, months, wanted_small b series records r valid partial l)
+    want r l = omega (arith, months, wanted_small b series records r valid fits partial l)
 
     given : (r : ℕ) → r < length b.rights → delivered records r ≤ 1200 * 10 ^ 9
-    given r l = omega (arith, months, delivered_small b series records r valid partial)
+    given r l = omega (arith, months, delivered_small b series records r valid fits partial)
 
 -- the summary by what is kept
 regroup : (a b c d e f g h : List ℕ) → a ++ b ++ ((c ++ d) ++ (e ++ f)) ++ (g ++ h) ≡ a ++ b ++ c ++ d ++ e ++ f ++ g ++ h

@@ -6,7 +6,7 @@ use Rattle.std.proofs.lemmas.List.{get_or-replicate, length-replicate}
 use Rattle.water_text.specs.Names.{is_name}
 use Rattle.water_model.specs.Basin.{node_name}
 use Rattle.water_model.specs.Network.{walks, HasRiverOut, is_outlet_in, is_on_cycle, tail_in}
-use Rattle.water_model.specs.Valid.{IsValidBasin, IsMonthly, IsValidNode, IsValidLink}
+use Rattle.water_model.specs.Valid.{IsValidBasin, IsMonthly, IsValidNode, IsValidLink, IsAlwaysOpen}
 use Rattle.water_model.specs.declared.types.Basin.{Basin}
 use Rattle.water_model.specs.declared.types.Carry.TheVariants.{River}
 use Rattle.water_model.specs.declared.types.Inflow.TheVariants.{Monthly}
@@ -58,6 +58,10 @@ unfolding is_name
 small_links zero d l = record { name = refl; ends = record { from = omega arith; to = omega arith }; carry = tt }
 small_links (suc k) d l = absurd (omega arith)
 
+small_open : All (λ l. IsAlwaysOpen l.carry) small.links
+small_open zero d l = tt
+small_open (suc k) d l = absurd (omega arith)
+
 names_apart : (i j : ℕ) → i < j → j < 2 → node_name small i ≢ node_name small j
 names_apart i zero l h = absurd (omega arith)
 names_apart zero (suc zero) l h = λ e. (let both : false ≡ true = ap (λ t. bytes_eq t (codes "sea")) e in cc)
@@ -84,7 +88,12 @@ small_is_valid = record {
   format = record {
     format = (omega arith, omega arith);
     year_start = (omega arith, omega arith);
-    first = λ e. record { year_start = refl; volumes = λ k d l. absurd (omega arith) };
+    first = λ e. record {
+      year_start = refl;
+      open_canals = small_open;
+      volumes = λ k d l. absurd (omega arith);
+      no_series = λ k d l. absurd (omega arith);
+    };
   };
   run = record {
     first = record { year = (omega arith, omega arith); month = (omega arith, omega arith) };

@@ -1,22 +1,23 @@
 -- Laws over the definitions.
 use Rattle.std.specs.Prelude.{◌≡◌, ℕ, ◌<◌, ◌≤◌, Bool, List, length, slice_index, Some, None}
-use Rattle.water_text.specs.Months.{IsMonth}
 use Rattle.water_text.specs.declared.month.Month.{Month}
 use Rattle.water_model.specs.Plans.{IsPlan}
 use Rattle.water_model.specs.Cuts.{IsTight, IsReach}
 use Rattle.water_model.specs.CutSets.{CutSets, set_of}
-use Rattle.water_model.specs.Hydrology.{want_in_month}
+use Rattle.water_model.specs.Hydrology.{run_month, want_of}
 use Rattle.water_model.specs.Laws.{AreDeliveries}
-use Rattle.water_model.specs.Valid.{IsValidBasin}
+use Rattle.water_model.specs.Valid.{IsValidBasin, IsSeriesOf}
 use Rattle.water_model.specs.declared.types.Basin.{Basin}
+use Rattle.water_model.specs.declared.types.Inflows.{Inflows}
 use Rattle.water_model.specs.declared.types.Plan.{Plan}
 use Rattle.senior_hold.specs.Solved.{AreWants, IsSolved}
 
--- The wants of a valid basin in a month, whatever was used of volumes, are wants that a solver may be given.
+-- The wants of a valid basin and a series of it in a month, whatever was used of volumes, are wants that a solver may be
+-- given.
 abbrev pub WantsAreWithin : Type 0
 WantsAreWithin =
-    (b : Basin) (month : Month) (used want : List ℕ) → IsValidBasin b → IsMonth month → length want ≡ length b.rights →
-    ((r : ℕ) → r < length b.rights → slice_index want r ≡ want_in_month b month r (slice_index used r)) → AreWants b month want
+    (b : Basin) (series : Inflows) (index : ℕ) (used want : List ℕ) → IsValidBasin b → IsSeriesOf b series → length want ≡ length b.rights →
+    ((r : ℕ) → r < length b.rights → slice_index want r ≡ want_of b series r index (slice_index used r)) → AreWants b (run_month b index) want
 
 -- what a record of a month says of its plan and its cuts
 pub record HasPlanAndCuts (b : Basin) (month : Month) (supply want delivered : List ℕ) (p : Plan) (cuts : CutSets) : Type 0 where

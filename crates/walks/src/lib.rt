@@ -22,4 +22,6 @@ mod rivers;
 #[cfg(test)]
 mod running;
 #[cfg(test)]
+mod seasons;
+#[cfg(test)]
 mod volumes;

@@ -1,6 +1,6 @@
--- Where a gauge's amounts stand in a series.
+-- Where a gauge's amounts and a right's wants stand in a series.
 use Rattle.std.proofs.Common.{◌≡◌, ℕ, suc, ◌+◌, ◌*◌, ◌^◌, ◌<◌, ◌≤◌, Bool, true, false, refl, sym, ap, subst, ◌∙◌, arith, List, [], ◌∷◌, length, get_or, inl, inr, filter}
-use Rattle.std.specs.Prelude.{◌==◌, if◌then◌else◌, slice_get, Some, unwrap_or, option_map, Result, Ok, Err, MatchResult}
+use Rattle.std.specs.Prelude.{◌==◌, if◌then◌else◌, slice_get, slice_index, Some, unwrap_or, option_map, Result, Ok, Err, MatchResult}
 use Rattle.std.specs.List.Sorted.{IsBinarySearchResult, IsStrictlyIncreasing}
 use Rattle.std.specs.Ordering.{nat_cmp}
 use Rattle.std.proofs.lemmas.Bool.{cases_lt}
@@ -10,13 +10,15 @@ use Rattle.std.proofs.lemmas.List.Sorted.{searched}
 use Rattle.std.proofs.lemmas.List.Sums.{position_or_len_is}
 use Rattle.std.proofs.lemmas.Option.{get_or_from_slice_get}
 use Rattle.std.proofs.Math.Nat.{mul-le-mul_right}
-use Rattle.water_model.specs.Hydrology.{place_in, inflow_at, inflow_of_kind}
+use Rattle.water_model.specs.Hydrology.{place_in, inflow_at, inflow_of_kind, in_year, table_at, number_of}
+use Rattle.water_model.specs.Lookups.{of_entry}
 use Rattle.water_model.specs.Places.{numbers_from, places_of}
-use Rattle.water_model.specs.Valid.{IsValidBasin, IsSeriesOf, is_gauged, is_gauged_kind}
+use Rattle.water_model.specs.Valid.{IsValidBasin, IsSeriesOf, is_gauged, is_gauged_kind, is_in_series}
 use Rattle.water_model.specs.declared.types.Basin.{Basin}
 use Rattle.water_model.specs.declared.types.Inflow.TheVariants.{Gauged}
 use Rattle.water_model.specs.declared.types.Inflows.{Inflows}
 use Rattle.water_model.specs.declared.types.Node.{Node}
+use Rattle.water_model.specs.declared.types.Right.{Right}
 use Rattle.water_model.proofs.Order.{Has, numbers_from-get, numbers_from-has, length-numbers_from}
 
 -- the place of a number that stands at i and nowhere before, or that stands nowhere where i is the length
@@ -43,6 +45,10 @@ rises from n = λ k l. (let within : k + 1 < n = omega (arith, length-numbers_fr
 pub gauges_rise : (b : Basin) (series : Inflows) → IsSeriesOf b series → IsStrictlyIncreasing series.gauged
 gauges_rise b series fits =
     subst IsStrictlyIncreasing (sym fits.gauged) (IsStrictlyIncreasing-filter (λ n. is_gauged b n) (places_of b.nodes) (rises 0 (length b.nodes)))
+
+pub wanted_rise : (b : Basin) (series : Inflows) → IsSeriesOf b series → IsStrictlyIncreasing series.wanted
+wanted_rise b series fits =
+    subst IsStrictlyIncreasing (sym fits.wanted) (IsStrictlyIncreasing-filter (λ r. is_in_series b r) (places_of b.rights) (rises 0 (length b.rights)))
 
 pub searched_place : (xs : List ℕ) (x : ℕ) (r : Result ℕ ℕ) → IsStrictlyIncreasing xs → IsBinarySearchResult (λ y. nat_cmp y x) xs r →
     MatchResult r (λ i. i ≡ place_in xs x) (λ i. length xs ≡ place_in xs x)
@@ -114,6 +120,10 @@ filter_short p (x ∷ xs) = by_test (p x) (filter_short p xs)
 gauged_here : (b : Basin) (node : ℕ) (n : Node) → slice_get b.nodes node ≡ Some n → n.inflow ≡ Gauged → is_gauged b node ≡ true
 gauged_here b node n at e = ap (λ o. unwrap_or (option_map (λ m. is_gauged_kind m.inflow) o) false) at ∙ ap is_gauged_kind e
 
+-- where a number of a month stands in a table of so many columns
+small_cell : (i m l p : ℕ) → i * l + p < m * l → m ≤ 1200 → l ≤ 2000 → i * l + p < 2 ^ 64
+small_cell i m l p h months few = let most : m * l ≤ 1200 * l = mul-le-mul_right l months in omega arith
+
 -- where the amount of a gauged node in a month stands
 pub record HasCell (b : Basin) (series : Inflows) (node index : ℕ) : Type 0 where
   pub within : index * length series.gauged + place_in series.gauged node < length series.amount
@@ -132,12 +142,53 @@ has_cell b series node index n valid fits l k at e = record {
     few : length series.gauged ≤ 2000
     few = rw fits.gauged (omega (arith, filter_short (λ m. is_gauged b m) (places_of b.nodes), length-numbers_from 0 (length b.nodes), valid.few.nodes))
 
-    small_cell : (i m l p : ℕ) → i * l + p < m * l → m ≤ 1200 → l ≤ 2000 → i * l + p < 2 ^ 64
-    small_cell i m l p h months few = let most : m * l ≤ 1200 * l = mul-le-mul_right l months in omega arith
-
 -- what stands there is the inflow
 pub cell_is_inflow : (b : Basin) (series : Inflows) (node index : ℕ) (n : Node) (x : ℕ) → slice_get b.nodes node ≡ Some n → n.inflow ≡ Gauged →
     slice_get series.amount (index * length series.gauged + place_in series.gauged node) ≡ Some x → x ≡ inflow_at b series node index
 cell_is_inflow b series node index n x at e cell =
     sym (get_or_from_slice_get series.amount (index * length series.gauged + place_in series.gauged node) x 0 cell)
     ∙ sym (ap (λ o. unwrap_or (option_map (λ m. inflow_of_kind b series node index m.inflow) o) 0) at ∙ ap (inflow_of_kind b series node index) e)
+
+-- a right in the series has its wants there
+pub wanted_within : (b : Basin) (series : Inflows) (right : ℕ) → IsSeriesOf b series → right < length b.rights → is_in_series b right ≡ true →
+    place_in series.wanted right < length series.wanted
+wanted_within b series right fits l e =
+    has_place series.wanted right (rw fits.wanted (filter-has (λ r. is_in_series b r) (places_of b.rights) right
+    (numbers_from-has 0 (length b.rights) right right l (omega arith)) e))
+
+-- where the want of a right in a month stands
+pub record HasWant (b : Basin) (series : Inflows) (right index : ℕ) : Type 0 where
+  pub within : index * length series.wanted + place_in series.wanted right < length series.want
+  pub small : index * length series.wanted + place_in series.wanted right < 2 ^ 64
+
+pub has_want : (b : Basin) (series : Inflows) (right index : ℕ) (r : Right) → IsValidBasin b → IsSeriesOf b series → right < length b.rights →
+    index < b.months → slice_get b.rights right ≡ Some r → r.series ≡ true → HasWant b series right index
+has_want b series right index r valid fits l k at e = record {
+  within = rw fits.wants cell;
+  small = small_cell index b.months (length series.wanted) (place_in series.wanted right) cell valid.run.months.1 few;
+}
+  where
+    named : is_in_series b right ≡ true
+    named = ap (λ o. unwrap_or (option_map (λ (x : Right). x.series) o) false) at ∙ e
+
+    cell : index * length series.wanted + place_in series.wanted right < b.months * length series.wanted
+    cell = cell_within index b.months (length series.wanted) (place_in series.wanted right) k (wanted_within b series right fits l named)
+
+    few : length series.wanted ≤ 2000
+    few = rw fits.wanted (omega (arith, filter_short (λ x. is_in_series b x) (places_of b.rights), length-numbers_from 0 (length b.rights), valid.few.rights))
+
+-- what stands there is the right's number
+pub want_is_number : (b : Basin) (series : Inflows) (right index : ℕ) (r : Right) (x : ℕ) → slice_get b.rights right ≡ Some r → r.series ≡ true →
+    slice_get series.want (index * length series.wanted + place_in series.wanted right) ≡ Some x →
+    x ≡ of_entry b.rights right (λ y. number_of b series right index y) 0
+want_is_number b series right index r x at e cell =
+    sym (get_or_from_slice_get series.want (index * length series.wanted + place_in series.wanted right) x 0 cell)
+    ∙ sym (ap (λ o. unwrap_or (option_map (λ y. number_of b series right index y) o) 0) at
+    ∙ ap (λ t. if t then table_at series.wanted series.want index right else slice_index r.want (in_year b index)) e)
+
+-- and the number of a right that isn't in the series is that of the calendar month
+pub month_is_number : (b : Basin) (series : Inflows) (right index : ℕ) (r : Right) → slice_get b.rights right ≡ Some r → r.series ≡ false →
+    slice_index r.want (in_year b index) ≡ of_entry b.rights right (λ y. number_of b series right index y) 0
+month_is_number b series right index r at e =
+    sym (ap (λ o. unwrap_or (option_map (λ y. number_of b series right index y) o) 0) at
+    ∙ ap (λ t. if t then table_at series.wanted series.want index right else slice_index r.want (in_year b index)) e)

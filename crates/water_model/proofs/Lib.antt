@@ -11,6 +11,7 @@ pub mod CutLemmas
 pub mod CutSteps
 pub mod Balance
 pub mod Gauges
+pub mod Wants
 pub mod Histories
 pub mod Outcome
 pub mod Returns

@@ -89,11 +89,6 @@ abbrev pub target_of : Basin → Inflows → ℕ → ℕ → ℕ
 target_of b series right i =
     cap_by_link b (run_month b i) (instream_link b right) (of_entry b.rights right (λ r. number_of b series right i r) 0)
 
--- the same in a basin without series, by the month alone
-abbrev pub target_in_month : Basin → Month → ℕ → ℕ
-target_in_month b month right =
-    cap_by_link b month (instream_link b right) (of_entry b.rights right (λ r. slice_index r.want (month.month - 1)) 0)
-
 -- the water year of a month, counted from year 0
 abbrev pub water_year : Basin → ℕ → ℕ
 water_year b i = let m = run_month b i in if nat_lt m.month b.year_start then m.year else m.year + 1
@@ -125,7 +120,3 @@ volume_of b right = of_entry b.rights right (λ r. r.volume) None
 
 abbrev pub want_of : Basin → Inflows → ℕ → ℕ → ℕ → ℕ
 want_of b series right i used = want_by_volume (volume_of b right) (target_of b series right i) used
-
--- the same in a basin without series, by the month alone
-abbrev pub want_in_month : Basin → Month → ℕ → ℕ → ℕ
-want_in_month b month right used = want_by_volume (volume_of b right) (target_in_month b month right) used

@@ -32,10 +32,15 @@ abbrev pub IsValidInflow : Inflow → Type 0
 IsValidInflow (Monthly amounts) = IsMonthly (10 ^ 9) amounts
 IsValidInflow Gauged = Unit {0}
 
--- no month is shut
+-- a canal is open or shut in each of the twelve calendar months
 abbrev pub IsValidCarry : Carry → Type 0
 IsValidCarry River = Unit {0}
-IsValidCarry (Canal per_day shut) = (per_day ≤ 10 ^ 9) × (shut ≡ replicate 12 false)
+IsValidCarry (Canal per_day shut) = (per_day ≤ 10 ^ 9) × (length shut ≡ 12)
+
+-- a canal that is never shut, and any river
+abbrev pub IsAlwaysOpen : Carry → Type 0
+IsAlwaysOpen River = Unit {0}
+IsAlwaysOpen (Canal per_day shut) = shut ≡ replicate 12 false
 
 pub record IsValidNode (n : node.Node) : Type 0 where
   pub name : IsTrue (is_name n.name)
@@ -93,7 +98,7 @@ pub record IsValidRight (b : Basin) (r : Right) : Type 0 where
   pub place : HasValidPlace b r.kind
   pub want : IsMonthly (10 ^ 9) r.want
   pub volume : IsValidVolume r.kind r.volume
-  pub no_series : r.series ≡ false
+  pub series : r.series ≡ true → r.want ≡ replicate 12 0
 
 -- the order of the kinds of rights in a basin: all diversions, then all instream rights, then all zones
 abbrev pub rank_of_kind : RightKind → ℕ
@@ -137,10 +142,12 @@ pub record HasFewEntries (b : Basin) : Type 0 where
   pub rights : length b.rights ≤ 2000
   pub rows : (right : ℕ) → right < length b.rights → rows_of b right ≤ 8
 
--- a basin of format 1: water years begin with October, and no right has a volume
+-- a basin of format 1: water years begin with October, no canal is ever shut, and no right has a volume or a series
 pub record IsFirstFormat (b : Basin) : Type 0 where
   pub year_start : b.year_start ≡ 10
+  pub open_canals : All (λ l. IsAlwaysOpen l.carry) b.links
   pub volumes : All (λ r. r.volume ≡ None) b.rights
+  pub no_series : All (λ r. r.series ≡ false) b.rights
 
 -- a basin of format 1 or 2
 pub record HasValidFormat (b : Basin) : Type 0 where
@@ -174,8 +181,11 @@ is_gauged b node = of_entry b.nodes node (λ n. is_gauged_kind n.inflow) false
 abbrev pub gauged_nodes : Basin → List ℕ
 gauged_nodes b = filter (λ n. is_gauged b n) (places_of b.nodes)
 
+abbrev pub is_in_series : Basin → ℕ → Bool
+is_in_series b right = of_entry b.rights right (λ r. r.series) false
+
 abbrev pub rights_in_series : Basin → List ℕ
-rights_in_series b = filter (λ r. of_entry b.rights r (λ right. right.series) false) (places_of b.rights)
+rights_in_series b = filter (λ r. is_in_series b r) (places_of b.rights)
 
 -- for each gauged node an amount, and for each right in the series a want, for each month of the run, each at most 10^9
 pub record IsSeriesOf (b : Basin) (series : Inflows) : Type 0 where

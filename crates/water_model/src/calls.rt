@@ -4,7 +4,8 @@ ghost use Rattle.std.specs.List.Sorted.{IsStrictlyIncreasing};
 ghost use Rattle.water_text.specs.Months.{IsMonth};
 ghost use Rattle.water_model.specs.Basin.{taking_node};
 ghost use Rattle.water_model.specs.Plans.{carry_of, carry_of_kind};
-ghost use Rattle.water_model.specs.Hydrology.{begins_year, inflow_at, in_year, place_in, target_in_month, want_in_month};
+ghost use Rattle.water_model.specs.Hydrology.{begins_year, inflow_at, in_year, number_of, place_in, run_month, target_of, want_of};
+ghost use Rattle.water_model.specs.Lookups.{of_entry};
 ghost use Rattle.water_model.specs.Valid.{IsValidBasin, IsValidCarry, IsSeriesOf};
 
 use crate::types::{Basin, Carry, Inflow, Inflows, RightKind};
@@ -28,8 +29,8 @@ fn carry_in_month(carry: &Carry, month: Month) -> u64
     }
 }
 
-/// The most that a link carries in a month, in units of 1,000 cubic metres: 10^15 on a river, and the amount of a day
-/// times the days of the month on a canal.
+/// The most that a link carries in a month, in units of 1,000 cubic metres: 10^15 on a river, and on a canal the amount of
+/// a day times the days of the month, or 0 in a calendar month in which it is shut.
 pub fn carry_of(basin: &Basin, link: u32, month: Month) -> u64
     requires basin { IsValidBasin basin.now }
     requires month { IsMonth month }
@@ -37,38 +38,6 @@ pub fn carry_of(basin: &Basin, link: u32, month: Month) -> u64
     ensures { result ≡ carry_of basin.now month link }
 {
     carry_in_month(&basin.links[link as usize].carry, month)
-}
-
-/// The target of a right in a month: its number for the calendar month, and of an instream right on a canal at most what
-/// the canal carries, because the canal can't hold more.
-fn target_of(basin: &Basin, right: u32, month: Month) -> u64
-    requires basin { IsValidBasin basin.now }
-    requires month { IsMonth month }
-    requires right { right < length basin.now.rights }
-    ensures { result ≡ target_in_month basin.now month right }
-{
-    let entry = &basin.rights[right as usize];
-    let number = entry.want[month.month as usize - 1];
-    match entry.kind {
-        RightKind::Instream { link } => number.min(carry_of(basin, link, month)),
-        RightKind::Diversion { .. } => number,
-        RightKind::Zone { .. } => number,
-    }
-}
-
-/// The want of a right in a month, in units of 1,000 cubic metres: its target, and of a diversion with a volume at most
-/// what is left of the volume. `used` is what the right used of it before in the water year.
-pub fn want_of(basin: &Basin, right: u32, month: Month, used: u64) -> u64
-    requires basin { IsValidBasin basin.now }
-    requires month { IsMonth month }
-    requires right { right < length basin.now.rights }
-    ensures { result ≡ want_in_month basin.now month right used }
-{
-    let target = target_of(basin, right, month);
-    match basin.rights[right as usize].volume {
-        Some(volume) => target.min(volume.saturating_sub(used)),
-        None => target,
-    }
 }
 
 /// The node at which a diversion or a zone takes water, or `None` for an instream right.
@@ -82,6 +51,19 @@ pub fn taking_node(basin: &Basin, right: u32) -> Option<u32>
         RightKind::Diversion { node } => Some(node),
         RightKind::Instream { .. } => None,
         RightKind::Zone { reservoir, .. } => Some(basin.reservoirs[reservoir as usize].node),
+    }
+}
+
+/// The month of the run with this index.
+pub fn month_at(basin: &Basin, index: u32) -> Month
+    requires basin { IsValidBasin basin.now }
+    requires index { index < basin.now.months }
+    ensures month { result ≡ run_month basin.now index }
+    ensures valid { IsMonth result }
+{
+    match basin.first.plus(index) {
+        Some(month) => month,
+        None => unreachable!(),
     }
 }
 
@@ -102,14 +84,14 @@ pub fn begins_year(basin: &Basin, index: u32) -> bool
     place_in_year(basin, index) + 1 == usize::from(basin.year_start)
 }
 
-/// The place of a node in a list of nodes in rising order, or the list's length where it isn't there.
-fn place_of(nodes: &[u32], node: u32) -> usize
-    requires { IsStrictlyIncreasing nodes.now }
-    ensures { result ≡ place_in nodes.now node }
+/// The place of a number in a list in rising order, or the list's length where it isn't there.
+fn place_of(numbers: &[u32], number: u32) -> usize
+    requires { IsStrictlyIncreasing numbers.now }
+    ensures { result ≡ place_in numbers.now number }
 {
-    match nodes.binary_search(&node) {
+    match numbers.binary_search(&number) {
         Ok(place) => place,
-        Err(_) => nodes.len(),
+        Err(_) => numbers.len(),
     }
 }
 
@@ -128,5 +110,56 @@ pub fn inflow_of(basin: &Basin, inflows: &Inflows, node: u32, index: u32) -> u64
             let gauge = place_of(inflows.gauged.as_slice(), node);
             inflows.amount[index as usize * inflows.gauged.len() + gauge]
         }
+    }
+}
+
+/// The number of a right in the month with this index: the series' want where its wants stand there, and else its number
+/// for the calendar month.
+fn number_of(basin: &Basin, inflows: &Inflows, right: u32, index: u32) -> u64
+    requires basin { IsValidBasin basin.now }
+    requires series { IsSeriesOf basin.now inflows.now }
+    requires right { right < length basin.now.rights }
+    requires index { index < basin.now.months }
+    ensures { result ≡ of_entry basin.now.rights right (λ r. number_of basin.now inflows.now right index r) 0 }
+{
+    let entry = &basin.rights[right as usize];
+    if entry.series {
+        let place = place_of(inflows.wanted.as_slice(), right);
+        inflows.want[index as usize * inflows.wanted.len() + place]
+    } else {
+        entry.want[place_in_year(basin, index)]
+    }
+}
+
+/// The target of a right in the month with this index: its number, and of an instream right on a canal at most what the
+/// canal carries, because the canal can't hold more.
+fn target_of(basin: &Basin, inflows: &Inflows, right: u32, index: u32) -> u64
+    requires basin { IsValidBasin basin.now }
+    requires series { IsSeriesOf basin.now inflows.now }
+    requires right { right < length basin.now.rights }
+    requires index { index < basin.now.months }
+    ensures { result ≡ target_of basin.now inflows.now right index }
+{
+    let number = number_of(basin, inflows, right, index);
+    match basin.rights[right as usize].kind {
+        RightKind::Instream { link } => number.min(carry_of(basin, link, month_at(basin, index))),
+        RightKind::Diversion { .. } => number,
+        RightKind::Zone { .. } => number,
+    }
+}
+
+/// The want of a right in the month with this index, in units of 1,000 cubic metres: its target, and of a diversion with
+/// a volume at most what is left of the volume. `used` is what the right used of it before in the water year.
+pub fn want_of(basin: &Basin, inflows: &Inflows, right: u32, index: u32, used: u64) -> u64
+    requires basin { IsValidBasin basin.now }
+    requires series { IsSeriesOf basin.now inflows.now }
+    requires right { right < length basin.now.rights }
+    requires index { index < basin.now.months }
+    ensures { result ≡ want_of basin.now inflows.now right index used }
+{
+    let target = target_of(basin, inflows, right, index);
+    match basin.rights[right as usize].volume {
+        Some(volume) => target.min(volume.saturating_sub(used)),
+        None => target,
     }
 }

@@ -68,8 +68,8 @@ pub enum RightKind {
 
 /// A water right. Of two rights the one with the earlier date is senior, and of one date the one with the lower order.
 ///
-/// `want` has the amount for each calendar month. A volume bounds what a diversion takes in a water year, and `series`
-/// says that the wants stand in the series. No basin of format 1 has a volume, and none a series yet.
+/// `want` has the amount for each calendar month. A volume bounds what a diversion takes in a water year. `series` says
+/// that the wants stand month by month in the series, and `want` then has zeros. No right of format 1 has either.
 #[derive(Drop)]
 pub struct Right {
     pub name: Name,

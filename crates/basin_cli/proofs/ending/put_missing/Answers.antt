@@ -18,7 +18,8 @@ put_into-requires-clause-room c = omega (
   ap length c.requires.empty,
   c.requires.short,
   grown c.args.line.now c.word.new.self c.args.whose.now c.word.ensures,
-  grown c.word.new.self c.word-2.new.self (codes "Missing ") c.word-2.ensures,
+  grown c.word.new.self c.word-2.new.self c.args.what.now c.word-2.ensures,
+  c.requires.what,
 )
 
 pub word-requires-3 : goal.word-requires-3
@@ -27,7 +28,8 @@ word-requires-3 c = omega (
   ap length c.requires.empty,
   c.requires.short,
   grown c.args.line.now c.word.new.self c.args.whose.now c.word.ensures,
-  grown c.word.new.self c.word-2.new.self (codes "Missing ") c.word-2.ensures,
+  grown c.word.new.self c.word-2.new.self c.args.what.now c.word-2.ensures,
+  c.requires.what,
   grown c.word-2.new.self c.put_into.new.line (month_digits c.args.month) c.put_into.ensures,
   length-month_digits c.args.month c.requires.month,
 )
@@ -38,7 +40,8 @@ word-requires-4 c = omega (
   ap length c.requires.empty,
   c.requires.short,
   grown c.args.line.now c.word.new.self c.args.whose.now c.word.ensures,
-  grown c.word.new.self c.word-2.new.self (codes "Missing ") c.word-2.ensures,
+  grown c.word.new.self c.word-2.new.self c.args.what.now c.word-2.ensures,
+  c.requires.what,
   grown c.word-2.new.self c.put_into.new.line (month_digits c.args.month) c.put_into.ensures,
   length-month_digits c.args.month c.requires.month,
   grown c.put_into.new.line c.word-3.new.self (codes " ") c.word-3.ensures,
@@ -52,7 +55,8 @@ word-requires-5 c = omega (
   ap length c.requires.empty,
   c.requires.short,
   grown c.args.line.now c.word.new.self c.args.whose.now c.word.ensures,
-  grown c.word.new.self c.word-2.new.self (codes "Missing ") c.word-2.ensures,
+  grown c.word.new.self c.word-2.new.self c.args.what.now c.word-2.ensures,
+  c.requires.what,
   grown c.word-2.new.self c.put_into.new.line (month_digits c.args.month) c.put_into.ensures,
   length-month_digits c.args.month c.requires.month,
   grown c.put_into.new.line c.word-3.new.self (codes " ") c.word-3.ensures,

@@ -19,7 +19,7 @@ take_item-requires-clause-told c =
       told = record {
         account = s.account;
         counts = record { read = s.counts.read; last_other = s.counts.last_other; ended = s.counts.ended };
-        comes = line_comes c.args.means.now.basin.now c.args.means.now.series.now c.requires.lines.lines c.args.text.now s.items c.in-Ok.item c.requires.means.valid s.verdict
+        comes = line_comes c.args.means.now.basin.now c.args.means.now.series.now c.requires.lines.lines c.args.text.now s.items c.in-Ok.item c.requires.means.valid c.requires.means.series s.verdict
             (ap (λ x. read_line x s.items c.args.text.now) (sym s.basin) ∙ sym (c.in-Ok.ensures.answer s.items s.reader));
       };
     }
@@ -37,7 +37,7 @@ returns-in-Ok-clause-takes c = λ lines s.
     (c.take_item.ensures.takes s.items (record {
       account = s.account;
       counts = record { read = s.counts.read; last_other = s.counts.last_other; ended = s.counts.ended };
-      comes = line_comes c.args.means.now.basin.now c.args.means.now.series.now lines c.args.text.now s.items c.in-Ok.item c.requires.means.valid s.verdict read;
+      comes = line_comes c.args.means.now.basin.now c.args.means.now.series.now lines c.args.text.now s.items c.in-Ok.item c.requires.means.valid c.requires.means.series s.verdict read;
     }))
 
 pub returns-in-Err-clause-takes : goal.returns-in-Err-clause-takes

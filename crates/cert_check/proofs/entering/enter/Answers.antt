@@ -77,7 +77,7 @@ enter_end-requires-clause-little c = λ r l.
       arith,
       c.requires.awaits.keeps.used.each r l,
       used_most c.args.means.now.basin.now (map (λ n. n.delivered) told.months) r (length (map (λ (n : MonthRecord). n.delivered) told.months)) (10 ^ 9)
-          (deliveries_small c.args.means.now.basin.now c.args.means.now.series.now told.months c.requires.means.valid partial r),
+          (deliveries_small c.args.means.now.basin.now c.args.means.now.series.now told.months c.requires.means.valid c.requires.means.series partial r),
       length-map told.months (λ (n : MonthRecord). n.delivered),
       partial.within,
       c.requires.means.valid.run.months.1,

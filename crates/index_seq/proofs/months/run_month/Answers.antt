@@ -16,7 +16,7 @@ add_month-requires-clause-count g c =
 pub add_month-requires-clause-room : goal.add_month-requires-clause-room
 add_month-requires-clause-room g c =
     let u = c.requires.under_way in
-    month_room c.args.basin.now c.args.series.now c.args.at.trace c.args.at.years c.args.at.months c.args.run.now c.args.sums.now c.args.year.now c.month.result.now c.requires.basin u
+    month_room c.args.basin.now c.args.series.now c.args.at.trace c.args.at.years c.args.at.months c.args.run.now c.args.sums.now c.args.year.now c.month.result.now c.requires.basin c.requires.begun u
     (partial_next c.args.basin.now (begun_after c.args.series.now c.args.at.trace) c.step.new.self u.records c.month.result.now
     (c.step.ensures.basin ∙ u.basin) (c.step.ensures.series ∙ u.fits) c.month.ensures (c.step.ensures.month u.records u.stands))
 

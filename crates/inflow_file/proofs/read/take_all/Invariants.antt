@@ -1,4 +1,5 @@
-use Rattle.std.proofs.Common.{◌≡◌, ℕ, ◌+◌, ◌++◌, [], List, length}
+use Rattle.std.proofs.Common.{◌≡◌, ℕ, ◌+◌, ◌++◌, [], List, length, map}
+use Rattle.inflow_file.specs.CsvRecords.{with_kind}
 use Rattle.inflow_file.specs.Given.{given_by}
 use Rattle.inflow_file.specs.RecordsLeft.{IsReading, records_left}
 use Rattle.inflow_file.specs.SeriesFaults.{first_fault}
@@ -8,9 +9,10 @@ abbrev pub invariant-rows : goal.invariant-rows
 invariant-rows l = record {
   reading : IsReading l.reader;
   before : List (List (List ℕ));
-  all : before ++ records_left l.reader ≡ records_left l.initial.reader;
-  amounts : l.amounts ≡ given_by l.gauges.basin.now before;
-  faults : first_fault l.gauges.basin.now before (l.number + 1) (records_left l.reader) ≡ first_fault l.gauges.basin.now [] 2 (records_left l.initial.reader);
+  all : before ++ map (with_kind l.kinds) (records_left l.reader) ≡ map (with_kind l.kinds) (records_left l.initial.reader);
+  amounts : l.amounts ≡ given_by l.columns.basin.now before;
+  faults : first_fault l.columns.basin.now before (l.number + 1) (map (with_kind l.kinds) (records_left l.reader))
+      ≡ first_fault l.columns.basin.now [] 2 (map (with_kind l.kinds) (records_left l.initial.reader));
   numbered : l.number + length (records_left l.reader) ≡ 1 + length (records_left l.initial.reader);
 }
 

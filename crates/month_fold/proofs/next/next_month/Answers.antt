@@ -29,7 +29,7 @@ conclude-requires-clause-small g c =
     let solved : IsSolved c.args.basin.now c.settle.new.month.month c.settle.new.month.supply c.settle.new.month.want c.solve_month.new.plan c.solve_month.new.cuts =
     rw (c.requires.solver, c.as_slice.ensures, c.as_slice-2.ensures) at c.solve_month.ensures.solved in
     planned_small c.args.basin.now c.args.series.now c.args.index c.bring_back.new.month c.settle.new.month c.solve_month.new.plan c.solve_month.new.cuts
-    c.requires.basin c.settle.ensures solved
+    c.requires.basin c.requires.series c.settle.ensures solved
 
 pub returns-clause-next : goal.returns-clause-next
 returns-clause-next g c = λ records stands.
@@ -51,5 +51,5 @@ returns-clause-next g c = λ records stands.
 
 pub returns-clause-small : goal.returns-clause-small
 returns-clause-small g c =
-    next_small c.args.basin.now c.args.series.now c.requires.months.records c.conclude.new.month c.requires.basin
+    next_small c.args.basin.now c.args.series.now c.requires.months.records c.conclude.new.month c.requires.basin c.requires.series
     (returns-clause-next g c c.requires.months.records c.requires.months.stands)

@@ -4,7 +4,7 @@ use Rattle.reports.proofs.trial.trial_report.Goals as goal
 pub totals_of-totals-requires : goal.totals_of-totals-requires
 totals_of-totals-requires g c =
     let all = c.in-Ok-try_run.ensures.trial in
-    totals_room c.args.basin.now c.args.series.now all.records c.in-Ok-try_run.trial.tally c.requires.basin all.run.history.partial all.trial.tally
+    totals_room c.args.basin.now c.args.series.now all.records c.in-Ok-try_run.trial.tally c.requires.basin c.requires.series all.run.history.partial all.trial.tally
 
 pub returns-in-Ok-put_summary-clause-text : goal.returns-in-Ok-put_summary-clause-text
 returns-in-Ok-put_summary-clause-text g c =

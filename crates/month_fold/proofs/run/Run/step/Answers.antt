@@ -57,4 +57,4 @@ use_volumes-requires-clause-used g c = c.self.invariant.months.stands.used.count
 
 pub use_volumes-requires-clause-little : goal.use_volumes-requires-clause-little
 use_volumes-requires-clause-little g c =
-    used_little (seen_of c.self.inside) c.self.invariant.months.records c.self.invariant.valid c.self.invariant.months.stands
+    used_little (seen_of c.self.inside) c.self.invariant.months.records c.self.invariant.valid c.self.invariant.series c.self.invariant.months.stands

@@ -20,7 +20,7 @@ pub add_rights-requires-clause-room : goal.add_rights-requires-clause-room
 add_rights-requires-clause-room c = λ right figures at.
     let next = c.requires.next in
     let told = entry_told (figures_of next.records) c.args.basin.now.rights c.args.self.now.rights right figures next.tally.rights at in
-    right_room c.args.basin.now c.args.series.now next.records c.args.month.now right figures c.requires.basin next.partial told.0 told.1
+    right_room c.args.basin.now c.args.series.now next.records c.args.month.now right figures c.requires.basin c.requires.series next.partial told.0 told.1
 
 pub with_month-self-requires-clause-index : goal.with_month-self-requires-clause-index
 with_month-self-requires-clause-index c =

@@ -1,0 +1,182 @@
+//! The amounts that records give, column by column in each month of the run.
+ghost use Rattle.std.specs.Prelude.{◌≡◌, ◌++◌, ◌∷◌, [], ◌<◌, ◌≤◌, ◌+◌, ◌*◌, ◌/◌, ◌%◌, List, ℕ, length, map, slice_index, slice_index_or, is_some, unwrap_or, Some, None, MatchOption, MatchResult, IfOk, true, false};
+ghost use Rattle.water_text.specs.Months.{IsMonth};
+ghost use Rattle.water_model.specs.Hydrology.{run_month, place_in};
+ghost use Rattle.water_model.specs.Valid.{IsValidBasin};
+ghost use Rattle.inflow_file.specs.Entries.{IsEntry};
+ghost use Rattle.inflow_file.specs.Given.{given, given_by, Completes};
+ghost use Rattle.inflow_file.specs.Cells.{IsPart, cell_in};
+ghost use Rattle.inflow_file.specs.Columns.{IsColumn, column_numbers};
+ghost use Rattle.inflow_file.specs.SeriesFaults.{is_in_run, missing_of, repeats};
+ghost use Rattle.inflow_file.specs.declared.entry.Entry.{Entry};
+
+use crate::columns::{Columns, gauged_of, wanted_of};
+use crate::entry::Entry;
+use crate::refused::{SeriesFault, SeriesRefused};
+use std::alloc::{AllocError, Global};
+use water_model::calls::month_at;
+use water_model::rows::Rows;
+use water_model::types::{Basin, Inflows};
+use water_text::month::Month;
+
+/// The index of a month in the run, or `None` where the run hasn't it.
+fn index_in_run(basin: &Basin, month: Month) -> Option<u32>
+    requires basin { IsValidBasin basin.now }
+    requires month { IsMonth month }
+    ensures { MatchOption result (is_in_run basin.now month ≡ false) (λ i. (i < basin.now.months) × (month ≡ run_month basin.now i)) }
+{
+    let first = 12 * u32::from(basin.first.year) + u32::from(basin.first.month);
+    let number = 12 * u32::from(month.year) + u32::from(month.month);
+    if number < first {
+        return None;
+    }
+    if first + basin.months <= number {
+        return None;
+    }
+    Some(number - first)
+}
+
+/// The place of a column's amount in the month with this index.
+fn place_of(columns: &Columns, index: u32, number: u32) -> usize
+    requires basin { IsValidBasin columns.now.basin.now }
+    requires index { index < columns.now.basin.now.months }
+    requires column { IsColumn columns.now.basin.now number }
+    ensures place { result ≡ index * length (column_numbers columns.now.basin.now) + place_in (column_numbers columns.now.basin.now) number }
+    ensures within { result < columns.now.basin.now.months * length (column_numbers columns.now.basin.now) }
+{
+    index as usize * columns.count() + columns.place_of(number) as usize
+}
+
+/// Enters the amount of an entry, or refuses the entry where an earlier one has its month and column. An entry for a month
+/// outside the run changes nothing.
+pub(crate) fn enter(
+    columns: &Columns,
+    amounts: &mut [Option<u64>],
+    entry: &Entry,
+) -> Result<(), SeriesFault>
+    requires basin { IsValidBasin columns.now.basin.now }
+    requires entry { IsEntry columns.now.basin.now entry.now }
+    requires count { length amounts.old ≡ columns.now.basin.now.months * length (column_numbers columns.now.basin.now) }
+    ensures { (earlier : List Entry) → amounts.old ≡ given columns.now.basin.now earlier → MatchResult result
+        (λ _. (repeats columns.now.basin.now earlier entry.now ≡ false) × (amounts.new ≡ given columns.now.basin.now (earlier ++ entry.now ∷ [])))
+        (λ fault. (fault ≡ SeriesFault.Repeated) × (repeats columns.now.basin.now earlier entry.now ≡ true)) }
+{
+    let Some(index) = index_in_run(columns.basin, entry.month) else {
+        return Ok(());
+    };
+    let place = place_of(columns, index, entry.column);
+    if amounts[place].is_some() {
+        return Err(SeriesFault::Repeated);
+    }
+    amounts[place] = Some(entry.amount);
+    Ok(())
+}
+
+/// The place of the first amount that isn't there, or the number of places.
+fn first_gap(amounts: &[Option<u64>]) -> usize
+    ensures within { result ≤ length amounts.now }
+    ensures before { (k : ℕ) → k < result → is_some (slice_index_or amounts.now k None) ≡ true }
+    ensures here { result < length amounts.now → is_some (slice_index_or amounts.now result None) ≡ false }
+{
+    for (place, amount) in amounts.iter().enumerate() {
+        if amount.is_none() {
+            return place;
+        }
+    }
+    amounts.len()
+}
+
+/// The refusal for want of the amount of a month and a column.
+fn missing_of(basin: &Basin, month: Month, number: u32) -> SeriesRefused
+    requires { IsValidBasin basin.now }
+    ensures { result ≡ missing_of basin.now month number }
+{
+    let nodes = basin.nodes.len() as u32;
+    if number < nodes {
+        SeriesRefused::Missing {
+            month,
+            node: number,
+        }
+    } else {
+        SeriesRefused::MissingWant {
+            month,
+            right: number - nodes,
+        }
+    }
+}
+
+/// The refusal where the amount at a place isn't there.
+fn missing_at(columns: &Columns, place: usize) -> SeriesRefused
+    requires basin { IsValidBasin columns.now.basin.now }
+    requires place { place < columns.now.basin.now.months * length (column_numbers columns.now.basin.now) }
+    ensures { result ≡ missing_of columns.now.basin.now (run_month columns.now.basin.now (place / length (column_numbers columns.now.basin.now)))
+        (slice_index (column_numbers columns.now.basin.now) (place % length (column_numbers columns.now.basin.now))) }
+{
+    let count = columns.count();
+    missing_of(
+        columns.basin,
+        month_at(columns.basin, (place / count) as u32),
+        columns.numbers[place % count],
+    )
+}
+
+/// Number `place` of the amounts of so many columns from one on. `cells` has all columns, `width` in each month.
+fn cell_in(cells: &[Option<u64>], width: usize, from: usize, count: usize, place: usize) -> u64
+    requires count { 0 < count }
+    requires within { place / count * width + from + place % count < length cells.now }
+    requires small { length cells.now ≤ 4800000 }
+    ensures { result ≡ cell_in cells.now width from count place }
+{
+    let row = place / count;
+    cells[row * width + from + place % count].unwrap_or(0)
+}
+
+/// The amounts of so many columns from one on, month by month, out of those of all columns.
+fn part_of(
+    alloc: Global,
+    columns: &Columns,
+    cells: &[Option<u64>],
+    from: usize,
+    count: usize,
+) -> Result<Vec<u64>, AllocError>
+    requires basin { IsValidBasin columns.now.basin.now }
+    requires columns { from + count ≤ length (column_numbers columns.now.basin.now) }
+    requires cells { length cells.now ≡ columns.now.basin.now.months * length (column_numbers columns.now.basin.now) }
+    ensures { IfOk result (λ part. IsPart cells.now (length (column_numbers columns.now.basin.now)) from columns.now.basin.now.months count part.items) }
+{
+    let width = columns.count();
+    let end = columns.basin.months as usize * count;
+    let mut part = Vec::with_capacity(alloc, end)?;
+    for place in 0..end {
+        part.push(cell_in(cells, width, from, count, place))?;
+    }
+    Ok(part)
+}
+
+/// The series of the amounts, or the first month and column for which none is there.
+pub(crate) fn complete(
+    alloc: Global,
+    columns: &Columns,
+    amounts: &[Option<u64>],
+) -> Result<Inflows, SeriesRefused>
+    requires basin { IsValidBasin columns.now.basin.now }
+    requires count { length amounts.now ≡ columns.now.basin.now.months * length (column_numbers columns.now.basin.now) }
+    ensures { (rows : List (List (List ℕ))) → amounts.now ≡ given_by columns.now.basin.now rows → Completes columns.now.basin.now rows result }
+{
+    let gap = first_gap(amounts);
+    if gap < amounts.len() {
+        return Err(missing_at(columns, gap));
+    }
+    let gauged = gauged_of(alloc, columns.basin)?;
+    let wanted = wanted_of(alloc, columns.basin)?;
+    let gauges = gauged.len();
+    let wants = wanted.len();
+    let amount = part_of(alloc, columns, amounts, 0, gauges)?;
+    let want = part_of(alloc, columns, amounts, gauges, wants)?;
+    Ok(Inflows {
+        gauged: Rows::from_vec(gauged),
+        amount: Rows::from_vec(amount),
+        wanted: Rows::from_vec(wanted),
+        want: Rows::from_vec(want),
+    })
+}

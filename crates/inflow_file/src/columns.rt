@@ -1,0 +1,313 @@
+//! The columns of a series: the gauged nodes of a basin, and its rights whose wants stand in the series.
+ghost use Rattle.std.specs.Prelude.{◌≡◌, ℕ, ◌+◌, ◌<◌, ◌≤◌, ◌++◌, ◌∷◌, [], length, slice_index, filter, true, false, codes, if◌then◌else◌, IfOk, IfSome, OnOk};
+ghost use Rattle.basin_names.specs.Named.{node_named, right_named};
+ghost use Rattle.csv.specs.Records.{fields_of};
+ghost use Rattle.water_model.specs.Hydrology.{place_in};
+ghost use Rattle.water_model.specs.Places.{numbers_from};
+ghost use Rattle.water_model.specs.Valid.{IsValidBasin, is_gauged, is_in_series, gauged_nodes, rights_in_series};
+ghost use Rattle.inflow_file.specs.Columns.{IsColumn, ArePlaces, column_numbers, count_of_both, is_column};
+ghost use Rattle.inflow_file.specs.CsvRecords.{with_kind};
+ghost use Rattle.inflow_file.specs.Entries.{IsEntry, column_of, gauge_of, read_record, wanted_of};
+
+use crate::entry::Entry;
+use crate::records::{four_fields, three_fields};
+use crate::refused::SeriesFault;
+use basin_names::{NodeNames, RightNames};
+use csv::ByteRecord;
+use std::alloc::{AllocError, Global};
+use water_model::types::{Basin, Inflow};
+use water_text::amount::read_amount;
+use water_text::month::Month;
+
+/// The columns, and for each number how many of them stand before it.
+#[derive(Drop)]
+struct Places {
+    numbers: Vec<u32>,
+    of_number: Vec<u32>,
+}
+
+/// A basin with its names, the columns of a series of it, and for each number how many columns stand before it. Nodes are
+/// numbered from 0, and rights go on behind them.
+#[derive(Drop)]
+pub(crate) struct Columns<'a> {
+    pub basin: &'a Basin,
+    nodes: NodeNames<'a>,
+    rights: RightNames<'a>,
+    pub numbers: Vec<u32>,
+    places: Vec<u32>,
+    ghost few: { count_of_both basin.now ≤ 4000 },
+    ghost node_names: { nodes.basin.now ≡ basin.now },
+    ghost right_names: { rights.basin.now ≡ basin.now },
+    ghost columns_are: { numbers.items ≡ column_numbers basin.now },
+    ghost count: { length places.items ≡ count_of_both basin.now },
+    ghost placed: { (n : ℕ) → n < count_of_both basin.now → is_column basin.now n ≡ true → slice_index places.items n ≡ place_in numbers.items n },
+}
+
+/// Whether a node is gauged.
+fn is_gauged(basin: &Basin, node: u32) -> bool
+    requires { node < length basin.now.nodes }
+    ensures { result ≡ is_gauged basin.now node }
+{
+    match basin.nodes[node as usize].inflow {
+        Inflow::Gauged => true,
+        Inflow::Monthly(_) => false,
+    }
+}
+
+/// Whether a right's wants stand in the series.
+fn is_in_series(basin: &Basin, right: u32) -> bool
+    requires { right < length basin.now.rights }
+    ensures { result ≡ is_in_series basin.now right }
+{
+    basin.rights[right as usize].series
+}
+
+fn is_column(basin: &Basin, number: u32) -> bool
+    requires basin { IsValidBasin basin.now }
+    requires number { number < count_of_both basin.now }
+    ensures { result ≡ is_column basin.now number }
+{
+    let nodes = basin.nodes.len() as u32;
+    if number < nodes {
+        is_gauged(basin, number)
+    } else {
+        is_in_series(basin, number - nodes)
+    }
+}
+
+fn add_column(numbers: &mut Vec<u32>, basin: &Basin, number: u32) -> Result<(), AllocError>
+    requires basin { IsValidBasin basin.now }
+    requires number { number < count_of_both basin.now }
+    ensures { OnOk result (numbers.new.items ≡ numbers.old.items ++ (if is_column basin.now number then number ∷ [] else [])) }
+{
+    if is_column(basin, number) {
+        numbers.push(number)?;
+    }
+    Ok(())
+}
+
+/// How many nodes and rights there are.
+fn count_of_both(basin: &Basin) -> u32
+    requires { IsValidBasin basin.now }
+    ensures { result ≡ count_of_both basin.now }
+{
+    (basin.nodes.len() + basin.rights.len()) as u32
+}
+
+/// The columns of a basin.
+fn places_of(alloc: Global, basin: &Basin) -> Result<Places, AllocError>
+    requires { IsValidBasin basin.now }
+    ensures { IfOk result (λ places. ArePlaces basin.now places.numbers.items places.of_number.items) }
+{
+    let mut numbers = Vec::new(alloc);
+    let mut of_number = Vec::new(alloc);
+    for number in 0..count_of_both(basin) {
+        of_number.push(numbers.len() as u32)?;
+        add_column(&mut numbers, basin, number)?;
+    }
+    Ok(Places { numbers, of_number })
+}
+
+fn add_gauge(gauged: &mut Vec<u32>, basin: &Basin, node: u32) -> Result<(), AllocError>
+    requires { node < length basin.now.nodes }
+    ensures { OnOk result (gauged.new.items ≡ gauged.old.items ++ (if is_gauged basin.now node then node ∷ [] else [])) }
+{
+    if is_gauged(basin, node) {
+        gauged.push(node)?;
+    }
+    Ok(())
+}
+
+/// The gauged nodes of a basin, in its order. AllocError comes where memory is lacking.
+pub(crate) fn gauged_of(alloc: Global, basin: &Basin) -> Result<Vec<u32>, AllocError>
+    requires { IsValidBasin basin.now }
+    ensures { IfOk result (λ gauged. gauged.items ≡ gauged_nodes basin.now) }
+{
+    let mut gauged = Vec::new(alloc);
+    for node in 0..basin.nodes.len() as u32 {
+        add_gauge(&mut gauged, basin, node)?;
+    }
+    Ok(gauged)
+}
+
+fn add_wanted(wanted: &mut Vec<u32>, basin: &Basin, right: u32) -> Result<(), AllocError>
+    requires { right < length basin.now.rights }
+    ensures { OnOk result (wanted.new.items ≡ wanted.old.items ++ (if is_in_series basin.now right then right ∷ [] else [])) }
+{
+    if is_in_series(basin, right) {
+        wanted.push(right)?;
+    }
+    Ok(())
+}
+
+/// The rights of a basin whose wants stand in the series, in its order. AllocError comes where memory is lacking.
+pub(crate) fn wanted_of(alloc: Global, basin: &Basin) -> Result<Vec<u32>, AllocError>
+    requires { IsValidBasin basin.now }
+    ensures { IfOk result (λ wanted. wanted.items ≡ rights_in_series basin.now) }
+{
+    let mut wanted = Vec::new(alloc);
+    for right in 0..basin.rights.len() as u32 {
+        add_wanted(&mut wanted, basin, right)?;
+    }
+    Ok(wanted)
+}
+
+impl<'a> Columns<'a> {
+    /// The columns of a basin.
+    pub fn of(alloc: Global, basin: &'a Basin) -> Result<Columns<'a>, AllocError>
+        requires { IsValidBasin basin.now }
+        ensures { IfOk result (λ columns. columns.basin.now ≡ basin.now) }
+    {
+        let nodes = NodeNames::of(alloc, basin)?;
+        let rights = RightNames::of(alloc, basin)?;
+        let Places { numbers, of_number } = places_of(alloc, basin)?;
+        Ok(Columns {
+            basin,
+            nodes,
+            rights,
+            numbers,
+            places: of_number,
+        })
+    }
+
+    /// How many columns there are.
+    pub fn count(&self) -> usize
+        ensures { result ≡ length (column_numbers self.now.basin.now) }
+    {
+        self.numbers.len()
+    }
+
+    /// The place of a column among the columns.
+    pub fn place_of(&self, number: u32) -> u32
+        requires { IsColumn self.now.basin.now number }
+        ensures { result ≡ place_in (column_numbers self.now.basin.now) number }
+    {
+        self.places[number as usize]
+    }
+
+    /// The node that has the name, or `None` where none has it.
+    fn node_named(&self, name: &[u8]) -> Option<u32>
+        ensures value { result ≡ node_named self.now.basin.now name.now }
+        ensures within { IfSome result (λ node. node < length self.now.basin.now.nodes) }
+    {
+        self.nodes.named(name)
+    }
+
+    /// The right that has the name, or `None` where none has it.
+    fn right_named(&self, name: &[u8]) -> Option<u32>
+        ensures value { result ≡ right_named self.now.basin.now name.now }
+        ensures within { IfSome result (λ right. right < length self.now.basin.now.rights) }
+    {
+        self.rights.named(name)
+    }
+
+    /// The gauged node of a name.
+    fn gauge_of(&self, name: &[u8]) -> Result<u32, SeriesFault>
+        ensures reads { result ≡ gauge_of self.now.basin.now name.now }
+        ensures column { IfOk result (IsColumn self.now.basin.now) }
+    {
+        let Some(node) = self.node_named(name) else {
+            return Err(SeriesFault::NoSuchNode);
+        };
+        if !is_gauged(self.basin, node) {
+            return Err(SeriesFault::NotGauged);
+        }
+        Ok(node)
+    }
+
+    /// The number of the right of a name, whose wants stand in the series.
+    fn wanted_of(&self, name: &[u8]) -> Result<u32, SeriesFault>
+        ensures reads { result ≡ wanted_of self.now.basin.now name.now }
+        ensures column { IfOk result (IsColumn self.now.basin.now) }
+    {
+        let Some(right) = self.right_named(name) else {
+            return Err(SeriesFault::NoSuchRight);
+        };
+        if !is_in_series(self.basin, right) {
+            return Err(SeriesFault::NotSeries);
+        }
+        Ok(self.basin.nodes.len() as u32 + right)
+    }
+
+    /// The column that a kind and a name tell.
+    fn column_of(&self, kind: &[u8], name: &[u8]) -> Result<u32, SeriesFault>
+        ensures reads { result ≡ column_of self.now.basin.now kind.now name.now }
+        ensures column { IfOk result (IsColumn self.now.basin.now) }
+    {
+        if kind == b"inflow".as_slice() {
+            self.gauge_of(name)
+        } else if kind == b"want".as_slice() {
+            self.wanted_of(name)
+        } else {
+            Err(SeriesFault::BadKind)
+        }
+    }
+
+    /// What the fields of a record say, or the first fault in them.
+    #[tactic(auto, unfolding(crate::specs::Entries::read_record))]
+    fn read_fields(
+        &self,
+        month: &[u8],
+        kind: &[u8],
+        name: &[u8],
+        amount: &[u8],
+    ) -> Result<Entry, SeriesFault>
+        ensures reads { result ≡ read_record self.now.basin.now (month.now ∷ kind.now ∷ name.now ∷ amount.now ∷ []) }
+        ensures entry { IfOk result (IsEntry self.now.basin.now) }
+    {
+        let Some(month) = Month::read(month) else {
+            return Err(SeriesFault::BadMonth);
+        };
+        let column = match self.column_of(kind, name) {
+            Ok(column) => column,
+            Err(fault) => return Err(fault),
+        };
+        let Some(amount) = read_amount(amount, 1_000_000_000) else {
+            return Err(SeriesFault::BadAmount);
+        };
+        Ok(Entry {
+            month,
+            column,
+            amount,
+        })
+    }
+
+    /// What a record of four fields says.
+    fn read_with_kind(&self, row: &ByteRecord) -> Result<Entry, SeriesFault>
+        ensures reads { result ≡ read_record self.now.basin.now (with_kind true (fields_of row.now)) }
+        ensures entry { IfOk result (IsEntry self.now.basin.now) }
+    {
+        match four_fields(row) {
+            Some((month, kind, name, amount)) => self.read_fields(month, kind, name, amount),
+            None => Err(SeriesFault::Csv),
+        }
+    }
+
+    /// What a record of three fields says, which is an inflow.
+    fn read_inflow(&self, row: &ByteRecord) -> Result<Entry, SeriesFault>
+        ensures reads { result ≡ read_record self.now.basin.now (with_kind false (fields_of row.now)) }
+        ensures entry { IfOk result (IsEntry self.now.basin.now) }
+    {
+        match three_fields(row) {
+            Some((month, name, amount)) => self.read_fields(
+                month,
+                b"inflow".as_slice(),
+                name,
+                amount,
+            ),
+            None => Err(SeriesFault::Csv),
+        }
+    }
+
+    /// What a record says behind a header that tells kinds or doesn't, or the first fault that it has by itself.
+    pub fn read_record(&self, kinds: bool, row: &ByteRecord) -> Result<Entry, SeriesFault>
+        ensures reads { result ≡ read_record self.now.basin.now (with_kind kinds (fields_of row.now)) }
+        ensures entry { IfOk result (IsEntry self.now.basin.now) }
+    {
+        if kinds {
+            self.read_with_kind(row)
+        } else {
+            self.read_inflow(row)
+        }
+    }
+}
