@@ -1,5 +1,5 @@
 -- Marks of places by the bits of words, 64 to a word.
-use Rattle.std.specs.Prelude.{ℕ, ◌≡◌, ◌==◌, ◌+◌, ◌/◌, ◌%◌, ◌<◌, ◌≤◌, Bool, true, false, List, map, slice_index}
+use Rattle.std.specs.Prelude.{ℕ, ◌≡◌, ◌==◌, ◌+◌, ◌/◌, ◌%◌, ◌<◌, ◌≤◌, ◌&&◌, Bool, true, false, List, map, slice_index}
 use Rattle.std.specs.List.{range_with_len}
 use Rattle.std.specs.Int.{bit_at}
 
@@ -15,12 +15,16 @@ is_marked words p = bit_at (slice_index words (p / 64)) (p % 64) == 1
 abbrev pub marks : ℕ → List ℕ → List Bool
 marks n words = map (is_marked words) (range_with_len 0 n)
 
--- the least marked place from a place on, below a bound
-pub record IsNextMarked (words : List ℕ) (from places p : ℕ) : Type 0 where
+-- whether both lists mark a place
+abbrev pub in_both : List ℕ → List ℕ → ℕ → Bool
+in_both words others p = is_marked words p && is_marked others p
+
+-- the least place that both mark, from a place on, below a bound
+pub record IsNextInBoth (words others : List ℕ) (from places p : ℕ) : Type 0 where
   pub after : from ≤ p
   pub below : p < places
-  pub marked : is_marked words p ≡ true
-  pub least : (q : ℕ) → from ≤ q → q < p → is_marked words q ≡ false
+  pub marked : in_both words others p ≡ true
+  pub least : (q : ℕ) → from ≤ q → q < p → in_both words others q ≡ false
 
 -- the lowest bit that is 1 of a word of 64, of those from a bit on
 pub record IsLowestFrom (word from bit : ℕ) : Type 0 where

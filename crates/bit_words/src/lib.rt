@@ -5,7 +5,7 @@
 
 ghost use Rattle.std.specs.Prelude.{◌≡◌, ◌≢◌, ℕ, ◌+◌, ◌*◌, ◌/◌, ◌<◌, ◌≤◌, true, false, length, IfSome, IfNone};
 ghost use Rattle.std.specs.Int.{bit_at};
-ghost use Rattle.bit_words.specs.Marks.{words_for, is_marked, IsNextMarked, IsLowestFrom};
+ghost use Rattle.bit_words.specs.Marks.{words_for, is_marked, in_both, IsNextInBoth, IsLowestFrom};
 
 /// How many words hold the marks of so many places.
 pub fn words_for(places: u32) -> usize
@@ -42,16 +42,22 @@ pub fn unmark(words: &mut [u64], place: u32)
     words[place as usize / 64] &= !(1 << (place % 64));
 }
 
-/// The least marked place from `from` on and below `places`, or none where there is none. A word without marks costs
-/// one look.
-pub fn next_marked(words: &[u64], from: u32, places: u32) -> Option<u32>
-    requires { places ≤ 64 * length words.now }
-    ensures some { IfSome result (λ p. IsNextMarked words.now from places p) }
-    ensures none { IfNone result ((q : ℕ) → from ≤ q → q < places → is_marked words.now q ≡ false) }
+/// The least place from `from` on and below `places` that both lists mark, or none where there is none. Two words
+/// without a common mark cost one look.
+pub fn next_marked_in_both(
+    words: &[u64],
+    others: &[u64],
+    from: u32,
+    places: u32,
+) -> Option<u32>
+    requires words { places ≤ 64 * length words.now }
+    requires others { places ≤ 64 * length others.now }
+    ensures some { IfSome result (λ p. IsNextInBoth words.now others.now from places p) }
+    ensures none { IfNone result ((q : ℕ) → from ≤ q → q < places → in_both words.now others.now q ≡ false) }
 {
     for at in from as usize / 64..words_for(places) {
         let first = at as u32 * 64;
-        if let Some(bit) = lowest_bit(words[at], from.saturating_sub(first)) {
+        if let Some(bit) = lowest_bit(words[at] & others[at], from.saturating_sub(first)) {
             let place = first + bit;
             return if place < places { Some(place) } else { None };
         }

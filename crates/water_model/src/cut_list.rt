@@ -1,5 +1,6 @@
 //! For each right none or a set of nodes.
 ghost use Rattle.std.specs.Prelude.{◌≡◌, ◌+◌, ◌<◌, ◌≤◌, None, Some, length, replicate, slice_set, false, true, IfOk, IfSome, IsSome, IsNone, ◌↔◌};
+ghost use Rattle.std.specs.Option.{option_map};
 ghost use Rattle.bit_words.specs.Marks.{words_for, marks};
 ghost use Rattle.word_region.specs.Words.{zeroed};
 ghost use Rattle.water_model.specs.Lookups.{has};
@@ -64,6 +65,19 @@ impl CutList {
         })
     }
 
+    /// The words that mark the nodes of a right's set, 64 to a word, or none exactly where it has no set.
+    pub fn words(&self, right: u32) -> Option<&[u64]>
+        requires { right < length self.now.sets }
+        ensures set { option_map (λ words. marks self.now.nodes words.now) result ≡ set_of self.now right }
+        ensures size { IfSome result (λ words. length words.now ≡ words_for self.now.nodes) }
+    {
+        let begin = self.region.get(rights_place(self.rights), right as usize);
+        if begin == 0 {
+            return None;
+        }
+        Some(self.region.words(set_place(self.nodes, begin)))
+    }
+
     /// Whether a right's set holds a node, or none exactly where it has no set.
     pub fn holds(&self, right: u32, node: u32) -> Option<bool>
         requires right { right < length self.now.sets }
@@ -72,12 +86,10 @@ impl CutList {
         ensures some { IfSome result (λ held. IfSome (set_of self.now right) (λ set. held ≡ has set node)) }
         ensures sized { IfSome (set_of self.now right) (λ set. length set ≡ self.now.nodes) }
     {
-        let begin = self.region.get(rights_place(self.rights), right as usize);
-        if begin == 0 {
-            return None;
+        match self.words(right) {
+            Some(words) => Some(bit_words::is_marked(words, node)),
+            None => None,
         }
-        let words = self.region.words(set_place(self.nodes, begin));
-        Some(bit_words::is_marked(words, node))
     }
 
     /// Adds a node to a right's set. The other rights' sets stay.
