@@ -19,3 +19,4 @@ pub mod FoundBytes
 pub mod Idle
 pub mod Handed
 pub mod Parts
+pub mod Unread

@@ -256,7 +256,7 @@ gathering files ending.WriteFault told read write h =
 gathering files ending.PartYear told read write h =
     behind_years (told files.basin) _ IsPartYear (Gathered its.BasinRefused read write) (λ bytes _ is years _ _. absurd (part bytes is years)) h
 gathering files (ending.SeriesRefused finding) told read write h = gathered_by_stop files (ending.SeriesRefused finding) told read write h.1
-gathering files (ending.ReadFault file.Series) told read write h = gathered_by_stop files (ending.ReadFault file.Series) told read write (h.1, h.2)
+gathering files (ending.ReadFault file.Series) told read write h = gathered_by_stop files (ending.ReadFault file.Series) told read write (h.1, h.2, h.3)
 gathering files (ending.InputTooLong file.Series) told read write h = gathered_by_stop files (ending.InputTooLong file.Series) told read write h.1
 gathering files (ending.BasinRefused finding) told read write h = gathered_by_stop files (ending.BasinRefused finding) told read write h
 gathering files (ending.ReadFault file.Basin) told read write h = gathered_by_stop files (ending.ReadFault file.Basin) told read write h

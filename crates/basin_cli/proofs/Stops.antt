@@ -17,17 +17,17 @@ use Rattle.basin_cli.specs.Pairs.{BothSeriesEnd, BothSeriesReadEnd, IsOtherRun}
 use Rattle.basin_cli.specs.Series.{IsBasinText}
 
 -- bytes that were read are refused as they are
-both_read : (first second : Basin) (bytes : List ℕ) (read : Type 0) (how : Ending) → length bytes ≤ file_limit →
-    BothSeriesEnd first second bytes how → BothSeriesReadEnd first second (Some bytes) read how
-both_read first second bytes read (ending.SeriesRefused finding) within h = (within, h)
-both_read first second bytes read (ending.SecondRefused (of_second.Series finding)) within h = (within, h)
-both_read first second bytes read ending.OutOfMemory within h = tt
-both_read first second bytes read how within h = absurd h
+both_read : (first second : Basin) (bytes : List ℕ) (name : Option (List ℕ)) (read : Type 0) (how : Ending) → length bytes ≤ file_limit →
+    BothSeriesEnd first second bytes how → BothSeriesReadEnd first second name (Some bytes) read how
+both_read first second bytes name read (ending.SeriesRefused finding) within h = (within, h)
+both_read first second bytes name read (ending.SecondRefused (of_second.Series finding)) within h = (within, h)
+both_read first second bytes name read ending.OutOfMemory within h = tt
+both_read first second bytes name read how within h = absurd h
 
-pub both_read_result : (first second : Basin) (bytes : List ℕ) (read : Type 0) (r : Result (Inflows × Inflows) Ending) → length bytes ≤ file_limit →
-    IfErr r (BothSeriesEnd first second bytes) → IfErr r (BothSeriesReadEnd first second (Some bytes) read)
-both_read_result first second bytes read (Ok both) within h = tt
-both_read_result first second bytes read (Err how) within h = both_read first second bytes read how within h
+pub both_read_result : (first second : Basin) (bytes : List ℕ) (name : Option (List ℕ)) (read : Type 0) (r : Result (Inflows × Inflows) Ending) → length bytes ≤ file_limit →
+    IfErr r (BothSeriesEnd first second bytes) → IfErr r (BothSeriesReadEnd first second name (Some bytes) read)
+both_read_result first second bytes name read (Ok both) within h = tt
+both_read_result first second bytes name read (Err how) within h = both_read first second bytes name read how within h
 
 -- what is known of the first file and of the second together
 joined : (t : Option (List ℕ)) (A : List ℕ → Type 0) (B : List ℕ → Type 0) → ((bytes : List ℕ) → A bytes → B bytes) → IfSome t A → IfSome t B
@@ -39,14 +39,14 @@ same_series : (told later : Told) (name : Option (List ℕ)) → ((n : List ℕ)
 same_series told later None same = refl
 same_series told later (Some name) same = same name
 
-both_since : (first second : Basin) (o : Option (List ℕ)) (read since : Type 0) (how : Ending) → (read → since) → BothSeriesReadEnd first second o read how →
-    BothSeriesReadEnd first second o since how
-both_since first second o read since (ending.SeriesRefused finding) rose h = h
-both_since first second o read since (ending.SecondRefused (of_second.Series finding)) rose h = h
-both_since first second o read since (ending.ReadFault file.Series) rose h = rose h
-both_since first second o read since (ending.InputTooLong file.Series) rose h = h
-both_since first second o read since ending.OutOfMemory rose h = tt
-both_since first second o read since how rose h = absurd h
+both_since : (first second : Basin) (name o : Option (List ℕ)) (read since : Type 0) (how : Ending) → (read → since) →
+    BothSeriesReadEnd first second name o read how → BothSeriesReadEnd first second name o since how
+both_since first second name o read since (ending.SeriesRefused finding) rose h = h
+both_since first second name o read since (ending.SecondRefused (of_second.Series finding)) rose h = h
+both_since first second name o read since (ending.ReadFault file.Series) rose h = (rose h.0, h.1)
+both_since first second name o read since (ending.InputTooLong file.Series) rose h = h
+both_since first second name o read since ending.OutOfMemory rose h = tt
+both_since first second name o read since how rose h = absurd h
 
 pub rose_since : (start mid now : ℕ) → start ≤ mid → Rose mid now → Rose start now
 rose_since start mid now l rose = omega arith
@@ -101,7 +101,7 @@ module _ (files : Files) (second : List ℕ) (told : Told) (read : Type 0) where
           joined (series_told told files.series) S (Q bytes other) (λ series is. f bytes other series text other_text is) h,
         ))
 
-    series_stops : (how : Ending) → HaveSameMonths b c → BothSeriesReadEnd b c (series_told told files.series) read how → StopsComparing files second how told read
+    series_stops : (how : Ending) → HaveSameMonths b c → BothSeriesReadEnd b c files.series (series_told told files.series) read how → StopsComparing files second how told read
     series_stops (ending.SeriesRefused finding) same h =
         behind_both _ _ same h (λ bytes other series text other_text is. record { basin = b; spelled = text.spelled; within = is.0; first = is.1 })
     series_stops (ending.SecondRefused (of_second.Series finding)) same h =
@@ -109,17 +109,17 @@ module _ (files : Files) (second : List ℕ) (told : Told) (read : Type 0) where
           record { basin = b; spelled = text.spelled; within = is.0; sound = is.1.0 },
           record { basin = c; spelled = other_text.spelled; within = is.0; first = is.1.1 },
         ))
-    series_stops (ending.ReadFault file.Series) same h = (h, good_second same)
+    series_stops (ending.ReadFault file.Series) same h = (h.0, h.1, good_second same)
     series_stops (ending.InputTooLong file.Series) same h = behind_both _ IsTooLong same h (λ _ _ _ _ _ is. is)
     series_stops ending.OutOfMemory same h = tt
     series_stops how same h = absurd h
 
     pub series_stops_later : (later : Told) (since : Type 0) (how : Ending) → ((n : List ℕ) → later n ≡ told n) → (since → read) → HaveSameMonths b c →
-        BothSeriesReadEnd b c (series_told later files.series) since how → StopsComparing files second how told read
+        BothSeriesReadEnd b c files.series (series_told later files.series) since how → StopsComparing files second how told read
     series_stops_later later since how same_told rose same h =
         series_stops how same
-        (both_since b c (series_told told files.series) since read how rose
-        (subst (λ (o : Option (List ℕ)). BothSeriesReadEnd b c o since how) (same_series told later files.series same_told) h))
+        (both_since b c files.series (series_told told files.series) since read how rose
+        (subst (λ (o : Option (List ℕ)). BothSeriesReadEnd b c files.series o since how) (same_series told later files.series same_told) h))
 
 -- where a file is refused, nothing may be written
 never_writes : (told : Told) (files : Files) (second : List ℕ) (how : Ending) (read : Type 0) → StopsComparing files second how told read → MayWrite (status_of how) → ⊥

@@ -1,5 +1,5 @@
 -- `compare`: the cause of each of its endings, what it leaves on out, and how often its searches push.
-use Rattle.std.specs.Prelude.{◌≡◌, ℕ, ◌+◌, ◌≤◌, List, Option, ⊤, IfSome, ◌⊎◌}
+use Rattle.std.specs.Prelude.{◌≡◌, ℕ, ◌+◌, ◌≤◌, List, Option, ⊤, IfSome, IsSome, ◌⊎◌}
 use Rattle.basin_file.specs.BasinFaults.{Spells}
 use Rattle.injury.specs.Injuries.{IsInjury, comparison_text}
 use Rattle.injury.specs.declared.injuries.Injury.{Injury}
@@ -85,7 +85,7 @@ StopsComparing files second (ending.SecondRefused (of_second.Series finding)) to
     BehindBoth told files second (λ bytes other series. IsGoodSeries bytes series × IsSeriesRefusedFor finding other series)
 StopsComparing files second (ending.ReadFault file.Basin) told read = read
 StopsComparing files second (ending.ReadFault file.SecondBasin) told read = read × IfSome (told files.basin) IsGoodBasin
-StopsComparing files second (ending.ReadFault file.Series) told read = read × BehindFirst told files second IsGoodSecond
+StopsComparing files second (ending.ReadFault file.Series) told read = read × IsSome files.series × BehindFirst told files second IsGoodSecond
 StopsComparing files second (ending.InputTooLong file.Basin) told read = IfSome (told files.basin) IsTooLong
 StopsComparing files second (ending.InputTooLong file.SecondBasin) told read = BehindFirst told files second (λ _ other. IsTooLong other)
 StopsComparing files second (ending.InputTooLong file.Series) told read = BehindBoth told files second (λ _ _ series. IsTooLong series)

@@ -1,5 +1,5 @@
 -- What each status of a call means: its cause, and what it leaves on out and err.
-use Rattle.std.specs.Prelude.{◌≡◌, ℕ, ◌+◌, ◌*◌, ◌<◌, ◌≤◌, ◌++◌, List, length, take, codes, Option, Some, None, Result, Ok, Err, ⊤, IfSome}
+use Rattle.std.specs.Prelude.{◌≡◌, ℕ, ◌+◌, ◌*◌, ◌<◌, ◌≤◌, ◌++◌, List, length, take, codes, Option, Some, None, Result, Ok, Err, ⊤, IfSome, IsSome}
 use Rattle.std.specs.Fmt.{decimal}
 use Rattle.std.specs.Io.KnownBytes.{Appends}
 use Rattle.water_edge.specs.Edge.{Rose}
@@ -127,7 +127,8 @@ HasTrialCause other write = ⊥
 abbrev pub StopsReadingYears : Files → Ending → Told → Type 0 → Type 0
 StopsReadingYears files ending.PartYear told read = IfSome (told files.basin) IsPartYear
 StopsReadingYears files (ending.SeriesRefused finding) told read = IfSome (told files.basin) IsOfYears × BehindBasin told files (IsSeriesRefusedFor finding)
-StopsReadingYears files (ending.ReadFault file.Series) told read = IfSome (told files.basin) IsOfYears × read × IfSome (told files.basin) IsGoodBasin
+StopsReadingYears files (ending.ReadFault file.Series) told read =
+    IfSome (told files.basin) IsOfYears × read × IsSome files.series × IfSome (told files.basin) IsGoodBasin
 StopsReadingYears files (ending.InputTooLong file.Series) told read =
     IfSome (told files.basin) IsOfYears × BehindBasin told files (λ _ bytes. IsTooLong bytes)
 StopsReadingYears files other told read = StopsReading files other told read

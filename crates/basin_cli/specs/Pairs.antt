@@ -1,5 +1,5 @@
 -- How the reading of a comparison's files may end.
-use Rattle.std.specs.Prelude.{◌≡◌, ℕ, ◌≤◌, List, length, Option, Some, None, ⊤, IfSome}
+use Rattle.std.specs.Prelude.{◌≡◌, ℕ, ◌≤◌, List, length, Option, Some, None, ⊤, IfSome, IsSome}
 use Rattle.std.specs.Option.{option_and_then}
 use Rattle.basin_file.specs.BasinFaults.{file_fault}
 use Rattle.inflow_file.specs.SeriesFaults.{series_fault}
@@ -47,15 +47,15 @@ BothSeriesEnd first second bytes ending.OutOfMemory = ⊤
 BothSeriesEnd first second bytes other = ⊥
 
 -- how the reading of a series for both basins may end, where its bytes are told or not
-abbrev pub BothSeriesReadEnd : Basin → Basin → Option (List ℕ) → Type 0 → Ending → Type 0
-BothSeriesReadEnd first second told read (ending.SeriesRefused finding) =
+abbrev pub BothSeriesReadEnd : Basin → Basin → Option (List ℕ) → Option (List ℕ) → Type 0 → Ending → Type 0
+BothSeriesReadEnd first second name told read (ending.SeriesRefused finding) =
     IfSome told (λ bytes. (length bytes ≤ file_limit) × BothSeriesEnd first second bytes (ending.SeriesRefused finding))
-BothSeriesReadEnd first second told read (ending.SecondRefused (of_second.Series finding)) =
+BothSeriesReadEnd first second name told read (ending.SecondRefused (of_second.Series finding)) =
     IfSome told (λ bytes. (length bytes ≤ file_limit) × BothSeriesEnd first second bytes (ending.SecondRefused (of_second.Series finding)))
-BothSeriesReadEnd first second told read (ending.ReadFault file.Series) = read
-BothSeriesReadEnd first second told read (ending.InputTooLong file.Series) = IfSome told IsTooLong
-BothSeriesReadEnd first second told read ending.OutOfMemory = ⊤
-BothSeriesReadEnd first second told read other = ⊥
+BothSeriesReadEnd first second name told read (ending.ReadFault file.Series) = read × IsSome name
+BothSeriesReadEnd first second name told read (ending.InputTooLong file.Series) = IfSome told IsTooLong
+BothSeriesReadEnd first second name told read ending.OutOfMemory = ⊤
+BothSeriesReadEnd first second name told read other = ⊥
 
 -- two basins of one run, each with its series, are what the told bytes of the files spell
 pub record ArePaired (told : Told) (files : Files) (second : List ℕ) (pair : Pair) : Type 0 where

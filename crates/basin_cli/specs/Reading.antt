@@ -1,5 +1,5 @@
 -- What holds behind the files of a command, and where the reading of them stops.
-use Rattle.std.specs.Prelude.{◌≡◌, ℕ, List, ⊤, IfSome, ◌⊎◌}
+use Rattle.std.specs.Prelude.{◌≡◌, ℕ, List, ⊤, IfSome, IsSome, ◌⊎◌}
 use Rattle.basin_cli.specs.Bytes.{IsGoodBasin, IsGoodSeries, IsRefusedFor, IsSeriesRefusedFor, IsTooLong, Told, series_told}
 use Rattle.basin_cli.specs.Command.{Files}
 use Rattle.basin_cli.specs.declared.ending.Ending.{Ending}
@@ -29,7 +29,7 @@ abbrev pub StopsReading : Files → Ending → Told → Type 0 → Type 0
 StopsReading files (ending.BasinRefused finding) told read = IfSome (told files.basin) (IsRefusedFor finding)
 StopsReading files (ending.SeriesRefused finding) told read = BehindBasin told files (IsSeriesRefusedFor finding)
 StopsReading files (ending.ReadFault file.Basin) told read = read
-StopsReading files (ending.ReadFault file.Series) told read = read × IfSome (told files.basin) IsGoodBasin
+StopsReading files (ending.ReadFault file.Series) told read = read × IsSome files.series × IfSome (told files.basin) IsGoodBasin
 StopsReading files (ending.InputTooLong file.Basin) told read = IfSome (told files.basin) IsTooLong
 StopsReading files (ending.InputTooLong file.Series) told read = BehindBasin told files (λ _ bytes. IsTooLong bytes)
 StopsReading files ending.OutOfMemory told read = ⊤

@@ -1,5 +1,5 @@
 -- What the files of a command are accepted for, and how reading them may end.
-use Rattle.std.specs.Prelude.{◌≡◌, ℕ, ◌≤◌, List, length, Option, Some, None, ⊤, IfSome}
+use Rattle.std.specs.Prelude.{◌≡◌, ℕ, ◌≤◌, List, length, Option, Some, None, ⊤, IfSome, IsSome}
 use Rattle.std.specs.Option.{option_and_then}
 use Rattle.basin_file.specs.BasinFaults.{Spells, file_fault}
 use Rattle.inflow_file.specs.SeriesFaults.{series_fault, SpellsSeries}
@@ -57,14 +57,15 @@ pub record IsSeriesText (b : Basin) (series : Inflows) (bytes : List ℕ) : Type
   pub sound : series_fault b bytes ≡ None
   pub spelled : SpellsSeries b bytes series
 
--- how the reading of a series may end, where its bytes are told or not
-abbrev pub SeriesReadEnds : Basin → Option (List ℕ) → Type 0 → Ending → Type 0
-SeriesReadEnds b told read (ending.SeriesRefused finding) =
+-- how the reading of a series may end, where its bytes are told or not. Without a file it is the header alone, and no reading
+-- fails
+abbrev pub SeriesReadEnds : Basin → Option (List ℕ) → Option (List ℕ) → Type 0 → Ending → Type 0
+SeriesReadEnds b name told read (ending.SeriesRefused finding) =
     IfSome told (λ bytes. (length bytes ≤ file_limit) × (option_and_then (finding_of b) (series_fault b bytes) ≡ Some finding))
-SeriesReadEnds b told read (ending.ReadFault file.Series) = read
-SeriesReadEnds b told read (ending.InputTooLong file.Series) = IfSome told IsTooLong
-SeriesReadEnds b told read ending.OutOfMemory = ⊤
-SeriesReadEnds b told read other = ⊥
+SeriesReadEnds b name told read (ending.ReadFault file.Series) = read × IsSome name
+SeriesReadEnds b name told read (ending.InputTooLong file.Series) = IfSome told IsTooLong
+SeriesReadEnds b name told read ending.OutOfMemory = ⊤
+SeriesReadEnds b name told read other = ⊥
 
 -- the basin and the series are what the told bytes of the files spell
 pub record AreLoaded (told : Told) (files : Files) (b : Basin) (series : Inflows) : Type 0 where

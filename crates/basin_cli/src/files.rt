@@ -163,7 +163,7 @@ fn read_series<S: Shelf>(
     ensures asked { (other : List ℕ) → Some other ≢ option_map (λ n. n.now) name.entry → S.asked shelf.new other ≡ S.asked shelf.old other }
     ensures fits { IfOk result (λ series. IsSeriesOf basin.now series) }
     ensures text { IfOk result (λ series. IfSome (series_told (S.told shelf.old) (option_map (λ n. n.now) name.entry)) (IsSeriesText basin.now series)) }
-    ensures ends { IfErr result (λ e. SeriesReadEnds basin.now (series_told (S.told shelf.old) (option_map (λ n. n.now) name.entry))
+    ensures ends { IfErr result (λ e. SeriesReadEnds basin.now (option_map (λ n. n.now) name.entry) (series_told (S.told shelf.old) (option_map (λ n. n.now) name.entry))
         (Rose (S.faults shelf.old) (S.faults shelf.new)) e) }
     ensures told { IfErr result CanBeTold }
 {

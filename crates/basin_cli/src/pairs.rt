@@ -154,7 +154,7 @@ fn read_for_both<S: Shelf>(
     ensures second_fits { IfOk result (λ both. IsSeriesOf second.now both.1) }
     ensures text { IfOk result (λ both. IfSome (series_told (S.told shelf.old) (option_map (λ n. n.now) name.entry)) (IsSeriesText first.now both.0)) }
     ensures second_text { IfOk result (λ both. IfSome (series_told (S.told shelf.old) (option_map (λ n. n.now) name.entry)) (IsSeriesText second.now both.1)) }
-    ensures ends { IfErr result (BothSeriesReadEnd first.now second.now (series_told (S.told shelf.old) (option_map (λ n. n.now) name.entry))
+    ensures ends { IfErr result (BothSeriesReadEnd first.now second.now (option_map (λ n. n.now) name.entry) (series_told (S.told shelf.old) (option_map (λ n. n.now) name.entry))
         (Rose (S.faults shelf.old) (S.faults shelf.new))) }
     ensures told { IfErr result CanBeTold }
 {

@@ -1,4 +1,4 @@
-use Rattle.std.proofs.Common.{subst, List, Option, ℕ}
+use Rattle.std.proofs.Common.{subst, ap, ◌∙◌, List, Option, ℕ}
 use Rattle.std.specs.Prelude.{IfSome}
 use Rattle.cert_check.specs.Whole.{text_verdict}
 use Rattle.water_edge.specs.Edge.{Rose}
@@ -9,6 +9,7 @@ use Rattle.basin_cli.specs.Out.{Leaves, MayWrite}
 use Rattle.basin_cli.specs.Outcome.{answer_line}
 use Rattle.basin_cli.proofs.Judged.{checking_cause, checking_writes, ends_later}
 use Rattle.basin_cli.proofs.Stops.{rose_since}
+use Rattle.basin_cli.proofs.Unread.{unread}
 use Rattle.basin_cli.proofs.top.do_check.Goals as goal
 
 pub returns-clause-cause : goal.returns-clause-cause
@@ -34,3 +35,14 @@ returns-clause-writes g c =
     (subst (λ (told : Option (List ℕ)). IfSome told (λ text. MayWrite status →
     Leaves status (answer_line c.in-Ok.files.basin (text_verdict c.in-Ok.files.basin c.in-Ok.files.series text)) old new))
     (c.in-Ok.ensures.same.told c.args.result_name.now) c.check_file.ensures.leaves)
+
+pub returns-in-Err-clause-unread : goal.returns-in-Err-clause-unread
+returns-in-Err-clause-unread g c =
+    unread (named c.args.inputs) c.args.result_name.now (g.S.Shelf.asked c.args.shelf.now) (g.S.Shelf.asked c.read_inputs.new.shelf) c.in-Err.ending
+    (λ _. c.read_inputs.ensures.asked c.args.result_name.now)
+
+pub returns-clause-unread : goal.returns-clause-unread
+returns-clause-unread g c =
+    unread (named c.args.inputs) c.args.result_name.now (g.S.Shelf.asked c.args.shelf.now) (g.S.Shelf.asked c.check_file.new.shelf) c.check_file.result
+    (λ e not_basin not_series. ap (λ s. g.S.Shelf.asked s c.args.result_name.now) (c.check_file.ensures.unread e)
+    ∙ c.read_inputs.ensures.asked c.args.result_name.now not_basin not_series)
