@@ -1,7 +1,9 @@
 /* Refuses one allocation of a program, the one whose number stands in REFUSE, counted from 1, and lets all others pass. Where it came to
-   that one, it leaves the file that is named by REFUSED. For hostile/memory, by LD_PRELOAD. */
+   that one, it leaves the file that is named by REFUSED. At the end of the program it writes how many there were to the file that is named
+   by COUNTED. For hostile/memory, by LD_PRELOAD. */
 #include <errno.h>
 #include <fcntl.h>
+#include <stdio.h>
 #include <stdlib.h>
 #include <unistd.h>
 
@@ -36,4 +38,16 @@ int posix_memalign(void **into, size_t align, size_t size) {
   if (!block) return ENOMEM;
   *into = block;
   return 0;
+}
+
+__attribute__((destructor)) static void tell(void) {
+  const char *name = getenv("COUNTED");
+  long count = seen;
+  char digits[24];
+  if (!name) return;
+  int file = open(name, O_CREAT | O_TRUNC | O_WRONLY, 0600);
+  if (file < 0) return;
+  int length = snprintf(digits, sizeof digits, "%ld\n", count);
+  if (write(file, digits, length) != length) unlink(name);
+  close(file);
 }

@@ -13,7 +13,7 @@ use Rattle.basin_cli.specs.Ending.{finding_of}
 use Rattle.basin_cli.specs.Header.{header}
 use Rattle.basin_cli.specs.Headline.{KeepsPriority}
 
--- the most bytes of a file
+-- the most bytes of a file that is read whole
 abbrev pub file_limit : ℕ
 file_limit = 67108864
 

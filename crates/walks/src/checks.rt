@@ -477,6 +477,8 @@ const PARTS: [usize; 4] = [1, 2, 7, 65_536];
 fn answers_the_same_in_parts(rt: HostRuntime) -> Result<(), Fail> {
     for part in PARTS {
         let alloc = rt.alloc();
+        let one = (Status::Done, "checked 1\n");
+        checks_in_parts(alloc, part, JUNIOR_DRY.0, "", JUNIOR_DRY.1, one)?;
         let yes = (Status::Done, "checked 2\n");
         checks_in_parts(alloc, part, ORDINARY, ORDINARY_SERIES, ORDINARY_TEXT, yes)?;
         for (line, put, answer) in ORDINARY_REFUTED {
