@@ -4,7 +4,7 @@ use std::fs::File;
 use std::io::{BufWriter, Write};
 use std::{fs, io};
 use water_edge::{
-    FileShelf, MemoryShelf, MemorySink, Shelf, ShelfRefused, Sink, SinkFailed, StdSink,
+    FileShelf, MemoryShelf, MemorySink, Shelf, ShelfRefused, Sink, SinkFailed, StdSink, WatchedShelf,
 };
 
 /// Whether a shelf answered with these bytes, or refused so.
@@ -170,5 +170,26 @@ fn memory_takes(rt: HostRuntime) -> Result<(), AllocError> {
     let mut sink = MemorySink::new(rt.alloc(), 5, vec![in rt.alloc(); 1]?)?;
     assert_eq!(rt; puts_memory(&mut sink), 4);
     assert!(rt; sink.bytes() == b"abcde".as_slice());
+    Ok(())
+}
+
+/// Of its own file a watched shelf counts each call, and of others none.
+#[test]
+fn watched_shelf_counts_the_calls_for_its_file(rt: HostRuntime) -> io::Result<()> {
+    let alloc = rt.alloc();
+    let mut held = Vec::new(alloc);
+    held.push((String::from_str(alloc, "one")?, Vec::from_slice(alloc, b"ab")?))?;
+    held.push((String::from_str(alloc, "other")?, Vec::from_slice(alloc, b"cd")?))?;
+    let shelf = MemoryShelf::new(held, Vec::new(alloc));
+    let mut shelf = WatchedShelf::new(shelf, String::from_str(alloc, "one")?);
+    let mut part = [0u8; 2];
+    assert!(rt; is_answer(shelf.read_whole(alloc, "other", 2), Ok(b"cd")));
+    assert_eq!(rt; shelf.asked(), 0);
+    assert!(rt; is_answer(shelf.read_whole(alloc, "one", 2), Ok(b"ab")));
+    assert_eq!(rt; shelf.asked(), 1);
+    assert_eq!(rt; shelf.read_part("one", 1, &mut part), Ok(1));
+    assert_eq!(rt; shelf.read_part("other", 0, &mut part), Ok(2));
+    assert!(rt; is_answer(shelf.read_whole(alloc, "one", 1), Err(ShelfRefused::TooLong)));
+    assert_eq!(rt; shelf.asked(), 3);
     Ok(())
 }
