@@ -175,11 +175,11 @@ fn memory_takes(rt: HostRuntime) -> Result<(), AllocError> {
 
 /// Of its own file a watched shelf counts each call, and of others none.
 #[test]
-fn watched_shelf_counts_the_calls_for_its_file(rt: HostRuntime) -> io::Result<()> {
+fn watched_shelf_counts_the_calls_for_its_file(rt: HostRuntime) -> Result<(), AllocError> {
     let alloc = rt.alloc();
     let mut held = Vec::new(alloc);
-    held.push((String::from_str(alloc, "one")?, Vec::from_slice(alloc, b"ab")?))?;
-    held.push((String::from_str(alloc, "other")?, Vec::from_slice(alloc, b"cd")?))?;
+    held.push(file(alloc, "one", "ab")?)?;
+    held.push(file(alloc, "other", "cd")?)?;
     let shelf = MemoryShelf::new(held, Vec::new(alloc));
     let mut shelf = WatchedShelf::new(shelf, String::from_str(alloc, "one")?);
     let mut part = [0u8; 2];
