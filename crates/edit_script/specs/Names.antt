@@ -1,7 +1,6 @@
--- What months of a script name in a basin, and what a right's wants are.
-use Rattle.std.specs.Prelude.{ℕ, ◌+◌, ◌-◌, ◌*◌, nat_lt, Bool, false, Option, Some, None, if◌then◌else◌}
+-- What months of a script name in a basin.
+use Rattle.std.specs.Prelude.{ℕ, ◌+◌, ◌-◌, ◌*◌, nat_lt, Option, Some, None, if◌then◌else◌}
 use Rattle.water_text.specs.declared.month.Month.{Month}
-use Rattle.water_model.specs.Lookups.{of_entry}
 use Rattle.water_model.specs.declared.types.Basin.{Basin}
 
 -- months in a row have numbers in a row
@@ -13,7 +12,3 @@ abbrev pub index_in_run : Basin → Month → Option ℕ
 index_in_run b m =
     if nat_lt (month_number m) (month_number b.first) then None
     else (if nat_lt (month_number m - month_number b.first) b.months then Some (month_number m - month_number b.first) else None)
-
--- whether the wants of a right stand in the series
-abbrev pub is_in_series : Basin → ℕ → Bool
-is_in_series b right = of_entry b.rights right (λ r. r.series) false

@@ -3,9 +3,9 @@ ghost use Rattle.std.specs.Prelude.{◌≡◌, ◌<◌, length, IfOk, IfSome, tr
 ghost use Rattle.std.specs.List.Sorted.{IsStrictlyIncreasing};
 ghost use Rattle.water_text.specs.Months.{IsMonth};
 ghost use Rattle.water_model.specs.Hydrology.{place_in};
-ghost use Rattle.water_model.specs.Valid.{IsValidBasin, is_gauged};
+ghost use Rattle.water_model.specs.Valid.{IsValidBasin, is_gauged, is_in_series};
 ghost use Rattle.basin_names.specs.Named.{node_named, right_named};
-ghost use Rattle.edit_script.specs.Names.{index_in_run, is_in_series};
+ghost use Rattle.edit_script.specs.Names.{index_in_run};
 
 use basin_names::{NodeNames, RightNames};
 use std::alloc::{AllocError, Global};

@@ -14,12 +14,11 @@ use Rattle.water_model.specs.declared.types.Inflows.{Inflows}
 use Rattle.water_model.specs.declared.types.MonthRecord.{MonthRecord}
 use Rattle.water_model.specs.declared.types.Node.{Node}
 use Rattle.water_model.specs.declared.types.Right.{Right}
-use Rattle.water_model.proofs.Gauges.{gauge_within}
+use Rattle.water_model.proofs.Gauges.{gauge_within, wanted_within}
 use Rattle.edit_script.specs.Edits.{with_inflow, with_want}
 use Rattle.edit_session.specs.Laws.{AgreeBefore, EditedSeriesFit, KeptMonthsStay}
 use Rattle.edit_session.specs.Sessions.{IsKept}
 use Rattle.edit_script.specs.declared.edit.Edit.TheVariants.{Inflow, Want, Show}
-use Rattle.edit_script.proofs.Columns.{want_within}
 use Rattle.edit_session.proofs.Columns.{earlier_stays}
 use Rattle.edit_session.proofs.Fronts.{front_partial, front_reaches}
 
@@ -83,7 +82,7 @@ want_agrees b series index place amount fits = record {
         (if t then table_at series.wanted series.want i right else slice_index r.want (in_year b i))
         ≡ (if t then table_at series.wanted (with_want series index place amount).want i right else slice_index r.want (in_year b i))
     by_test right i r l early at true e =
-        sym (earlier_stays series.wanted series.want i index place right amount early (want_within b series right fits l (ap (λ o. unwrap_or (option_map (λ x. x.series) o) false) at ∙ e)))
+        sym (earlier_stays series.wanted series.want i index place right amount early (wanted_within b series right fits l (ap (λ o. unwrap_or (option_map (λ x. x.series) o) false) at ∙ e)))
     by_test right i r l early at false e = refl
 
     of_right : (right i : ℕ) → right < length b.rights → i < index → (o : Option Right) → slice_get b.rights right ≡ o →

@@ -11,4 +11,6 @@ mod explaining;
 #[cfg(test)]
 mod gathering;
 #[cfg(test)]
+mod seasonal;
+#[cfg(test)]
 mod ways;
