@@ -1,5 +1,5 @@
 -- Sessions, and the months that they keep.
-use Rattle.std.specs.Prelude.{ℕ, List, map, Box}
+use Rattle.std.specs.Prelude.{List, map, Box}
 use Rattle.std.specs.Global.{Global}
 use Rattle.water_model.specs.History.{IsPartialHistory}
 use Rattle.month_fold.specs.Reaches.{HaveReaches}

@@ -385,7 +385,7 @@ fn names_what_is_refused_in_a_series_of_wants(rt: HostRuntime) -> Result<(), Fai
 }
 
 /// The format of a basin, what its canal and its right say, and why it is refused.
-const REFUSED_BASINS: [(u32, &str, &str, &str); 17] = [
+const REFUSED_BASINS: [(u32, &str, &str, &str); 21] = [
     (
         2,
         "per_day = 1\nclosed = [13]\n",
@@ -482,6 +482,30 @@ const REFUSED_BASINS: [(u32, &str, &str, &str); 17] = [
         "per_day = 1\n",
         "want = \"series\"\n",
         "basin: WrongKind diversion 1\n",
+    ),
+    (
+        2,
+        "per_day = 1\n",
+        "want = 1\n[[instream]]\nname = \"trout\"\nlink = \"a\"\ndate = \"1899-01-01\"\nwant = \"Series\"\n",
+        "basin: WrongKind instream 1\n",
+    ),
+    (
+        1,
+        "per_day = 1\n",
+        "want = 1\n[[instream]]\nname = \"trout\"\nlink = \"a\"\ndate = \"1899-01-01\"\nwant = \"series\"\n",
+        "basin: WrongKind instream 1\n",
+    ),
+    (
+        2,
+        "per_day = 1\n",
+        "want = 1\n[[reservoir]]\nnode = \"h\"\nopening = 1\n[[zone]]\nname = \"pool\"\nreservoir = \"h\"\nlevel = 1\ndate = \"1899-01-01\"\nwant = \"\"\n",
+        "basin: WrongKind zone 1\n",
+    ),
+    (
+        1,
+        "per_day = 1\n",
+        "want = 1\n[[reservoir]]\nnode = \"h\"\nopening = 1\n[[zone]]\nname = \"pool\"\nreservoir = \"h\"\nlevel = 1\ndate = \"1899-01-01\"\nwant = \"series\"\n",
+        "basin: WrongKind zone 1\n",
     ),
 ];
 
