@@ -119,6 +119,7 @@ impl<'b> Session<'b> {
         ensures series { self.new.series ≡ self.old.series }
         ensures stay { take (length self.old.kept) self.new.kept ≡ self.old.kept }
         ensures solved { OnOk result (length self.new.kept ≡ max (length self.old.kept) (index + 1)) }
+        ensures few { length self.new.kept ≤ max (length self.old.kept) (index + 1) }
         ensures history { IsKept self.new }
         ensures pushes { searches.new ≤ searches.old + (index + 1 - length self.old.kept) * month_pushes self.old.basin }
     {

@@ -51,6 +51,7 @@ pub fn solve_months<L: Ledger>(
     ensures kept { IsKept (record { basin = basin.now; series = series.now; kept = records_of kept.new.items }) }
     ensures stay { take (vec_len kept.old) kept.new.items ≡ kept.old.items }
     ensures solved { OnOk result (vec_len kept.new ≡ count) }
+    ensures few { vec_len kept.new ≤ count }
     ensures pushes { searches.new ≤ searches.old + (count - vec_len kept.old) * month_pushes basin.now }
 {
     let mut run = Run::resume(alloc, basin, series, kept.as_slice())?;
