@@ -1,5 +1,5 @@
 -- Nodes are given to their first callers, and lists of these along the order.
-use Rattle.std.proofs.Common.{◌≡◌, ◌≢◌, ℕ, zero, suc, ◌+◌, ◌-◌, ◌/◌, ◌%◌, ◌^◌, ◌<◌, ◌≤◌, ◌==◌, Bool, true, false, ◌&&◌, not, refl, sym, ap, ◌∙◌, arith, inl, inr, List, [], ◌∷◌, length, get_or, take, replicate, subst}
+use Rattle.std.proofs.Common.{◌≡◌, ◌≢◌, ℕ, ◌+◌, ◌-◌, ◌/◌, ◌%◌, ◌^◌, ◌<◌, ◌≤◌, ◌==◌, Bool, true, false, ◌&&◌, not, refl, sym, ap, ◌∙◌, arith, inl, inr, List, [], ◌∷◌, length, get_or, take, replicate, subst}
 use Rattle.std.specs.Prelude.{Option, Some, None, find, is_none, slice_set, if◌then◌else◌}
 use Rattle.std.specs.Option.{option_map_or, option_or}
 use Rattle.std.specs.Int.{bit_at}
@@ -10,9 +10,6 @@ use Rattle.std.proofs.lemmas.Nat.Bits.{bit_at_ones}
 use Rattle.bit_words.specs.Marks.{is_marked, in_both, marks, IsNextInBoth}
 use Rattle.bit_words.proofs.Marks.{get_or-marks}
 use Rattle.water_model.specs.Lookups.{has}
-use Rattle.water_model.specs.Places.{by_seniority}
-use Rattle.water_model.specs.declared.types.Right.{Right}
-use Rattle.water_model.proofs.Order.{Has, seniors_below}
 use Rattle.calls.specs.Callers.{caller_at, AreFree}
 
 -- A right's set is gone over from its least node on.
@@ -103,15 +100,6 @@ turn_gives true s right (Some x) f s2 h e k = rw h refl
 turn_gives false s right before f s2 h e k = cc
 
 -- Along the order.
-
-has_at : (xs : List ℕ) (i : ℕ) → i < length xs → Has xs (get_or xs i 0)
-has_at [] i l = absurd (omega arith)
-has_at (x ∷ xs) zero l = inl refl
-has_at (x ∷ xs) (suc i) l = inr (has_at xs i (omega arith))
-
--- the order has rights alone
-pub order_in_range : (rights : List Right) (order : List ℕ) (i : ℕ) → order ≡ by_seniority rights → i < length order → get_or order i 0 < length rights
-order_in_range rights order i is l = seniors_below rights (get_or order i 0) (subst (λ (xs : List ℕ). Has xs (get_or order i 0)) is (has_at order i l))
 
 -- the first of one more
 pub find_more : (p : ℕ → Bool) (order : List ℕ) (i : ℕ) → i < length order →

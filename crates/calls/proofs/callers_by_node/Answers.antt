@@ -5,7 +5,8 @@ use Rattle.std.specs.Option.{option_or}
 use Rattle.std.proofs.lemmas.List.{take_all}
 use Rattle.water_model.specs.Places.{seniors_first}
 use Rattle.calls.specs.Callers.{is_short_at}
-use Rattle.calls.proofs.Claims.{all_free, none_yet, find_more, order_in_range}
+use Rattle.calls.proofs.Claims.{all_free, none_yet, find_more}
+use Rattle.calls.proofs.Search.{order_in_range}
 use Rattle.calls.proofs.callers_by_node.Goals as goal
 
 pub loop-right-init : goal.loop-right-init
