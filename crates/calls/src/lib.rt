@@ -1,18 +1,27 @@
 //! Which right another right answers to.
 #![tactic(auto)]
 
-ghost use Rattle.std.specs.Prelude.{◌≡◌, ◌<◌, ◌&&◌, false, length, nat_lt, slice_index, Some, IfSome};
-ghost use Rattle.std.specs.Option.{option_map_or};
-ghost use Rattle.water_model.specs.Basin.{taking_node};
-ghost use Rattle.water_model.specs.History.{FitsBasin, IsCallingRight, cut_of};
-ghost use Rattle.water_model.specs.Lookups.{has};
+ghost use Rattle.std.specs.Prelude.{◌≡◌, ℕ, ◌*◌, ◌<◌, ◌≤◌, ◌&&◌, not, if◌then◌else◌, length, nat_lt, slice_index, Some, None};
+ghost use Rattle.std.specs.Option.{option_or};
+ghost use Rattle.bit_words.specs.Marks.{in_both, is_marked};
+ghost use Rattle.water_model.specs.Basin.{is_senior};
+ghost use Rattle.water_model.specs.History.{FitsBasin, IsCallingRight};
 ghost use Rattle.water_model.specs.Text.{calling_right};
 ghost use Rattle.water_model.specs.Valid.{IsValidBasin};
 ghost use Rattle.rights_roll.specs.Rolls.{IsRollOf};
+ghost use Rattle.calls.specs.Callers.{AreCallers, AreFree, caller_at, is_short_at};
 
+use bit_words::{next_marked_in_both, unmark};
+use rights_roll::priority::is_senior;
 use rights_roll::roll::Roll;
 use water_model::calls::taking_node;
 use water_model::types::{Basin, MonthRecord};
+
+/// The most nodes that a valid basin has.
+pub const MOST_NODES: usize = 2000;
+
+/// How many words hold the marks of so many nodes.
+const MOST_WORDS: usize = 32;
 
 /// Whether a right was delivered less than its want.
 fn is_short(month: &MonthRecord, right: u32) -> bool
@@ -23,60 +32,80 @@ fn is_short(month: &MonthRecord, right: u32) -> bool
     month.delivered[right as usize] < month.want[right as usize]
 }
 
-/// Whether a right has a set in the record that holds a node.
-fn holds_node(month: &MonthRecord, right: u32, node: u32) -> bool
-    requires right { right < length month.now.cuts.sets }
-    requires node { node < month.now.cuts.nodes }
-    ensures { result ≡ option_map_or (λ cut. has cut node) (cut_of month.now right) false }
+/// Makes a right the caller of each node that the set and the free nodes both mark, and takes the marks of these nodes
+/// from the free ones. The other nodes stay as they are.
+fn claim(callers: &mut [Option<u32>], free: &mut [u64], set: &[u64], nodes: u32, right: u32)
+    requires callers { nodes ≤ length callers.old }
+    requires free { nodes ≤ 64 * length free.old }
+    requires set { nodes ≤ 64 * length set.now }
+    ensures places { length callers.new ≡ length callers.old }
+    ensures words { length free.new ≡ length free.old }
+    ensures given { (n : ℕ) → n < nodes → caller_at callers.new n
+        ≡ (if in_both free.old set.now n then Some right else caller_at callers.old n) }
+    ensures left { (n : ℕ) → n < nodes → is_marked free.new n
+        ≡ is_marked free.old n && not (is_marked set.now n) }
 {
-    match month.cuts.holds(right, node) {
-        Some(held) => held,
-        None => false,
+    let mut from = 0;
+    for _turn in 0..nodes {
+        match next_marked_in_both(free, set, from, nodes) {
+            Some(node) => {
+                callers[node as usize] = Some(right);
+                unmark(free, node);
+                from = node + 1;
+            }
+            None => return,
+        }
     }
 }
 
-/// Whether a right is short and has a set that holds a node.
-fn is_short_at(month: &MonthRecord, right: u32, node: u32) -> bool
+/// Makes a right the caller of the free nodes of its set, if it is short and has one. The nodes that have a caller keep
+/// it.
+fn call_from(
+    callers: &mut [Option<u32>],
+    free: &mut [u64],
+    month: &MonthRecord,
+    nodes: u32,
+    right: u32,
+)
+    requires callers { nodes ≤ length callers.old }
+    requires words { nodes ≤ 64 * length free.old }
+    requires nodes { month.now.cuts.nodes ≡ nodes }
     requires delivered { right < length month.now.delivered }
     requires want { right < length month.now.want }
     requires right { right < length month.now.cuts.sets }
-    requires node { node < month.now.cuts.nodes }
-    ensures { result ≡ nat_lt (slice_index month.now.delivered right) (slice_index month.now.want right)
-        && option_map_or (λ cut. has cut node) (cut_of month.now right) false }
+    requires free { AreFree nodes callers.old free.old }
+    ensures places { length callers.new ≡ length callers.old }
+    ensures words { length free.new ≡ length free.old }
+    ensures given { (n : ℕ) → n < nodes → caller_at callers.new n
+        ≡ option_or (caller_at callers.old n) (if is_short_at month.now right n then Some right else None) }
+    ensures free { AreFree nodes callers.new free.new }
 {
-    is_short(month, right) && holds_node(month, right, node)
+    if !is_short(month, right) {
+        return;
+    }
+    if let Some(set) = month.cuts.words(right) {
+        claim(callers, free, set, nodes, right);
+    }
 }
 
-/// The most senior right that is short, is senior to a right that takes at this node, and has a set that holds the
-/// node.
+/// For each node its first caller: the most senior right that is short and has a set in the record that holds the node.
+/// There may be none.
 ///
-/// In the order of seniority all rights in front of a right are senior to it, and none behind it is.
-fn first_caller(
-    basin: &Basin,
-    roll: &Roll,
-    month: &MonthRecord,
-    right: u32,
-    node: u32,
-) -> Option<u32>
+/// It goes over the rights once, seniors first. Each node is given to a caller once, and two words of marks in which no
+/// node is both free and in the set cost one look. It takes no memory.
+pub fn callers_by_node(basin: &Basin, roll: &Roll, month: &MonthRecord) -> [Option<u32>; MOST_NODES]
     requires basin { IsValidBasin basin.now }
     requires roll { IsRollOf basin.now.rights roll.now }
     requires month { FitsBasin basin.now month.now }
-    requires right { right < length basin.now.rights }
-    requires node { taking_node basin.now right ≡ Some node }
-    requires within { node < length basin.now.nodes }
-    requires wanted { 0 < slice_index month.now.want right }
-    ensures { result ≡ calling_right basin.now month.now right }
+    ensures { AreCallers basin.now month.now result }
 {
-    let order = roll.by_seniority();
-    for caller in order {
-        if *caller == right {
-            return None;
-        }
-        if is_short_at(month, *caller, node) {
-            return Some(*caller);
-        }
+    let nodes = basin.nodes.len() as u32;
+    let mut callers = [None; MOST_NODES];
+    let mut free = [u64::MAX; MOST_WORDS];
+    for right in roll.by_seniority() {
+        call_from(&mut callers, &mut free, month, nodes, *right);
     }
-    None
+    callers
 }
 
 /// Whether a right wants water in the month.
@@ -87,14 +116,31 @@ fn is_wanted(month: &MonthRecord, right: u32) -> bool
     month.want[right as usize] > 0
 }
 
+/// Whether the one right is senior to the other.
+fn is_senior_to(basin: &Basin, one: u32, other: u32) -> bool
+    requires one { one < length basin.now.rights }
+    requires other { other < length basin.now.rights }
+    ensures { result ≡ is_senior basin.now one other }
+{
+    is_senior(&basin.rights[one as usize], &basin.rights[other as usize])
+}
+
 /// The calling right of a diversion or zone that wants water in the month: the most senior right that is short, is
-/// senior to it, and has a set in the record that holds its node. There may be none.
+/// senior to it, and has a set in the record that holds its node. There may be none. `callers` has each node's first
+/// caller.
 ///
 /// Under prior appropriation a right that is short calls on its juniors, and these are the ones whose water could reach
 /// it. An instream right answers to none, and neither does a right that wants nothing.
-pub fn calling_right(basin: &Basin, roll: &Roll, month: &MonthRecord, right: u32) -> Option<u32>
+///
+/// Where the first caller of its node is not senior to the right, no caller of that node is.
+pub fn calling_right(
+    basin: &Basin,
+    callers: &[Option<u32>],
+    month: &MonthRecord,
+    right: u32,
+) -> Option<u32>
     requires basin { IsValidBasin basin.now }
-    requires roll { IsRollOf basin.now.rights roll.now }
+    requires callers { AreCallers basin.now month.now callers.now }
     requires month { FitsBasin basin.now month.now }
     requires right { right < length basin.now.rights }
     ensures value { result ≡ calling_right basin.now month.now right }
@@ -104,5 +150,10 @@ pub fn calling_right(basin: &Basin, roll: &Roll, month: &MonthRecord, right: u32
         return None;
     }
     let node = taking_node(basin, right)?;
-    first_caller(basin, roll, month, right, node)
+    let caller = callers[node as usize]?;
+    if is_senior_to(basin, caller, right) {
+        Some(caller)
+    } else {
+        None
+    }
 }

@@ -1,6 +1,6 @@
 -- What a checker begins with.
-use Rattle.std.proofs.Common.{◌≡◌, ℕ, zero, suc, ◌+◌, ◌<◌, ◌≤◌, Bool, true, false, refl, sym, ap, ◌∙◌, arith, List, [], ◌∷◌, ◌++◌, length, map, replicate, filter, add-one, zero-add}
-use Rattle.std.specs.Prelude.{Option, Some, None, ◌&&◌, nat_le, slice_set, if◌then◌else◌}
+use Rattle.std.proofs.Common.{◌≡◌, ℕ, zero, suc, ◌+◌, ◌≤◌, Bool, true, false, refl, sym, ap, ◌∙◌, arith, List, [], ◌∷◌, ◌++◌, length, map, replicate, filter, add-one, zero-add}
+use Rattle.std.specs.Prelude.{Option, Some, None, ◌&&◌, nat_le, if◌then◌else◌}
 use Rattle.std.specs.List.{list_all}
 use Rattle.std.proofs.lemmas.Bool.Decides.{nat_tests}
 use Rattle.std.proofs.lemmas.List.{length-map, length-replicate}
@@ -11,7 +11,6 @@ use Rattle.month_terms.specs.Blank.{blank_record}
 use Rattle.month_terms.specs.Terms.{HasReturned, HasUsed}
 use Rattle.month_terms.proofs.BlankRecords.{blank_fits}
 use Rattle.water_model.specs.CutSets.{CutSets}
-use Rattle.water_model.specs.Lookups.{of_entry}
 use Rattle.water_model.specs.Places.{numbers_from}
 use Rattle.water_model.specs.Valid.{IsValidBasin}
 use Rattle.water_model.specs.declared.types.Basin.{Basin}
@@ -100,6 +99,7 @@ pub record Empty (b : Basin) (a : Account) : Type 0 where
   pub has_supply : a.has_supply ≡ false
   pub closes : length a.closes ≡ length b.reservoirs
   pub has_closes : a.has_closes ≡ false
+  pub has_callers : a.has_callers ≡ false
   pub passed : a.passed ≡ 0
   pub answered : a.answered ≡ 0
   pub into : length a.into ≡ length b.nodes
@@ -131,6 +131,7 @@ keeps_nothing b series a e = record {
   used = e.used;
   supply = λ h. clash (sym e.has_supply ∙ h);
   closes = λ h. clash (sym e.has_closes ∙ h);
+  callers = λ h. clash (sym e.has_callers ∙ h);
   passed = rw e.passed refl;
   answered = rw e.answered refl;
 }

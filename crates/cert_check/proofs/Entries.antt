@@ -27,7 +27,7 @@ use Rattle.cert_check.specs.Keeping.{Keeps, callers_of, is_supplied}
 use Rattle.cert_check.specs.Walks.{IsDueFrom, behind}
 use Rattle.cert_check.specs.declared.account.Account.{Account}
 use Rattle.cert_check.specs.declared.answering.Due.{Due}
-use Rattle.cert_check.proofs.Fitting.{Stays, callers_same, callers_stay, fits_amount, fits_behind, fits_same, lacks_stay, shows_amount, stays, supply_stays, with_amount}
+use Rattle.cert_check.proofs.Fitting.{Stays, callers_kept, callers_same, callers_stay, fits_amount, fits_behind, fits_same, lacks_stay, shows_amount, stays, supply_stays, with_amount}
 use Rattle.cert_check.proofs.Rows.{good_row}
 use Rattle.cert_check.proofs.RunSound.{opens_with_last}
 
@@ -59,6 +59,7 @@ keeps_amount b series a t q x amount k = record {
   supply = supply_stays b series q x amount a.month t.now a.has_supply k.supply;
   closes = λ e v l. k.closes e v l
       ∙ ap (λ takes. total_where (length b.rights) (λ r. is_zone_of b r v) (λ r. slice_index takes r)) (sym told.take);
+  callers = λ e. callers_kept b a.month (with_amount q x amount a.month) a.callers own (k.callers e);
   passed = lacks_stay t.now (with_amount q x amount t.now) told (take a.passed (seniors_first b)) ∙ k.passed;
   answered = k.answered
       ∙ ap length (callers_stay b t.now (with_amount q x amount t.now) told (take a.answered (seniors_first b)));
@@ -72,7 +73,7 @@ keeps_amount b series a t q x amount k = record {
 
 -- a `deliver` line, before the `called` lines
 pub keeps_delivery : (b : Basin) (series : Inflows) (a : Account) (t : Told) (x amount want : ℕ) → t.called ≡ 0 → Keeps b series a t →
-    Keeps b series (record a { month = record a.month { delivered = slice_set a.month.delivered x amount; want = slice_set a.month.want x want; plan = record a.month.plan { take = slice_set a.month.plan.take x (if is_some (taking_node b x) then amount else 0) } }; calling = None; has_closes = false; passed = 0; answered = 0 }) (tell b series t (line.Deliver x amount want))
+    Keeps b series (record a { month = record a.month { delivered = slice_set a.month.delivered x amount; want = slice_set a.month.want x want; plan = record a.month.plan { take = slice_set a.month.plan.take x (if is_some (taking_node b x) then amount else 0) } }; calling = None; has_closes = false; has_callers = false; passed = 0; answered = 0 }) (tell b series t (line.Deliver x amount want))
 keeps_delivery b series a t x amount want none k = record {
   fits = record {
     month = fits_same b a.month _ (rw (
@@ -113,6 +114,7 @@ keeps_delivery b series a t x amount want none k = record {
   used = k.used;
   supply = k.supply;
   closes = λ e. clash e;
+  callers = λ e. clash e;
   passed = refl;
   answered = none;
 }
@@ -145,6 +147,7 @@ pub keeps_month : (b : Basin) (series : Inflows) (a : Account) (t : Told) (month
       calling = None;
       has_supply = false;
       has_closes = false;
+      has_callers = false;
       passed = 0;
       answered = 0;
     }) (tell b series t (line.Month month))
@@ -200,6 +203,7 @@ keeps_month b series a t month calendar k = record {
   used = k.used;
   supply = λ e. clash e;
   closes = λ e. clash e;
+  callers = λ e. clash e;
   passed = refl;
   answered = refl;
 }
@@ -229,6 +233,7 @@ keeps_called b series a t x caller next l more k = record {
   used = k.used;
   supply = k.supply;
   closes = k.closes;
+  callers = k.callers;
   passed = k.passed;
   answered = more;
 }
@@ -267,6 +272,7 @@ keeps_end b series a t lags comes used stands back spent k = record {
   used = rw (delivered_more b series a t k) spent;
   supply = k.supply;
   closes = k.closes;
+  callers = k.callers;
   passed = k.passed;
   answered = k.answered;
 }

@@ -1,9 +1,10 @@
 -- A record fits its basin, and shows what is told, where one amount of it changes.
-use Rattle.std.proofs.Common.{◌≡◌, ℕ, ◌<◌, ◌≤◌, Bool, true, false, refl, sym, ap, ◌∙◌, List, [], ◌∷◌, length}
-use Rattle.std.specs.Prelude.{Some, None, ◌&&◌, not, slice_index, slice_set}
+use Rattle.std.proofs.Common.{◌≡◌, ℕ, ◌≤◌, Bool, true, false, refl, sym, ap, ◌∙◌, List, [], ◌∷◌, length}
+use Rattle.std.specs.Prelude.{Option, Some, None, ◌&&◌, not, slice_index, slice_set}
 use Rattle.std.specs.List.{list_any}
 use Rattle.std.proofs.Math.ListN.{length-set}
 use Rattle.water_text.specs.Months.{IsMonth}
+use Rattle.calls.specs.Callers.{AreCallers}
 use Rattle.month_terms.specs.Terms.{FitsRecord}
 use Rattle.water_model.specs.CutSets.{CutSets}
 use Rattle.water_model.specs.Entries.{count_in}
@@ -200,6 +201,13 @@ callers_same b m n d w s xs = rw (d, w, s) refl
 pub callers_stay : (b : Basin) (m n : MonthRecord) → Stays m n → (xs : List ℕ) → callers_of b m xs ≡ callers_of b n xs
 callers_stay b m n s xs =
     callers_same b m n (sym s.delivered) (sym s.want) (ap (λ (cuts : CutSets). cuts.sets) (sym s.cuts)) xs
+
+pub callers_kept : (b : Basin) (m n : MonthRecord) (callers : List (Option ℕ)) → Stays m n → AreCallers b m callers →
+    AreCallers b n callers
+callers_kept b m n callers s known = record {
+  enough = known.enough;
+  each = λ node below. known.each node below ∙ (rw (s.delivered, s.want, s.cuts) refl);
+}
 
 pub lacks_stay : (m n : MonthRecord) → Stays m n → (xs : List ℕ) →
     list_any (lacks_call n) xs ≡ list_any (lacks_call m) xs

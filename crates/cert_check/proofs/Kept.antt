@@ -1,6 +1,8 @@
 -- An account keeps what is told where it only learns what follows from it.
 use Rattle.std.proofs.Common.{◌≡◌, ℕ, ◌≤◌, true, false, refl, List, length, take}
+use Rattle.std.specs.Prelude.{Option}
 use Rattle.std.specs.List.{list_any}
+use Rattle.calls.specs.Callers.{AreCallers}
 use Rattle.water_model.specs.Places.{seniors_first}
 use Rattle.water_model.specs.declared.types.Basin.{Basin}
 use Rattle.water_model.specs.declared.types.Inflows.{Inflows}
@@ -70,6 +72,7 @@ keeps_supply b series a t k = record {
   used = k.used;
   supply = λ e. same_supply b series a.month t k.shows;
   closes = k.closes;
+  callers = λ e. (let known = k.callers e in record { enough = known.enough; each = known.each });
   passed = k.passed;
   answered = k.answered;
 }
@@ -100,6 +103,7 @@ keeps_passed b series a t count k l h = record {
   used = k.used;
   supply = k.supply;
   closes = k.closes;
+  callers = k.callers;
   passed = h;
   answered = k.answered;
 }
@@ -130,8 +134,40 @@ keeps_answered b series a t count k l h = record {
   used = k.used;
   supply = k.supply;
   closes = k.closes;
+  callers = k.callers;
   passed = k.passed;
   answered = h;
+}
+
+-- The callers are those of the deliveries and sets that are told.
+pub keeps_callers : (b : Basin) (series : Inflows) (a : Account) (t : Told) (callers : List (Option ℕ)) →
+    Keeps b series a t → AreCallers b a.month callers →
+    Keeps b series (record a { callers = callers; has_callers = true }) t
+keeps_callers b series a t callers k known = record {
+  fits = record {
+    month = k.fits.month;
+    calendar = k.fits.calendar;
+    opens = k.fits.opens;
+    comes = k.fits.comes;
+    closes = k.fits.closes;
+    into = k.fits.into;
+    out_of = k.fits.out_of;
+    calling = k.fits.calling;
+    passed = k.fits.passed;
+    answered = k.fits.answered;
+  };
+  shows = k.shows;
+  calling = k.calling;
+  done = k.done;
+  lags = k.lags;
+  opens = k.opens;
+  comes = k.comes;
+  used = k.used;
+  supply = k.supply;
+  closes = k.closes;
+  callers = λ e. known;
+  passed = k.passed;
+  answered = k.answered;
 }
 
 -- The room for sums may have any.
@@ -160,6 +196,7 @@ keeps_room b series a t into out_of k l h = record {
   used = k.used;
   supply = k.supply;
   closes = k.closes;
+  callers = k.callers;
   passed = k.passed;
   answered = k.answered;
 }

@@ -1,11 +1,9 @@
 -- The lines of a history are not refuted.
-use Rattle.std.proofs.Common.{◌≡◌, ℕ, zero, suc, ◌-◌, Bool, true, false, refl, sym, ap, subst, ◌∙◌, List, [], ◌∷◌, ◌++◌, length, map, fold, take, append_assoc, length-append}
+use Rattle.std.proofs.Common.{◌≡◌, ℕ, Bool, true, false, refl, sym, ap, subst, ◌∙◌, List, [], ◌∷◌, ◌++◌, length, map, fold, take, append_assoc, length-append}
 use Rattle.std.specs.Prelude.{Option, Some, None, Ok, ◌||◌, slice_get, slice_index}
 use Rattle.std.specs.List.{flat_map}
-use Rattle.std.proofs.lemmas.List.{length-map}
 use Rattle.std.proofs.lemmas.List.Folds.{list_any-append}
-use Rattle.water_model.specs.History.{IsPartialHistory, IsHistory, Follows, cut_of, opening_after}
-use Rattle.water_model.specs.Lookups.{of_entry}
+use Rattle.water_model.specs.History.{IsPartialHistory, IsHistory, Follows, cut_of}
 use Rattle.water_model.specs.Places.{members_from, seniors_first}
 use Rattle.water_model.specs.Quantities.{amounts_of, entries_with_line}
 use Rattle.water_model.specs.Spelling.{line_of}
@@ -28,7 +26,7 @@ use Rattle.result_reader.proofs.WholeMonth.{AreAllTold, month_told}
 use Rattle.cert_check.specs.Checking.{callers_due, is_done, is_whole, verdict}
 use Rattle.cert_check.proofs.Callers.{called_line}
 use Rattle.cert_check.proofs.Follows.{follows_good}
-use Rattle.cert_check.proofs.Month.{At, IsGoodMonth, begun, month_is, inner_lines, section_lines}
+use Rattle.cert_check.proofs.Month.{At, begun, month_is, inner_lines, section_lines}
 use Rattle.cert_check.proofs.MonthGood.{inner_good}
 use Rattle.cert_check.proofs.Rows.{AreGood, good_both}
 use Rattle.cert_check.proofs.Spread.{onto}

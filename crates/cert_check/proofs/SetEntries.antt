@@ -1,12 +1,11 @@
 -- An account keeps the sets that are told, with one line more.
-use Rattle.std.proofs.Common.{◌≡◌, ℕ, zero, suc, ◌<◌, Bool, true, false, refl, sym, ap, ◌∙◌, arith, inl, inr, List, [], ◌∷◌, length, replicate, take}
+use Rattle.std.proofs.Common.{◌≡◌, ℕ, ◌<◌, Bool, true, false, refl, sym, ap, ◌∙◌, arith, inl, inr, List, [], ◌∷◌, length, replicate, take}
 use Rattle.std.specs.Prelude.{Option, Some, None, IsSome, ◌&&◌, ◌||◌, is_none, slice_set, option_map}
 use Rattle.std.specs.List.{list_any}
 use Rattle.std.proofs.lemmas.Bool.{cases_eq}
 use Rattle.std.proofs.Math.ListN.{length-set}
 use Rattle.water_model.specs.CutSets.{CutSets, set_of, with_set}
 use Rattle.water_model.specs.History.{cut_of}
-use Rattle.water_model.specs.Lookups.{has}
 use Rattle.water_model.specs.Places.{seniors_first}
 use Rattle.water_model.specs.declared.item.Item.TheVariants as line
 use Rattle.water_model.specs.declared.types.Basin.{Basin}
@@ -59,6 +58,7 @@ pub keeps_call : (b : Basin) (series : Inflows) (a : Account) (t : Told) (x : �
       month =
           record a.month { cuts = with_set a.month.cuts x (Some (replicate a.month.cuts.nodes false)) };
       calling = Some x;
+      has_callers = false;
       answered = 0;
     }) (tell b series t (line.Call x))
 keeps_call b series a t x l none k = record {
@@ -104,6 +104,7 @@ keeps_call b series a t x l none k = record {
   used = k.used;
   supply = k.supply;
   closes = k.closes;
+  callers = λ e. clash e;
   passed = settled_with b t.now x (replicate (length b.nodes) false)
       (omega (arith, l, k.fits.month.fits.cuts, ap length k.shows.sets)) (take a.passed (seniors_first b)) k.passed;
   answered = none;
@@ -112,10 +113,10 @@ keeps_call b series a t x l none k = record {
 -- an `in` line, behind no `call`
 pub keeps_stray : (b : Basin) (series : Inflows) (a : Account) (t : Told) (node : ℕ) → t.called ≡ 0 →
     a.calling ≡ None → Keeps b series a t →
-    Keeps b series (record a { answered = 0 }) (tell b series t (line.Member node))
+    Keeps b series (record a { has_callers = false; answered = 0 }) (tell b series t (line.Member node))
 keeps_stray b series a t node none stray k = by_call t.calling (sym k.calling ∙ stray)
   where
-    by_call : (o : Option ℕ) → o ≡ None → Keeps b series (record a { answered = 0 }) (with_member t o node)
+    by_call : (o : Option ℕ) → o ≡ None → Keeps b series (record a { has_callers = false; answered = 0 }) (with_member t o node)
     by_call None e = record {
       fits = record {
         month = k.fits.month;
@@ -138,6 +139,7 @@ keeps_stray b series a t node none stray k = by_call t.calling (sym k.calling �
       used = k.used;
       supply = k.supply;
       closes = k.closes;
+      callers = λ e. clash e;
       passed = k.passed;
       answered = none;
     }
@@ -149,6 +151,7 @@ keeps_own : (b : Basin) (series : Inflows) (a : Account) (t : Told) (node r : �
     Keeps b series (record a {
       month =
           record a.month { cuts = with_set a.month.cuts r (Some (slice_set set node true)) };
+      has_callers = false;
       answered = 0;
     })
     (with_member t (Some r) node)
@@ -189,6 +192,7 @@ keeps_own b series a t node r set none within is k = record {
   used = k.used;
   supply = k.supply;
   closes = k.closes;
+  callers = λ e. clash e;
   passed = settled_now (option_map (λ old. slice_set old node true) (cut_of t.now r))
       (ap (option_map (λ old. slice_set old node true)) told);
   answered = none;
@@ -225,6 +229,7 @@ pub keeps_member : (b : Basin) (series : Inflows) (a : Account) (t : Told) (node
     Keeps b series (record a {
       month =
           record a.month { cuts = with_set a.month.cuts right (Some (slice_set set node true)) };
+      has_callers = false;
       answered = 0;
     })
     (tell b series t (line.Member node))
@@ -237,6 +242,7 @@ keeps_member b series a t node right set none own is k = by_call t.calling (sym 
         Keeps b series (record a {
           month =
               record a.month { cuts = with_set a.month.cuts right (Some (slice_set set node true)) };
+          has_callers = false;
           answered = 0;
         })
         (with_member t o node)

@@ -13,6 +13,7 @@ use Rattle.water_model.specs.declared.quantity.Quantity.TheVariants as quantity
 use Rattle.water_model.specs.declared.types.Basin.{Basin}
 use Rattle.water_model.specs.declared.types.Inflows.{Inflows}
 use Rattle.water_model.specs.declared.types.MonthRecord.{MonthRecord}
+use Rattle.calls.specs.Callers.{AreCallers}
 use Rattle.lag_returns.specs.Lags as lag
 use Rattle.month_terms.specs.Terms.{FitsRecord, HasUsed}
 use Rattle.result_reader.specs.Telling.{Told, with_supply}
@@ -66,5 +67,6 @@ pub record Keeps (b : Basin) (series : Inflows) (a : Account) (t : Told) : Type 
   pub supply : a.has_supply ≡ true → a.month.supply ≡ (with_supply b series t.now).supply
   pub closes : a.has_closes ≡ true → (v : ℕ) → v < length b.reservoirs → slice_index a.closes v
       ≡ total_where (length b.rights) (λ r. is_zone_of b r v) (λ r. slice_index t.now.plan.take r)
+  pub callers : a.has_callers ≡ true → AreCallers b a.month a.callers
   pub passed : list_any (lacks_call t.now) (take a.passed (seniors_first b)) ≡ false
   pub answered : t.called ≡ length (callers_of b t.now (take a.answered (seniors_first b)))

@@ -8,6 +8,7 @@ use Rattle.water_model.specs.declared.quantity.Quantity.TheVariants as quantity
 use Rattle.water_model.specs.declared.types.Basin.{Basin}
 use Rattle.water_model.specs.declared.types.MonthRecord.{MonthRecord}
 use Rattle.result_reader.specs.Due.{is_member}
+use Rattle.cert_check.specs.Checking.{is_behind_calls}
 use Rattle.cert_check.specs.declared.account.Account.{Account}
 use Rattle.cert_check.specs.declared.account.Means.{Means}
 
@@ -35,6 +36,11 @@ abbrev pub IsReadyForOwn : Means → Account → Item → Type 0
 IsReadyForOwn m a (line.Amount q entry amount) = IsReadyForAmount m a q entry
 IsReadyForOwn m a other = Unit {0}
 
+-- it has the callers, where a line stands behind the `call` lines
+abbrev pub IsReadyForCalled : Account → Item → Type 0
+IsReadyForCalled a item = is_behind_calls item ≡ true → a.has_callers ≡ true
+
 pub record IsReady (m : Means) (a : Account) (item : Item) : Type 0 where
   pub set : IsReadyForSet a item
+  pub callers : IsReadyForCalled a item
   pub own : IsReadyForOwn m a item

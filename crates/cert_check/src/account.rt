@@ -1,4 +1,5 @@
 //! What a checker keeps of a text.
+use calls::MOST_NODES;
 use lag_returns::Lags;
 use reservoirs::AreaTable;
 use rights_roll::roll::Roll;
@@ -19,9 +20,9 @@ pub struct Means<'b> {
 /// What is kept of the lines so far: what the months that ended leave to the next one, and what is told of the month
 /// under way. Amounts are in units of 1,000 cubic metres.
 ///
-/// No month before is kept. Of what follows from the lines of the month under way its supply and the sums of its zones
-/// are made before the first line whose tests look at them, and again only where a line told something that they are
-/// made of.
+/// No month before is kept. Of what follows from the lines of the month under way its supply, the sums of its zones and
+/// the callers of its nodes are made before the first line whose tests look at them, and again only where a line told
+/// something that they are made of.
 #[derive(Drop)]
 pub struct Account {
     /// How many months ended.
@@ -44,6 +45,10 @@ pub struct Account {
     pub closes: Rows<u64>,
     /// Whether these sums are of the takes that are told.
     pub has_closes: bool,
+    /// For each node its first caller: the most senior right that is short and has a set that holds the node.
+    pub callers: [Option<u32>; MOST_NODES],
+    /// Whether these are by the deliveries and sets that are told.
+    pub has_callers: bool,
     /// So many rights, the most senior ones, are met or have their `call`.
     pub passed: usize,
     /// So many rights, the most senior ones, answer to the callers of the `called` lines so far and to no other.

@@ -1,5 +1,6 @@
 //! Rights that answer to a caller: each has its `called` line, in the order of seniority.
 ghost use Rattle.std.specs.Prelude.{◌≡◌, ◌≤◌, length};
+ghost use Rattle.calls.specs.Callers.{AreCallers};
 ghost use Rattle.rights_roll.specs.Rolls.{IsRollOf};
 ghost use Rattle.water_model.specs.History.{FitsBasin};
 ghost use Rattle.water_model.specs.Valid.{IsValidBasin};
@@ -17,10 +18,18 @@ pub struct Due {
     pub caller: u32,
 }
 
-/// The first right in the order of seniority that answers to a caller, from a place on.
-pub fn next_due(basin: &Basin, roll: &Roll, month: &MonthRecord, from: usize) -> Option<Due>
+/// The first right in the order of seniority that answers to a caller, from a place on. `callers` has the first caller
+/// of each node.
+pub fn next_due(
+    basin: &Basin,
+    roll: &Roll,
+    callers: &[Option<u32>],
+    month: &MonthRecord,
+    from: usize,
+) -> Option<Due>
     requires basin { IsValidBasin basin.now }
     requires roll { IsRollOf basin.now.rights roll.now }
+    requires callers { AreCallers basin.now month.now callers.now }
     requires fits { FitsBasin basin.now month.now }
     requires from { from ≤ length basin.now.rights }
     ensures { IsDueFrom basin.now month.now from result }
@@ -28,7 +37,7 @@ pub fn next_due(basin: &Basin, roll: &Roll, month: &MonthRecord, from: usize) ->
     let order = roll.by_seniority();
     for place in from..order.len() {
         let right = order[place];
-        if let Some(caller) = calling_right(basin, roll, month, right) {
+        if let Some(caller) = calling_right(basin, callers, month, right) {
             return Some(Due {
                 place,
                 right,

@@ -1,5 +1,6 @@
 //! Enters what a line tells into an account.
 ghost use Rattle.std.specs.Prelude.{ℕ, ◌≡◌, ◌+◌, ◌^◌, ◌<◌, ◌≤◌, ◌&&◌, not, ◌++◌, ◌∷◌, [], List, Some, None, true, false, Bool, All, Option, IfSome, IsSome, length, replicate, slice_index, slice_set, is_some, if◌then◌else◌};
+ghost use Rattle.calls.specs.Callers.{AreCallers};
 ghost use Rattle.lag_returns.specs.Lags.{return_rows};
 ghost use Rattle.lag_returns.specs.Lags as lag;
 ghost use Rattle.month_terms.specs.Terms.{HasReturned, HasUsed};
@@ -15,6 +16,7 @@ ghost use Rattle.cert_check.specs.Checking.{first_row};
 ghost use Rattle.cert_check.specs.Coming.{Awaits, MayCome};
 ghost use Rattle.cert_check.specs.Keeping.{Keeps, is_supplied};
 ghost use Rattle.cert_check.specs.Means.{AreMeans};
+ghost use Rattle.cert_check.specs.Ready.{IsReadyForCalled};
 ghost use Rattle.cert_check.specs.Walks.{IsDueFrom, behind};
 ghost use Rattle.cert_check.specs.declared.answering.Due.{Due};
 
@@ -79,6 +81,7 @@ pub fn enter_month(account: &mut Account, calendar: Month)
       calling = None;
       has_supply = false;
       has_closes = false;
+      has_callers = false;
       passed = 0;
       answered = 0;
     } }
@@ -104,6 +107,7 @@ pub fn enter_month(account: &mut Account, calendar: Month)
     account.calling = None;
     account.has_supply = false;
     account.has_closes = false;
+    account.has_callers = false;
     account.passed = 0;
     account.answered = 0;
 }
@@ -147,6 +151,7 @@ pub fn enter_delivery(basin: &Basin, account: &mut Account, right: u32, amount: 
       };
       calling = None;
       has_closes = false;
+      has_callers = false;
       passed = 0;
       answered = 0;
     } }
@@ -154,6 +159,7 @@ pub fn enter_delivery(basin: &Basin, account: &mut Account, right: u32, amount: 
     told::tell_delivery(basin, &mut account.month, right, amount, want);
     account.calling = None;
     account.has_closes = false;
+    account.has_callers = false;
     account.passed = 0;
     account.answered = 0;
 }
@@ -167,11 +173,13 @@ pub fn enter_call(account: &mut Account, right: u32)
         cuts = with_set account.old.month.cuts right (Some (replicate account.old.month.cuts.nodes false));
       };
       calling = Some right;
+      has_callers = false;
       answered = 0;
     } }
 {
     account.month.cuts.begin(right);
     account.calling = Some(right);
+    account.has_callers = false;
     account.answered = 0;
 }
 
@@ -179,10 +187,11 @@ pub fn enter_call(account: &mut Account, right: u32)
 pub fn enter_member(account: &mut Account, node: u32)
     requires node { node < account.old.month.cuts.nodes }
     requires calling { IfSome account.old.calling (λ right. (right < length account.old.month.cuts.sets) × IsSome (set_of account.old.month.cuts right)) }
-    ensures none { account.old.calling ≡ None → account.new ≡ record account.old { answered = 0 } }
+    ensures none { account.old.calling ≡ None → account.new ≡ record account.old { has_callers = false; answered = 0 } }
     ensures some { (right : ℕ) (set : List Bool) → account.old.calling ≡ Some right → set_of account.old.month.cuts right ≡ Some set →
-        account.new ≡ record account.old { month = record account.old.month { cuts = with_set account.old.month.cuts right (Some (slice_set set node true)) }; answered = 0 } }
+        account.new ≡ record account.old { month = record account.old.month { cuts = with_set account.old.month.cuts right (Some (slice_set set node true)) }; has_callers = false; answered = 0 } }
 {
+    account.has_callers = false;
     account.answered = 0;
     match account.calling {
         Some(right) => account.month.cuts.add(right, node),
@@ -195,12 +204,19 @@ pub fn enter_called(basin: &Basin, roll: &Roll, account: &mut Account)
     requires basin { IsValidBasin basin.now }
     requires roll { IsRollOf basin.now.rights roll.now }
     requires fits { FitsBasin basin.now account.old.month }
+    requires callers { AreCallers basin.now account.old.month account.old.callers }
     requires answered { account.old.answered ≤ length basin.now.rights }
     ensures { (due : Option Due) × IsDueFrom basin.now account.old.month account.old.answered due
         × (account.new ≡ record account.old { calling = None; answered = behind account.old.answered due }) }
 {
     account.calling = None;
-    match next_due(basin, roll, &account.month, account.answered) {
+    match next_due(
+        basin,
+        roll,
+        &account.callers,
+        &account.month,
+        account.answered,
+    ) {
         Some(due) => account.answered = due.place + 1,
         None => {}
     }
@@ -260,11 +276,12 @@ pub fn enter_end(basin: &Basin, account: &mut Account)
     account.calling = None;
 }
 
-/// Enters what a good line tells.
+/// Enters what a good line tells. The account is ready for it.
 pub fn enter(means: &Means, account: &mut Account, item: &Item)
     requires means { AreMeans means.now }
     requires item { IsOfBasin means.now.basin.now item.now }
     requires awaits { Awaits means.now.basin.now means.now.series.now account.old item.now }
+    requires ready { IsReadyForCalled account.old item.now }
     ensures { (t : Told) → Keeps means.now.basin.now means.now.series.now account.old t → MayCome means.now.basin.now means.now.series.now t item.now →
         first_row means.now.basin.now means.now.series.now t item.now ≡ None →
         Keeps means.now.basin.now means.now.series.now account.new (tell means.now.basin.now means.now.series.now t item.now) }

@@ -13,6 +13,7 @@ ghost use Rattle.cert_check.specs.Keeping.{Keeps};
 
 use crate::account::Account;
 use crate::entering::bring_back;
+use calls::MOST_NODES;
 use lag_returns::Lags;
 use month_terms::opening::{blank_record, openings, zeros};
 use std::alloc::{AllocError, Global};
@@ -79,6 +80,8 @@ pub fn blank_account(alloc: Global, basin: &Basin) -> Result<Box<Account>, Alloc
             has_supply: false,
             closes,
             has_closes: false,
+            callers: [None; MOST_NODES],
+            has_callers: false,
             passed: 0,
             answered: 0,
             into,

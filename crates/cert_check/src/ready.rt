@@ -5,7 +5,7 @@ ghost use Rattle.water_model.specs.OfBasin.{IsOfBasin};
 ghost use Rattle.cert_check.specs.Coming.{Awaits, HasMonth, HasTold};
 ghost use Rattle.cert_check.specs.Keeping.{Keeps};
 ghost use Rattle.cert_check.specs.Means.{AreMeans};
-ghost use Rattle.cert_check.specs.Ready.{HasSums, IsReady, IsReadyForAmount, IsReadyForSet};
+ghost use Rattle.cert_check.specs.Ready.{HasSums, IsReady, IsReadyForAmount, IsReadyForCalled, IsReadyForSet};
 
 use crate::account::{Account, Means};
 use crate::answering::next_due;
@@ -13,6 +13,7 @@ use crate::balancing::make_sums;
 use crate::compare::{is_behind_calls, is_member};
 use crate::passing::pass_over;
 use crate::supplying::make_supply;
+use calls::callers_by_node;
 use month_terms::closing::close_zones;
 use water_model::item::Item;
 use water_model::quantity::Quantity;
@@ -52,12 +53,27 @@ fn know_closes(means: &Means, account: &mut Account)
     }
 }
 
+/// Finds the first caller of each node by the deliveries and sets that are told, unless the account has them.
+fn know_callers(means: &Means, account: &mut Account)
+    requires means { AreMeans means.now }
+    requires keeps { HasTold means.now.basin.now means.now.series.now account.old }
+    ensures rest { account.new ≡ record account.old { callers = account.new.callers; has_callers = true } }
+    ensures keeps { (t : Told) → Keeps means.now.basin.now means.now.series.now account.old t →
+        Keeps means.now.basin.now means.now.series.now account.new t }
+{
+    if !account.has_callers {
+        account.callers = callers_by_node(means.basin, &means.roll, &account.month);
+        account.has_callers = true;
+    }
+}
+
 /// Makes the sums of what comes into each node and of what leaves it, where the month's flows and takes are told.
 fn know_sums(means: &Means, account: &mut Account)
     requires means { AreMeans means.now }
     requires month { HasMonth means.now.basin.now means.now.series.now account.old }
     ensures supply { account.new.has_supply ≡ true }
     ensures calling { account.new.calling ≡ account.old.calling }
+    ensures callers { account.new.has_callers ≡ account.old.has_callers }
     ensures sums { HasSums means.now.basin.now account.new }
     ensures keeps { (t : Told) → Keeps means.now.basin.now means.now.series.now account.old t →
         Keeps means.now.basin.now means.now.series.now account.new t }
@@ -78,6 +94,7 @@ fn know_sums_at(means: &Means, account: &mut Account, node: u32)
     ensures sums { means.now.last_outlet ≤ node → HasSums means.now.basin.now account.new }
     ensures supply { account.old.has_supply ≡ true → account.new.has_supply ≡ true }
     ensures calling { account.new.calling ≡ account.old.calling }
+    ensures callers { account.new.has_callers ≡ account.old.has_callers }
     ensures keeps { (t : Told) → Keeps means.now.basin.now means.now.series.now account.old t →
         Keeps means.now.basin.now means.now.series.now account.new t }
 {
@@ -103,15 +120,27 @@ fn pass(means: &Means, account: &mut Account, item: &Item)
     }
 }
 
-/// Where no right is left that answers to a caller, they aren't looked at again.
-fn answer(means: &Means, account: &mut Account)
+/// Finds the callers where a line stands behind the `call` lines. Where no right is left that answers to one, they aren't
+/// looked at again.
+fn answer(means: &Means, account: &mut Account, item: &Item)
     requires means { AreMeans means.now }
     requires keeps { HasTold means.now.basin.now means.now.series.now account.old }
+    ensures callers { IsReadyForCalled account.new item.now }
     ensures calling { account.new.calling ≡ account.old.calling }
     ensures keeps { (t : Told) → Keeps means.now.basin.now means.now.series.now account.old t →
         Keeps means.now.basin.now means.now.series.now account.new t }
 {
-    match next_due(means.basin, &means.roll, &account.month, account.answered) {
+    if !is_behind_calls(item) {
+        return;
+    }
+    know_callers(means, account);
+    match next_due(
+        means.basin,
+        &means.roll,
+        &account.callers,
+        &account.month,
+        account.answered,
+    ) {
         Some(_) => {}
         None => account.answered = means.basin.rights.len(),
     }
@@ -122,6 +151,7 @@ fn make_ready_for_set(means: &Means, account: &mut Account, item: &Item)
     requires means { AreMeans means.now }
     requires awaits { Awaits means.now.basin.now means.now.series.now account.old item.now }
     ensures ready { IsReadyForSet account.new item.now }
+    ensures callers { account.new.has_callers ≡ account.old.has_callers }
     ensures keeps { (t : Told) → Keeps means.now.basin.now means.now.series.now account.old t →
         Keeps means.now.basin.now means.now.series.now account.new t }
 {
@@ -139,6 +169,7 @@ fn make_ready_for_amount(means: &Means, account: &mut Account, quantity: Quantit
     requires means { AreMeans means.now }
     requires month { HasMonth means.now.basin.now means.now.series.now account.old }
     ensures ready { IsReadyForAmount means.now account.new quantity entry }
+    ensures callers { account.new.has_callers ≡ account.old.has_callers }
     ensures supply { account.old.has_supply ≡ true → account.new.has_supply ≡ true }
     ensures calling { account.new.calling ≡ account.old.calling }
     ensures keeps { (t : Told) → Keeps means.now.basin.now means.now.series.now account.old t →
@@ -165,9 +196,7 @@ pub fn make_ready(means: &Means, account: &mut Account, item: &Item)
         Keeps means.now.basin.now means.now.series.now account.new t }
 {
     pass(means, account, item);
-    if is_behind_calls(item) {
-        answer(means, account);
-    }
+    answer(means, account, item);
     make_ready_for_set(means, account, item);
     match *item {
         Item::Amount {

@@ -12,7 +12,7 @@ ghost use Rattle.cert_check.specs.Coming.{Awaits, HasMonth, HasTold, IsUnderWay,
 ghost use Rattle.cert_check.specs.FirstRows.{first_of};
 ghost use Rattle.cert_check.specs.Keeping.{Keeps, with_outflow};
 ghost use Rattle.cert_check.specs.Means.{AreMeans};
-ghost use Rattle.cert_check.specs.Ready.{HasSums, IsReady, IsReadyForAmount, IsReadyForOwn, IsReadyForSet};
+ghost use Rattle.cert_check.specs.Ready.{HasSums, IsReady, IsReadyForAmount, IsReadyForCalled, IsReadyForOwn, IsReadyForSet};
 
 use crate::account::{Account, Means};
 use crate::answering::{Due, next_due};
@@ -81,10 +81,17 @@ fn cut_missing(means: &Means, account: &Account, item: &Item) -> bool
 fn has_due(means: &Means, account: &Account) -> bool
     requires means { AreMeans means.now }
     requires keeps { HasTold means.now.basin.now means.now.series.now account.now }
+    requires callers { account.now.has_callers ≡ true }
     ensures { (t : Told) → Keeps means.now.basin.now means.now.series.now account.now t →
         result ≡ nat_lt t.called (length (checking.callers_due means.now.basin.now t.now)) }
 {
-    match next_due(means.basin, &means.roll, &account.month, account.answered) {
+    match next_due(
+        means.basin,
+        &means.roll,
+        &account.callers,
+        &account.month,
+        account.answered,
+    ) {
         Some(_) => true,
         None => false,
     }
@@ -100,10 +107,17 @@ fn is_pair(due: Due, right: u32, by: u32) -> bool
 fn is_not_due(means: &Means, account: &Account, right: u32, by: u32) -> bool
     requires means { AreMeans means.now }
     requires keeps { HasTold means.now.basin.now means.now.series.now account.now }
+    requires callers { account.now.has_callers ≡ true }
     ensures { (t : Told) → Keeps means.now.basin.now means.now.series.now account.now t →
         result ≡ not (checking.is_due right by (slice_get (checking.callers_due means.now.basin.now t.now) t.called)) }
 {
-    match next_due(means.basin, &means.roll, &account.month, account.answered) {
+    match next_due(
+        means.basin,
+        &means.roll,
+        &account.callers,
+        &account.month,
+        account.answered,
+    ) {
         Some(due) => !is_pair(due, right, by),
         None => true,
     }
@@ -113,6 +127,7 @@ fn is_not_due(means: &Means, account: &Account, right: u32, by: u32) -> bool
 fn called_wrong(means: &Means, account: &Account, item: &Item) -> bool
     requires means { AreMeans means.now }
     requires keeps { HasTold means.now.basin.now means.now.series.now account.now }
+    requires ready { IsReadyForCalled account.now item.now }
     ensures { (t : Told) → Keeps means.now.basin.now means.now.series.now account.now t →
         result ≡ checking.called_wrong means.now.basin.now t item.now }
 {
@@ -176,6 +191,7 @@ fn call_row(means: &Means, account: &Account, item: &Item) -> Option<RefutedKind
     requires item { IsOfBasin means.now.basin.now item.now }
     requires awaits { Awaits means.now.basin.now means.now.series.now account.now item.now }
     requires ready { IsReadyForSet account.now item.now }
+    requires callers { IsReadyForCalled account.now item.now }
     ensures { (t : Told) → Keeps means.now.basin.now means.now.series.now account.now t →
         result ≡ first_of (call_rows means.now.basin.now means.now.series.now t item.now) }
 {

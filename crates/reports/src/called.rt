@@ -1,5 +1,6 @@
 //! How many right-months had a calling right.
 ghost use Rattle.std.specs.Prelude.{List, ◌≡◌, ◌<◌, ◌≤◌, ◌++◌, ◌∷◌, [], length, is_some, if◌then◌else◌, IfOk};
+ghost use Rattle.calls.specs.Callers.{AreCallers};
 ghost use Rattle.rights_roll.specs.Rolls.{IsRollOf};
 ghost use Rattle.water_model.specs.History.{FitsBasin};
 ghost use Rattle.water_model.specs.Text.{calling_right};
@@ -9,7 +10,7 @@ ghost use Rattle.reports.specs.Figures.{called_in};
 ghost use Rattle.reports.specs.Tallies.{IsTrial, IsTrialBefore};
 
 use crate::tally::Tally;
-use calls::calling_right;
+use calls::{callers_by_node, calling_right};
 use rights_roll::roll::Roll;
 use std::alloc::{AllocError, Global};
 use water_model::types::{Basin, Inflows, MonthRecord};
@@ -21,15 +22,15 @@ pub struct Trial {
     pub called: u64,
 }
 
-/// 1 where a right had a calling right in a month, else 0.
-fn called_once(basin: &Basin, roll: &Roll, month: &MonthRecord, right: u32) -> u64
+/// 1 where a right had a calling right in a month, else 0. `callers` has the first caller of each node.
+fn called_once(basin: &Basin, callers: &[Option<u32>], month: &MonthRecord, right: u32) -> u64
     requires basin { IsValidBasin basin.now }
-    requires roll { IsRollOf basin.now.rights roll.now }
+    requires callers { AreCallers basin.now month.now callers.now }
     requires month { FitsBasin basin.now month.now }
     requires right { right < length basin.now.rights }
     ensures { result ≡ (if is_some (calling_right basin.now month.now right) then 1 else 0) }
 {
-    match calling_right(basin, roll, month, right) {
+    match calling_right(basin, callers, month, right) {
         Some(_) => 1,
         None => 0,
     }
@@ -43,9 +44,10 @@ fn called_in(basin: &Basin, roll: &Roll, month: &MonthRecord) -> u64
     ensures value { result ≡ called_in basin.now month.now }
     ensures few { result ≤ length basin.now.rights }
 {
+    let callers = callers_by_node(basin, roll, month);
     let mut count = 0;
     for right in 0..basin.rights.len() {
-        count += called_once(basin, roll, month, right as u32);
+        count += called_once(basin, &callers, month, right as u32);
     }
     count
 }

@@ -1,7 +1,7 @@
 //! The lines of a section, entry by entry.
 ghost use Rattle.std.specs.Prelude.{◌≡◌, ◌≢◌, ◌<◌, false, length, slice_index, IfSome};
 ghost use Rattle.std.specs.Option.{option_map_or, option_to_list};
-ghost use Rattle.rights_roll.specs.Rolls.{IsRollOf};
+ghost use Rattle.calls.specs.Callers.{AreCallers};
 ghost use Rattle.water_model.specs.Entries.{count_in};
 ghost use Rattle.water_model.specs.History.{cut_of};
 ghost use Rattle.water_model.specs.Lookups.{has};
@@ -12,14 +12,10 @@ ghost use Rattle.water_model.specs.Valid.{IsValidBasin};
 ghost use Rattle.result_text.specs.Range.{FitsText};
 ghost use Rattle.result_text.specs.Returned.{AreReturnedTo};
 
-use calls::calling_right;
-use rights_roll::roll::Roll;
+use calls::{MOST_NODES, calling_right};
 use water_model::item::{Item, Section};
 use water_model::quantity::Quantity;
 use water_model::types::{Basin, MonthRecord};
-
-/// The most nodes that a valid basin has.
-const MOST_NODES: usize = 2000;
 
 /// For each node, whether some return row names it. It goes over the rows once, and takes no memory.
 pub fn returned_to(basin: &Basin) -> [bool; MOST_NODES]
@@ -79,19 +75,19 @@ pub fn is_member(month: &MonthRecord, right: u32, node: u32) -> bool
 }
 
 /// The line of an entry of a section, if it has one. Only the section of calls has several lines for an entry.
-/// `returned` has the nodes that return rows name.
+/// `returned` has the nodes that return rows name, and `callers` the first caller of each node.
 pub fn line_at(
     section: Section,
     basin: &Basin,
-    roll: &Roll,
     month: &MonthRecord,
     returned: &[bool],
+    callers: &[Option<u32>],
     entry: u32,
 ) -> Option<Item>
     requires basin { IsValidBasin basin.now }
-    requires roll { IsRollOf basin.now.rights roll.now }
     requires month { FitsText basin.now month.now }
     requires returned { AreReturnedTo basin.now returned.now }
+    requires callers { AreCallers basin.now month.now callers.now }
     requires single { section ≢ Section.Calls }
     requires entry { entry < count_in (section_space section) basin.now }
     ensures value { option_to_list result
@@ -116,7 +112,7 @@ pub fn line_at(
             want: month.want[entry as usize],
         }),
         Section::Calls => None,
-        Section::Called => match calling_right(basin, roll, month, entry) {
+        Section::Called => match calling_right(basin, callers, month, entry) {
             Some(by) => Some(Item::Called { right: entry, by }),
             None => None,
         },

@@ -1,6 +1,7 @@
 //! The lines of a result text, one `put` for each.
 ghost use Rattle.std.specs.Prelude.{◌≡◌, ◌≢◌, ◌<◌, ◌∷◌, [], length, is_some, IsErr};
 ghost use Rattle.std.specs.List.{flat_map};
+ghost use Rattle.calls.specs.Callers.{AreCallers};
 ghost use Rattle.rights_roll.specs.Rolls.{IsRollOf};
 ghost use Rattle.water_edge.specs.Edge.{HasCause, Puts};
 ghost use Rattle.water_model.specs.History.{cut_of};
@@ -16,6 +17,7 @@ ghost use Rattle.result_text.specs.Returned.{AreReturnedTo};
 
 use crate::section::{is_member, line_at, returned_to};
 use crate::spelling::spell;
+use calls::callers_by_node;
 use rights_roll::roll::Roll;
 use water_edge::{Sink, SinkFailed};
 use water_model::item::{Item, SECTIONS, Section};
@@ -40,16 +42,16 @@ fn put_item<K: Sink>(sink: &mut K, basin: &Basin, item: Item) -> Result<(), Sink
 fn put_line<K: Sink>(
     sink: &mut K,
     basin: &Basin,
-    roll: &Roll,
     month: &MonthRecord,
     returned: &[bool],
+    callers: &[Option<u32>],
     section: Section,
     entry: u32,
 ) -> Result<(), SinkFailed>
     requires basin { IsValidBasin basin.now }
-    requires roll { IsRollOf basin.now.rights roll.now }
     requires month { FitsText basin.now month.now }
     requires returned { AreReturnedTo basin.now returned.now }
+    requires callers { AreCallers basin.now month.now callers.now }
     requires single { section ≢ Section.Calls }
     requires entry { entry < count_in (section_space section) basin.now }
     ensures text { Puts (K.taken sink.old) (K.taken sink.new) result
@@ -57,7 +59,7 @@ fn put_line<K: Sink>(
         (lines_at section basin.now month.now (calling_right basin.now month.now) entry)) }
     ensures cause { HasCause (K.faults sink.old) (K.faults sink.new) (IsErr result) }
 {
-    match line_at(section, basin, roll, month, returned, entry) {
+    match line_at(section, basin, month, returned, callers, entry) {
         Some(item) => put_item(sink, basin, item),
         None => Ok(()),
     }
@@ -140,16 +142,16 @@ fn put_call<K: Sink>(
 fn put_entry<K: Sink>(
     sink: &mut K,
     basin: &Basin,
-    roll: &Roll,
     month: &MonthRecord,
     returned: &[bool],
+    callers: &[Option<u32>],
     section: Section,
     entry: u32,
 ) -> Result<(), SinkFailed>
     requires basin { IsValidBasin basin.now }
-    requires roll { IsRollOf basin.now.rights roll.now }
     requires month { FitsText basin.now month.now }
     requires returned { AreReturnedTo basin.now returned.now }
+    requires callers { AreCallers basin.now month.now callers.now }
     requires entry { entry < count_in (section_space section) basin.now }
     ensures text { Puts (K.taken sink.old) (K.taken sink.new) result
         (flat_map (whole_line basin.now)
@@ -158,7 +160,7 @@ fn put_entry<K: Sink>(
 {
     match section {
         Section::Calls => put_call(sink, basin, month, entry),
-        _ => put_line(sink, basin, roll, month, returned, section, entry),
+        _ => put_line(sink, basin, month, returned, callers, section, entry),
     }
 }
 
@@ -169,12 +171,14 @@ fn put_section<K: Sink>(
     roll: &Roll,
     month: &MonthRecord,
     returned: &[bool],
+    callers: &[Option<u32>],
     section: Section,
 ) -> Result<(), SinkFailed>
     requires basin { IsValidBasin basin.now }
     requires roll { IsRollOf basin.now.rights roll.now }
     requires month { FitsText basin.now month.now }
     requires returned { AreReturnedTo basin.now returned.now }
+    requires callers { AreCallers basin.now month.now callers.now }
     ensures text { Puts (K.taken sink.old) (K.taken sink.new) result
         (flat_map (whole_line basin.now)
         (lines_in section basin.now month.now (calling_right basin.now month.now))) }
@@ -184,7 +188,7 @@ fn put_section<K: Sink>(
     let count = count_in(space, basin);
     for place in 0..count {
         let entry = entry_at(space, basin, roll.by_seniority(), place);
-        put_entry(sink, basin, roll, month, returned, section, entry)?;
+        put_entry(sink, basin, month, returned, callers, section, entry)?;
     }
     Ok(())
 }
@@ -205,8 +209,9 @@ fn put_sections<K: Sink>(
     ensures cause { HasCause (K.faults sink.old) (K.faults sink.new) (IsErr result) }
 {
     let returned = returned_to(basin);
+    let callers = callers_by_node(basin, roll, month);
     for section in SECTIONS.iter() {
-        put_section(sink, basin, roll, month, &returned, *section)?;
+        put_section(sink, basin, roll, month, &returned, &callers, *section)?;
     }
     Ok(())
 }
@@ -215,7 +220,7 @@ fn put_sections<K: Sink>(
 /// for each right that answers to a calling right a `called` line. Rights come seniors first, all other entries in the
 /// order of the basin.
 ///
-/// Return rows are gone over once.
+/// Return rows are gone over once, and so are the sets of short rights, for the callers.
 ///
 /// Each line is one `put`. `SinkFailed` comes only where the sink counted a fault; a front of the lines was then put.
 pub fn put_month<K: Sink>(

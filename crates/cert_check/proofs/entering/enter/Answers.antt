@@ -36,7 +36,7 @@ returns-in-Amount c = λ t k m good.
 
 pub returns-in-Month : goal.returns-in-Month
 returns-in-Month c = λ t k m good.
-    along c.args.means.now.basin.now c.args.means.now.series.now t _ _ _ _ c.in-Month.is (c.enter_month.ensures.rest ∙ ap (λ n. record c.args.account.now { month = n; calling = None; has_supply = false; has_closes = false; passed = 0; answered = 0 }) c.enter_month.ensures.month)
+    along c.args.means.now.basin.now c.args.means.now.series.now t _ _ _ _ c.in-Month.is (c.enter_month.ensures.rest ∙ ap (λ n. record c.args.account.now { month = n; calling = None; has_supply = false; has_closes = false; has_callers = false; passed = 0; answered = 0 }) c.enter_month.ensures.month)
     (keeps_month c.args.means.now.basin.now c.args.means.now.series.now c.args.account.now t c.in-Month.month (subst (λ i. IsOfBasin c.args.means.now.basin.now i) c.in-Month.is c.requires.item) k)
 
 pub returns-in-Deliver : goal.returns-in-Deliver

@@ -25,6 +25,7 @@ returns c = λ series. subst (λ (a : Account). Keeps c.args.basin.now series a 
   has_supply = refl;
   closes = c.in_ok-sums.ensures.0;
   has_closes = refl;
+  has_callers = refl;
   passed = refl;
   answered = refl;
   into = c.in_ok-sums.ensures.1;
