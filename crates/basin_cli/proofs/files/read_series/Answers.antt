@@ -1,3 +1,4 @@
+use Rattle.std.specs.Prelude.{None}
 use Rattle.basin_cli.specs.Header.{header}
 use Rattle.basin_cli.proofs.Reading.{refused_result, header_short}
 use Rattle.basin_cli.proofs.files.read_series.Goals as goal
