@@ -1,5 +1,6 @@
 -- The laws.
-use Rattle.std.proofs.Common.{ℕ, zero, suc, Bool, false, not, ◌==◌, ◌&&◌, ◌≡◌, ◌+◌, ◌-◌, ◌<◌, ◌≤◌, List, [], ◌∷◌, slice_index, arith, ap, sym, subst, inl, inr, ◌∙◌}
+use Rattle.std.proofs.Common.{ℕ, zero, suc, Bool, false, not, ◌==◌, ◌&&◌, ◌≡◌, ◌+◌, ◌-◌, ◌<◌, ◌≤◌, List, [], ◌∷◌}
+use Rattle.std.proofs.Common.{slice_index, refl, arith, ap, sym, subst, inl, inr, ◌∙◌}
 use Rattle.std.proofs.lemmas.Bool.{cases_eq, cases_lt, eq-eqb, and_right}
 use Rattle.place_sums.specs.Sums.{total, when}
 use Rattle.place_sums.proofs.Totals.{total_same}
@@ -7,11 +8,12 @@ use Rattle.circulation.specs.Network.{leaves, cut_in, cut_out, IsCut, IsTight}
 use Rattle.circulation.specs.Contents.{Contents, network, flow_of, arcs, IsCirculation}
 use Rattle.circulation.specs.Residual.{start_of}
 use Rattle.augment.proofs.Trees.{start_within}
+use Rattle.augment.specs.Search.{SameButScratch}
 use Rattle.residual_tree.specs.Tree.{word_of, IsReached, IsResidualTree}
 use Rattle.residual_tree.specs.Raised.{IsRaisedOver}
 use Rattle.residual_tree.specs.Laws.{IsWalkTo, ReachedIsReachable, DryIsGreatestCut, CutStaysWhenHeld}
 use Rattle.residual_tree.proofs.Dry.{dry_cut}
-use Rattle.residual_tree.proofs.Pushes.{residual_lent}
+use Rattle.residual_tree.proofs.Pushes.{residual_lent, stopped_tree}
 
 -- along the tree
 walk_from : (n : ℕ) (c : Contents) (way : List ℕ) → IsCirculation c → (t : IsResidualTree c way) → (v : ℕ) → v ≤ c.nodes →
@@ -39,6 +41,15 @@ reached_is_reachable_lem c way v k t b = (
   λ m. walk_from (suc (t.rank v)) c way k t v b m (omega arith),
   λ w. reached_by c way t v w.0 w.1,
 )
+
+-- what a tree reaches, another reaches too, where all is the same but scratch words
+pub same_reached : (c d : Contents) (way way' : List ℕ) (v : ℕ) → IsCirculation c → SameButScratch c d →
+    IsResidualTree c way → IsResidualTree d way' → v ≤ c.nodes → IsReached way v → IsReached way' v
+same_reached c d way way' v k same t t' b m =
+    let back : c ≡ record d { scratch = c.scratch } =
+    ap (λ (x : Contents). record x { scratch = c.scratch }) (sym same) in
+    let own = stopped_tree d c way' way' t' back refl in
+    (reached_is_reachable_lem c way' v k own b).1 ((reached_is_reachable_lem c way v k t b).0 m)
 
 pub dry_is_greatest_cut_lem : DryIsGreatestCut
 dry_is_greatest_cut_lem c way r k t b none head = dry_cut c way r k (residual_lent c way r t) b none head

@@ -1,9 +1,11 @@
 -- What a round and a hold leave.
 use Rattle.std.proofs.Common.{ℕ, max, ◌≡◌, ◌+◌, ◌-◌, ◌*◌, ◌<◌, ◌≤◌, List, length, slice_index, slice_set, refl, arith, ap, sym, subst, inl, inr, ◌∙◌}
 use Rattle.std.proofs.lemmas.Bool.{cases_eq}
-use Rattle.std.proofs.lemmas.List.{get_or-set_other, get_or-set_same}
+use Rattle.std.proofs.lemmas.List.{get_or-set_other, get_or-set_same, length-set}
+use Rattle.std.proofs.lemmas.Grind.{same_number_lists}
 use Rattle.circulation.specs.Contents.{Contents, flow_of, arcs, step_of, held_contents, IsCirculation}
 use Rattle.circulation.specs.Residual.{arc_of, IsPushed}
+use Rattle.augment.specs.Search.{SameButScratch}
 use Rattle.augment.proofs.Raises.{pushed_first}
 use Rattle.residual_tree.specs.Growth.{none, only, IsWornTree, IsLent}
 use Rattle.residual_tree.specs.Raised.{IsTraced, IsRaisedOver}
@@ -137,3 +139,20 @@ round_written c f g r amount scratch round e = record {
   raised = ap (λ (x : Contents). flow_of x r) e ∙ round.raised;
   held = ap (λ (x : Contents). flow_of x r) e ∙ round.held ∙ sym (ap (λ (x : Contents). slice_index x.lower r) e);
 }
+
+-- a hold of an arc that was held at its flow
+pub hold_still : (c d : Contents) (r amount : ℕ) → IsCirculation c → r < arcs c → amount ≡ flow_of c r →
+    flow_of c r ≡ slice_index c.lower r → d ≡ record (held_contents c r amount) { scratch = d.scratch } → SameButScratch c d
+hold_still c d r amount k b is held made =
+    let more = max (slice_index c.lower r) amount in
+    let long : r < length c.lower = omega (arith, k.shape.lower, b) in
+    made ∙ ap (λ (xs : List ℕ). record c { lower = xs; scratch = d.scratch })
+    (same_number_lists (slice_set c.lower r more) c.lower (length-set c.lower r more) (λ a m. elim (cases_eq a r) [
+      | inl e ↦ ap (slice_index (slice_set c.lower r more)) e ∙ get_or-set_same c.lower r more 0 long
+          ∙ omega (arith, is, held) ∙ sym (ap (slice_index c.lower) e)
+      | inr ne ↦ get_or-set_other c.lower r a more 0 ne
+    ]))
+
+-- two changes of scratch words
+pub scratch_more : (c d e : Contents) → SameButScratch c d → SameButScratch d e → SameButScratch c e
+scratch_more c d e first second = second ∙ ap (λ (x : Contents). record x { scratch = e.scratch }) first

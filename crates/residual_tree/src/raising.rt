@@ -16,7 +16,7 @@ use steps::Steps;
 
 /// One push along the walk over the arc, the exit and the tree, after which the flow of the arc is held and the tree
 /// repaired. The step `lent` to the head of the arc may have no room. Answers whether there was room for the
-/// push, which lacks only where the exit has none.
+/// push, which lacks only where the walk goes over the exit and that has none.
 fn round<L: Ledger>(
     circ: &mut Lent<'_>,
     tree: &mut ResidualTree<'_>,
@@ -45,7 +45,7 @@ fn round<L: Ledger>(
         (searches.new ≡ searches.old + 1) }
     ensures stopped { result ≡ false →
         SameButScratch circ.old circ.new × (tree.new ≡ tree.old) × (searches.new ≡ searches.old) }
-    ensures full { result ≡ false → IsFull circ.new exit }
+    ensures full { result ≡ false → (slice_index circ.old.to arc ≢ circ.old.nodes) × IsFull circ.new exit }
 {
     let walk = trace(circ, tree, arc, exit, most);
     if walk.amount == 0 {
@@ -86,7 +86,10 @@ fn pull<L: Ledger>(
     ensures cost { searches.new ≤ searches.old + most_pushes }
     ensures each { flow_of circ.old arc + (searches.new - searches.old) ≤ flow_of circ.new arc }
     ensures why { flow_of circ.new arc < want → IsReached tree.new (slice_index circ.old.from arc) →
-        (searches.new ≡ searches.old + most_pushes) ⊎ IsFull circ.new exit }
+        (searches.new ≡ searches.old + most_pushes) ⊎
+        ((slice_index circ.old.to arc ≢ circ.old.nodes) × IsFull circ.new exit) }
+    ensures count { searches.old ≤ searches.new }
+    ensures still { searches.new ≡ searches.old → SameButScratch circ.old circ.new }
 {
     let tail = circ.ends(arc).from;
     for _pushes in 0..most_pushes {
@@ -147,11 +150,17 @@ pub fn raise_by_tree<L: Ledger>(
     ensures cut { result ≡ Pulled.Dry → IsReached tree.new (slice_index circ.old.to arc) →
         IsGreatestCut (network circ.new) (flow_of circ.new) arc (dry circ.new tree.new) }
 
-    // Each push raises the flow, and Unfinished comes only where all pushes were made or the exit is full.
+    // Each push raises the flow, and Unfinished comes only where all pushes were made, or where the head is not the
+    // outside and the exit is full.
+    ensures count { searches.old ≤ searches.new }
     ensures cost { searches.new ≤ searches.old + most_pushes }
     ensures each { flow_of circ.old arc + (searches.new - searches.old) ≤ flow_of circ.new arc }
-    ensures unfinished { result ≡ Pulled.Unfinished →
-        (searches.new ≡ searches.old + most_pushes) ⊎ IsFull circ.new exit }
+    ensures unfinished { result ≡ Pulled.Unfinished → (searches.new ≡ searches.old + most_pushes) ⊎
+        ((slice_index circ.old.to arc ≢ circ.old.nodes) × IsFull circ.new exit) }
+
+    // Without a push, an arc that was held at its flow leaves all as it was but scratch words.
+    ensures still { searches.new ≡ searches.old → flow_of circ.old arc ≡ slice_index circ.old.lower arc →
+        SameButScratch circ.old circ.new }
 {
     let start = circ.flow(arc);
     tree.hold(circ, arc, start);
@@ -202,11 +211,14 @@ pub fn raise_within_dry<L: Ledger>(
         IsGreatestCut (network circ.new) (flow_of circ.new) arc (dry circ.new tree.new) }
 
     // Each push raises the flow, and Unfinished comes only where all pushes were made, the exit is full, or the head is
-    // not dry.
+    // not dry. Before the first push the head is as it was at first.
+    ensures count { searches.old ≤ searches.new }
     ensures cost { searches.new ≤ searches.old + most_pushes }
     ensures each { flow_of circ.old arc + (searches.new - searches.old) ≤ flow_of circ.new arc }
     ensures unfinished { result ≡ Pulled.Unfinished → (searches.new ≡ searches.old + most_pushes) ⊎
         (IsFull circ.new exit ⊎ IsReached tree.new (slice_index circ.old.to arc)) }
+    ensures at_first { result ≡ Pulled.Unfinished → searches.new ≡ searches.old → 0 < most_pushes →
+        IsFull circ.new exit ⊎ IsReached tree.old (slice_index circ.old.to arc) }
 {
     let ends = circ.ends(arc);
     for _pushes in 0..most_pushes {

@@ -1,5 +1,5 @@
 //! The closed walk along which a raise pushes.
-ghost use Rattle.std.specs.Prelude.{◌≡◌, ◌+◌, ◌-◌, ◌*◌, ◌<◌, ◌≤◌, slice_index, slice_set};
+ghost use Rattle.std.specs.Prelude.{◌≡◌, ◌≢◌, ◌+◌, ◌-◌, ◌*◌, ◌<◌, ◌≤◌, slice_index, slice_set};
 ghost use Rattle.circulation.specs.Contents.{arcs, flow_of, IsCirculation};
 ghost use Rattle.residual_tree.specs.Tree.{IsReached};
 ghost use Rattle.residual_tree.specs.Growth.{IsLent};
@@ -43,7 +43,7 @@ pub fn trace(circ: &mut Lent<'_>, tree: &ResidualTree<'_>, arc: u32, exit: u32, 
     requires kept { IsCirculation circ.old }
     ensures kept { IsCirculation circ.new }
     ensures traced { IsTraced circ.old circ.new tree.now arc most result.first result.amount }
-    ensures blocked { result.amount ≡ 0 → IsFull circ.old exit }
+    ensures blocked { result.amount ≡ 0 → (slice_index circ.old.to arc ≢ circ.old.nodes) × IsFull circ.old exit }
 {
     let nodes = circ.nodes();
     let ends = circ.ends(arc);

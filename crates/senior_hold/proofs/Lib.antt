@@ -18,5 +18,6 @@ pub mod Rivers
 pub mod Spilled
 pub mod TreeServes
 pub mod SettledPlans
+pub mod Budget
 pub mod SearchedPlans
 pub mod Placing

@@ -68,8 +68,8 @@ standing_first b month supply want order c cuts net is_flow size free fits_cuts 
 abbrev pub changed : Contents → List ℕ → List ℕ → List ℕ → Contents
 changed old f s lower = record old { flow = f; scratch = s; lower = lower }
 
-net_kept : (b : Basin) (month : Month) (supply want : List ℕ) (c : Contents) (f s lower : List ℕ) → IsMonthNetwork b month supply want (network c) →
-    IsMonthNetwork b month supply want (network (changed c f s lower))
+pub net_kept : (b : Basin) (month : Month) (supply want : List ℕ) (c : Contents) (f s lower : List ℕ) →
+    IsMonthNetwork b month supply want (network c) → IsMonthNetwork b month supply want (network (changed c f s lower))
 net_kept b month supply want c f s lower net = record {
   ends = record {
     nodes = net.ends.nodes;

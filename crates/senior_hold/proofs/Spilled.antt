@@ -114,6 +114,8 @@ spilled_start b month supply want upper start c new p most ends are mosts fits p
       still = λ e l. laid.on_links e l ∙ still e l;
       all = ap (λ (q : Plan). q.out) (plan_same (spilled b) month supply want p (λ a. slice_index start a)
           (record { flow = fits.flow; take = fits.take; out = fits.out ∙ sym (spilled_count b) }) plan laid) ∙ all;
+      wide = λ n l. ap (slice_index upper) (sym (spill_is b n (omega arith)))
+          ∙ (are.on_outs n (omega (arith, l, spilled_count b)) (spilled_outlet b n l) ∙ mosts n l);
     }
 
 -- a turn is one of it as well

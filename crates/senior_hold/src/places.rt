@@ -96,6 +96,7 @@ fn sweep_lent<L: Ledger>(
     ensures cuts { FitsCuts basin.now cuts.new }
     ensures solved { result ≡ Sweep.Solved → IsSolved basin.now month supply.now want.now plan.new cuts.new }
     ensures pushes { way ≡ Way.Tree → searches.new ≤ searches.old + 30 * length basin.now.rights }
+    ensures gave_up { result ≡ Sweep.GaveUp → searches.old + 29 * length basin.now.rights < searches.new }
     ensures searched { way ≡ Way.Searches → result ≡ Sweep.Solved }
     ensures search_pushes { way ≡ Way.Searches →
         searches.new ≤ searches.old + length basin.now.rights * (30 * (2 * arc_count basin.now + 1)) }
@@ -146,6 +147,7 @@ pub fn sweep<L: Ledger>(
     ensures cuts { FitsCuts basin.now cuts.new }
     ensures solved { result ≡ Sweep.Solved → IsSolved basin.now month supply.now want.now plan.new cuts.new }
     ensures pushes { way ≡ Way.Tree → searches.new ≤ searches.old + 30 * length basin.now.rights }
+    ensures gave_up { result ≡ Sweep.GaveUp → searches.old + 29 * length basin.now.rights < searches.new }
     ensures searched { way ≡ Way.Searches → result ≡ Sweep.Solved }
     ensures search_pushes { way ≡ Way.Searches →
         searches.new ≤ searches.old + length basin.now.rights * (30 * (2 * arc_count basin.now + 1)) }

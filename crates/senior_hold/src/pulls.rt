@@ -1,13 +1,13 @@
 //! One right's turn by the residual tree.
-ghost use Rattle.std.specs.Prelude.{◌≡◌, ◌≢◌, ◌↔◌, ◌+◌, ◌*◌, ◌<◌, ◌≤◌, length, slice_index, replicate, false, Some, None};
+ghost use Rattle.std.specs.Prelude.{◌≡◌, ◌≢◌, ◌↔◌, ◌⊎◌, ◌+◌, ◌*◌, ◌<◌, ◌≤◌, length, slice_index, None};
 ghost use Rattle.water_model.specs.CutSets.{set_of, with_set};
 ghost use Rattle.circulation.specs.Contents.{network, flow_of, arcs, IsCirculation};
 ghost use Rattle.augment.specs.Raised.{IsGreatestCut};
 ghost use Rattle.residual_tree.specs.Tree.{IsResidualTree, dry};
 ghost use Rattle.residual_tree.specs.Growth.{IsLentTree};
-ghost use Rattle.residual_tree.specs.Raised.{IsExit, IsRaisedOver};
+ghost use Rattle.residual_tree.specs.Raised.{IsExit, IsFull, IsRaisedOver};
 ghost use Rattle.senior_hold.specs.MonthNetwork.{list_of};
-ghost use Rattle.senior_hold.specs.Serving.{IsServed, SameEnds, KeepsShape};
+ghost use Rattle.senior_hold.specs.Serving.{IsServed, SameEnds, KeepsShape, FillsExit};
 
 use circulation::Lent;
 use residual_tree::{Pulled, ResidualTree, raise_by_tree, raise_within_dry};
@@ -16,7 +16,7 @@ use steps::Steps;
 use water_model::cut_list::CutList;
 
 /// At most one push over an arc: along the tree, or within the dry nodes where both its ends are dry. Unfinished says that
-/// there may be more to push.
+/// there may be more to push; it comes after a push, or where the exit is full.
 fn pull_once<L: Ledger>(
     circ: &mut Lent<'_>,
     tree: &mut ResidualTree<'_>,
@@ -42,7 +42,9 @@ fn pull_once<L: Ledger>(
     ensures lent { result ≡ Pulled.Dry → IsLentTree circ.new tree.new (2 * exit + 1) }
     ensures cut { result ≡ Pulled.Dry →
         IsGreatestCut (network circ.new) (flow_of circ.new) arc (dry circ.new tree.new) }
+    ensures count { searches.old ≤ searches.new }
     ensures cost { searches.new ≤ searches.old + 1 }
+    ensures unfinished { result ≡ Pulled.Unfinished → (searches.new ≡ searches.old + 1) ⊎ IsFull circ.new exit }
 {
     let ends = circ.ends(arc);
     if tree.is_dry(ends.from) && tree.is_dry(ends.to) {
@@ -57,7 +59,7 @@ fn pull_once<L: Ledger>(
 }
 
 /// Raises the flow on an arc to its want, or as far as it can be, by at most `left` pushes, and takes from `left` what it
-/// used, with one for the end. Unfinished says that they were used up.
+/// used, with one for the end. Unfinished says that they were used up: as many pushes were made, unless the exit got full.
 fn pull_up<L: Ledger>(
     circ: &mut Lent<'_>,
     tree: &mut ResidualTree<'_>,
@@ -84,6 +86,9 @@ fn pull_up<L: Ledger>(
     ensures cut { result ≡ Pulled.Dry →
         IsGreatestCut (network circ.new) (flow_of circ.new) arc (dry circ.new tree.new) }
     ensures cost { searches.new + left.new ≤ searches.old + left.old }
+    ensures used { (searches.old + left.old ≤ searches.new + left.new + 1) ⊎ FillsExit circ.old arc exit }
+    ensures gave_up { result ≡ Pulled.Unfinished →
+        (searches.old + left.old ≤ searches.new) ⊎ FillsExit circ.old arc exit }
 {
     let flow = circ.flow(arc);
     tree.hold(circ, arc, flow);
@@ -107,7 +112,8 @@ pub enum Turn {
     GaveUp,
 }
 
-/// Serves a right as `serve` does, by at most `left` pushes, and takes from `left` what it used. `exit` is an arc from the
+/// Serves a right as `serve` does, by at most `left` pushes, and takes from `left` what it used: at most one more than it
+/// pushed. It gives up after `left` pushes. Both are so unless the exit got full on the way. `exit` is an arc from the
 /// head of the right's arc to the outside, unless the head is the outside.
 pub fn serve_by_tree<L: Ledger>(
     circ: &mut Lent<'_>,
@@ -135,6 +141,8 @@ pub fn serve_by_tree<L: Ledger>(
     ensures ends { SameEnds circ.old circ.new }
     ensures shape { KeepsShape cuts.old cuts.new }
     ensures cost { searches.new + left.new ≤ searches.old + left.old }
+    ensures used { (searches.old + left.old ≤ searches.new + left.new + 1) ⊎ FillsExit circ.old arc exit }
+    ensures gave_up { result ≡ Turn.GaveUp → (searches.old + left.old ≤ searches.new) ⊎ FillsExit circ.old arc exit }
 {
     if want <= circ.flow(arc) {
         tree.hold(circ, arc, want);

@@ -120,8 +120,8 @@ impl<'b> Solver<'b> {
         })
     }
 
-    /// Solves a month as `solve_month` does, by the residual tree, unless that needs more than 30 pushes for each right on
-    /// average: then the answer is GaveUp, and the plan and the sets say nothing of the month.
+    /// Solves a month as `solve_month` does, by the residual tree, with at most 30 pushes for each right on average. GaveUp
+    /// comes only after more than 29 for each were made, and then the plan and the sets say nothing of the month.
     pub fn sweep_by_tree<L: Ledger>(
         &mut self,
         month: Month,
@@ -138,6 +138,7 @@ impl<'b> Solver<'b> {
         ensures cuts { FitsCuts self.old cuts.new }
         ensures solved { result ≡ Sweep.Solved → IsSolved self.old month supply.now want.now plan.new cuts.new }
         ensures pushes { searches.new ≤ searches.old + 30 * length self.old.rights }
+        ensures gave_up { result ≡ Sweep.GaveUp → searches.old + 29 * length self.old.rights < searches.new }
     {
         sweep(
             Way::Tree,

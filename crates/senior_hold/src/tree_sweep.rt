@@ -89,6 +89,8 @@ fn exit_of(circ: &Lent<'_>, first: u32, arc: u32) -> u32
     requires some { 0 < circ.now.nodes }
     ensures arc { result < arcs circ.now }
     ensures exit { IsExit circ.now arc result }
+    ensures first { first ≤ result }
+    ensures spill { result < first + circ.now.nodes }
 {
     let head = circ.ends(arc).to;
     if head < circ.nodes() {
@@ -139,11 +141,12 @@ fn settle_plan(basin: &Basin, layout: &Layout, room: &mut Room, circ: &Lent<'_>,
 pub enum Sweep {
     /// The month is solved.
     Solved,
-    /// The pushes were used up.
+    /// The pushes were used up: more than 29 for each right were made.
     GaveUp,
 }
 
-/// Serves the rights, seniors first, and writes the plan.
+/// Serves the rights, seniors first, and writes the plan. Of the budget each turn loses at most one push, its last, so
+/// that GaveUp comes only after more than 29 pushes for each right.
 pub fn solve_by_tree<L: Ledger>(
     basin: &Basin,
     layout: &Layout,
@@ -171,6 +174,7 @@ pub fn solve_by_tree<L: Ledger>(
     ensures cuts { FitsCuts basin.now cuts.new }
     ensures solved { result ≡ Sweep.Solved → IsSolved basin.now month supply.now want.now plan.new cuts.new }
     ensures pushes { searches.new ≤ searches.old + 30 * length basin.now.rights }
+    ensures gave_up { result ≡ Sweep.GaveUp → searches.old + 29 * length basin.now.rights < searches.new }
 {
     begin_spilled(basin, layout, room, circ, month, supply, want, plan);
     tree.plant(circ);

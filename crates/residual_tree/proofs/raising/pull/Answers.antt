@@ -1,5 +1,6 @@
 use Rattle.residual_tree.proofs.Grows.{lent_some}
 use Rattle.residual_tree.proofs.Pushes.{stopped_tree}
+use Rattle.residual_tree.proofs.Rounds.{raised_more}
 use Rattle.residual_tree.proofs.raising.pull.Goals as goal
 
 pub round-requires-clause-tree : goal.round-requires-clause-tree
@@ -9,3 +10,8 @@ pub returns-then-not-round-clause-tree : goal.returns-then-not-round-clause-tree
 returns-then-not-round-clause-tree g c =
     let stopped = c.round.ensures.stopped c.if-not-round.true in
     stopped_tree c.loop-pushes.circ c.round.new.circ c.loop-pushes.tree c.round.new.tree c.loop-pushes.invariant.tree stopped.0 stopped.1
+
+pub returns-then-not-round-clause-rest : goal.returns-then-not-round-clause-rest
+returns-then-not-round-clause-rest g c =
+    raised_more c.args.circ.now c.loop-pushes.circ c.round.new.circ c.args.arc c.loop-pushes.invariant.rest
+    c.round.ensures.rest

@@ -1,5 +1,6 @@
 use Rattle.std.proofs.Common.{◌≡◌, ◌+◌, ◌≤◌, slice_index}
 use Rattle.circulation.specs.Contents.{flow_of, IsCirculation}
+use Rattle.augment.specs.Search.{SameButScratch}
 use Rattle.residual_tree.specs.Tree.{IsResidualTree}
 use Rattle.residual_tree.specs.Raised.{IsRaisedOver}
 use Rattle.residual_tree.proofs.raising.pull.Given as goal
@@ -14,4 +15,5 @@ invariant-loop-pushes g l = record {
   limit : flow_of l.circ l.arc ≤ l.want;
   count : l.searches ≡ l.fn.searches + l._pushes;
   each : flow_of l.fn.circ l.arc + l._pushes ≤ flow_of l.circ l.arc;
+  still : l._pushes ≡ 0 → SameButScratch l.fn.circ l.circ;
 }

@@ -3,7 +3,7 @@ use Rattle.circulation.specs.Contents.{Contents}
 use Rattle.residual_tree.specs.Tree.{word_of, IsReached}
 use Rattle.residual_tree.proofs.Dry.{dry_cut}
 use Rattle.residual_tree.proofs.Pushes.{residual_lent}
-use Rattle.residual_tree.proofs.Rounds.{hold_is, raised_more}
+use Rattle.residual_tree.proofs.Rounds.{hold_is, hold_still, raised_more, scratch_more}
 use Rattle.residual_tree.proofs.raising.raise_by_tree.Goals as goal
 
 pub returns-then-word-eq0-clause-cut : goal.returns-then-word-eq0-clause-cut
@@ -23,3 +23,10 @@ returns-else-word-eq0-clause-rest g c =
     let hold = hold_is c.args.circ.now c.hold.new.circ c.args.arc c.flow-start.result c.flow-start.ensures.kept c.requires.arc
     c.flow-start.ensures.amount c.hold.ensures.held in
     raised_more c.args.circ.now c.hold.new.circ c.pull.new.circ c.args.arc hold.rest c.pull.ensures.rest
+
+pub returns-else-word-eq0-clause-still : goal.returns-else-word-eq0-clause-still
+returns-else-word-eq0-clause-still g c = λ none held.
+    scratch_more c.args.circ.now c.hold.new.circ c.pull.new.circ
+    (hold_still c.args.circ.now c.hold.new.circ c.args.arc c.flow-start.result c.flow-start.ensures.kept c.requires.arc
+    c.flow-start.ensures.amount held c.hold.ensures.held)
+    (c.pull.ensures.still none)

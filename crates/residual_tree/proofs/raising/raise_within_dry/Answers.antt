@@ -49,4 +49,5 @@ loop-pushes-preserved g c =
       limit = omega (arith, pushed.1, limit, c.flow-flow.ensures.amount);
       count = omega (arith, inv.count, pushed.2);
       each = omega (arith, inv.each, pushed.0);
+      first = λ e. absurd (omega arith);
     }

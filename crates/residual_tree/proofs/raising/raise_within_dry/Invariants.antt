@@ -14,4 +14,5 @@ invariant-loop-pushes g l = record {
   limit : flow_of l.circ l.arc ≤ l.want;
   count : l.searches ≡ l.fn.searches + l._pushes;
   each : flow_of l.fn.circ l.arc + l._pushes ≤ flow_of l.circ l.arc;
+  first : l._pushes ≡ 0 → l.tree ≡ l.fn.tree;
 }

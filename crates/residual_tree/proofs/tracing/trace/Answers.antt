@@ -92,8 +92,11 @@ pub returns-then-node-nodes-clause-blocked : goal.returns-then-node-nodes-clause
 returns-then-node-nodes-clause-blocked c = λ empty.
     let positive = (c.loop-node.invariant.trail c.requires.tree).positive in
     let is = c.room.ensures ∙ ap (λ (x : Contents). room_of (network x) (flow_of x) (2 * c.from-out.result)) c.loop-node.invariant.rest
-    ∙ ap (λ (a : ℕ). room_of (network c.args.circ.now) (flow_of c.args.circ.now) (2 * a)) c.from-out.ensures in
-    omega (arith, is, positive, c.min-amount.ensures, empty)
+    ∙ ap (λ (a : ℕ). room_of (network c.args.circ.now) (flow_of c.args.circ.now) (2 * a)) c.from-out.ensures in (
+      λ e. c.loop-node-test.true
+          (c.if-node-nodes.true ∙ c.nodes-nodes.ensures.number ∙ sym e ∙ sym c.ends-ends.ensures.to),
+      omega (arith, is, positive, c.min-amount.ensures, empty),
+    )
 
 pub returns-clause-blocked : goal.returns-clause-blocked
 returns-clause-blocked c = λ empty. absurd (omega (arith, (c.loop-node.invariant.trail c.requires.tree).positive, empty))

@@ -1,18 +1,29 @@
 use Rattle.std.proofs.lemmas.Bool.Decides.{nat_tests}
 use Rattle.std.specs.Prelude.{IsTrue, ◌↔◌}
-use Rattle.std.proofs.Common.{ℕ, Bool, ◌<◌, ◌≡◌, ◌≢◌, ◌*◌, ◌+◌, ◌∙◌, false, sym, subst, arith}
+use Rattle.std.proofs.lemmas.Bool.{cases_eq}
+use Rattle.std.proofs.Common.{ℕ, Bool, ◌<◌, ◌≤◌, ◌≡◌, ◌≢◌, ◌*◌, ◌+◌, ◌∙◌, true, false, refl, sym, subst, arith, inl, inr}
 use denote.Enum.Bare.{sameb}
 use Rattle.residual_tree.specs.Tree.{word_of, IsReached}
 use Rattle.residual_tree.specs.declared.raising.Pulled.{Pulled}
 use Rattle.residual_tree.specs.contracts.Pulled.{the_type}
 use Rattle.residual_tree.proofs.Grows.{lent_some}
+use Rattle.residual_tree.proofs.Reaches.{same_reached}
 use Rattle.senior_hold.proofs.pulls.pull_once.Goals as goal
+use Rattle.senior_hold.proofs.pulls.pull_once.Goals.{else-is_dry-via-then-is_dry+else-is_dry-2, else-is_dry-via-else-is_dry}
 use Rattle.senior_hold.proofs.pulls.pull_once.Goals.{else-eq-via-then-eq+else-is_dry-3, else-eq-via-else-eq}
 
 not_dry : (r : Pulled) → sameb the_type r Pulled.Dry ≡ false → r ≢ Pulled.Dry
 not_dry Pulled.Dry h = cc
 not_dry Pulled.Met h = λ e. cc (e)
 not_dry Pulled.Unfinished h = λ e. cc (e)
+
+is_dry : (r : Pulled) → sameb the_type r Pulled.Dry ≡ true → r ≡ Pulled.Dry
+is_dry Pulled.Dry h = refl
+is_dry Pulled.Met h = cc
+is_dry Pulled.Unfinished h = cc
+
+arid : (t : Bool) (p : ℕ) → (IsTrue t ↔ (p ≡ 0)) → t ≡ true → p ≡ 0
+arid t p both h = grind (arith, nat_tests)
 
 wet : (t : Bool) (p : ℕ) → (IsTrue t ↔ (p ≡ 0)) → t ≡ false → 0 < p
 wet t p both h = grind (arith, nat_tests)
@@ -26,3 +37,32 @@ returns-else-eq-clause-cut g c = λ is. c.raise_by_tree-pulled.ensures.cut is (e
       (wet w.is_dry-then-eq.result (word_of c.raise_by_tree-pulled.new.tree c.ends-ends.result.to) w.is_dry-then-eq.ensures w.if-is_dry-3.false)
   | else-eq-via-else-eq w ↦ absurd (not_dry c.raise_by_tree-pulled.result (sym c.eq.ensures ∙ w.if-eq.false) is)
 ])
+
+-- without a push both ends are as they were, so that one of them is reached
+pub returns-then-is_dry-3-clause-unfinished : goal.returns-then-is_dry-3-clause-unfinished
+returns-then-is_dry-3-clause-unfinished g c = λ _.
+    let r = c.raise_by_tree-pulled in
+    let ends = c.ends-ends in
+    let kept = ends.ensures.kept in
+    elim (cases_eq r.new.searches c.args.searches.now) [
+      | inr pushed ↦ inl (omega (arith, pushed, r.ensures.count, r.ensures.cost))
+      | inl none ↦ inl (
+          let stay = λ (v : ℕ) (b : v ≤ c.args.circ.now.nodes) (m : IsReached c.args.tree.now v).
+          same_reached c.args.circ.now r.new.circ c.args.tree.now r.new.tree v kept
+          (r.ensures.still none c.requires.held) c.requires.tree r.ensures.tree b m in
+          let tail = r.ensures.dry (is_dry r.result (sym c.eq.ensures ∙ c.if-eq.true)) in
+          let head = arid c.is_dry-then-eq.result (word_of r.new.tree ends.result.to) c.is_dry-then-eq.ensures
+          c.if-is_dry-3.true in
+          elim c.else-is_dry.branch [
+            | else-is_dry-via-then-is_dry+else-is_dry-2 w ↦
+                let was = wet w.is_dry-then-is_dry.result (word_of c.args.tree.now ends.result.to)
+                w.is_dry-then-is_dry.ensures w.if-is_dry-2.false in
+                let inside = kept.ends.to_in c.args.arc c.requires.arc in
+                omega (arith, stay ends.result.to (omega (arith, ends.ensures.to, inside)) was, head)
+            | else-is_dry-via-else-is_dry w ↦
+                let was = wet c.is_dry.result (word_of c.args.tree.now ends.result.from) c.is_dry.ensures w.if-is_dry.false in
+                let inside = kept.ends.from_in c.args.arc c.requires.arc in
+                let now = stay ends.result.from (omega (arith, ends.ensures.from, inside)) was in
+                omega (arith, subst (λ (v : ℕ). IsReached r.new.tree v) ends.ensures.from now, tail)
+          ])
+    ]

@@ -1,7 +1,8 @@
-use Rattle.std.proofs.Common.{◌≡◌, ◌+◌, ◌≤◌, slice_index}
+use Rattle.std.proofs.Common.{◌≡◌, ◌⊎◌, ◌+◌, ◌≤◌, slice_index}
 use Rattle.circulation.specs.Contents.{flow_of, IsCirculation}
 use Rattle.residual_tree.specs.Tree.{IsResidualTree}
 use Rattle.residual_tree.specs.Raised.{IsRaisedOver}
+use Rattle.senior_hold.specs.Serving.{FillsExit}
 use Rattle.senior_hold.proofs.pulls.pull_up.Given as goal
 
 abbrev pub invariant-loop-pushes : goal.invariant-loop-pushes
@@ -14,4 +15,5 @@ invariant-loop-pushes g l = record {
   limit : flow_of l.circ l.arc ≤ l.want;
   left : l.left + l._pushes ≡ l.fn.left;
   cost : l.searches ≤ l.fn.searches + l._pushes;
+  used : (l.fn.searches + l._pushes ≤ l.searches) ⊎ FillsExit l.fn.circ l.arc l.exit;
 }

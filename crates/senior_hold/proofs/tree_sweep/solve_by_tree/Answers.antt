@@ -1,9 +1,11 @@
-use Rattle.std.proofs.Common.{◌≡◌, ◌∙◌, false, length, arith, refl, sym, ap, subst}
+use Rattle.std.proofs.Common.{◌≡◌, ◌∙◌, true, false, length, slice_index, arith, refl, sym, ap, subst, inl, inr}
 use denote.Enum.Bare.{sameb}
 use Rattle.senior_hold.specs.declared.pulls.Turn.{Turn}
 use Rattle.senior_hold.specs.contracts.pulls.Turn.{the_type}
-use Rattle.circulation.specs.Contents.{network, flow_of}
+use Rattle.circulation.specs.Contents.{Contents, network, flow_of}
+use Rattle.senior_hold.specs.MonthNetwork.{spill_arc}
 use Rattle.senior_hold.specs.Spilled.{spilled}
+use Rattle.senior_hold.proofs.Budget.{never_full}
 use Rattle.senior_hold.proofs.MonthArcs.{right_kind}
 use Rattle.senior_hold.proofs.Solves.{IsStanding, standing_next}
 use Rattle.senior_hold.proofs.SpilledArcs.{spilled_count, spilled_kinds}
@@ -15,6 +17,10 @@ use Rattle.senior_hold.proofs.tree_sweep.solve_by_tree.Goals as goal
 served : (t : Turn) → sameb the_type t Turn.GaveUp ≡ false → t ≡ Turn.Served
 served Turn.Served h = refl
 served Turn.GaveUp h = cc
+
+gave_up : (t : Turn) → sameb the_type t Turn.GaveUp ≡ true → t ≡ Turn.GaveUp
+gave_up Turn.GaveUp h = refl
+gave_up Turn.Served h = cc
 
 pub overflow_cast-left : goal.overflow_cast-left
 overflow_cast-left g c =
@@ -35,6 +41,8 @@ loop-turn-init g c =
       tree = c.plant.ensures;
       first = λ e. refl;
       cost = omega (arith, ap length c.by_seniority-order.ensures, o.count);
+      wide = c.begin_spilled.ensures.start.wide;
+      used = omega (arith, ap length c.by_seniority-order.ensures, o.count);
     }
 
 pub index-arc-requires : goal.index-arc-requires
@@ -98,7 +106,35 @@ loop-turn-preserved g c =
       tree = c.serve_by_tree-turn.ensures.tree is;
       first = λ e. absurd (omega arith);
       cost = omega (arith, c.loop-turn.invariant.cost, c.serve_by_tree-turn.ensures.cost);
+      wide = λ n l. ap (λ (x : Contents). slice_index x.upper (spill_arc c.args.basin.now n))
+          (c.serve_by_tree-turn.ensures.served is).held ∙ c.loop-turn.invariant.wide n l;
+      used = elim c.serve_by_tree-turn.ensures.used [
+        | inl each ↦ omega (arith, each, c.loop-turn.invariant.used)
+        | inr fills ↦ absurd (never_full c.args.basin.now c.args.month c.args.supply.now c.args.want.now c.loop-turn.circ
+            c.index-arc.result.now c.exit_of-exit.result c.args.layout.now.arcs.spill c.requires.valid
+            c.requires.given.supplies c.loop-turn.invariant.standing.net c.loop-turn.invariant.wide
+            c.requires.layout.are_arcs.spill c.exit_of-exit.ensures.first c.exit_of-exit.ensures.spill fills)
+      ];
     }
+
+pub returns-then-eq-clause-gave_up : goal.returns-then-eq-clause-gave_up
+returns-then-eq-clause-gave_up g c = λ _.
+    let o = order_of_roll c.args.basin.now c.args.layout.now.roll c.requires.valid c.requires.layout.is_roll in
+    let is = gave_up c.serve_by_tree-turn.result (sym c.eq.ensures ∙ c.if-eq.true) in
+    elim (c.serve_by_tree-turn.ensures.gave_up is) [
+      | inl all ↦ omega (
+        arith,
+        all,
+        c.loop-turn.invariant.used,
+        c.loop-turn-test.true,
+        ap length c.by_seniority-order.ensures,
+        o.count,
+      )
+      | inr fills ↦ absurd (never_full c.args.basin.now c.args.month c.args.supply.now c.args.want.now c.loop-turn.circ
+          c.index-arc.result.now c.exit_of-exit.result c.args.layout.now.arcs.spill c.requires.valid
+          c.requires.given.supplies c.loop-turn.invariant.standing.net c.loop-turn.invariant.wide
+          c.requires.layout.are_arcs.spill c.exit_of-exit.ensures.first c.exit_of-exit.ensures.spill fills)
+    ]
 
 pub settle_plan-requires-clause-small : goal.settle_plan-requires-clause-small
 settle_plan-requires-clause-small g c =
