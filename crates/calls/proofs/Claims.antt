@@ -92,10 +92,7 @@ set_holds nodes n words set is below =
 
 pub turn_gives : (short in_set : Bool) (right : ℕ) (before : Option ℕ) (free set : Bool) → free ≡ is_none before → short ≡ true → in_set ≡ set →
     (if free && set then Some right else before) ≡ option_or before (if short && in_set then Some right else None)
-turn_gives true s right None f s2 h e k = rw (h, k) (by_set s2)
-  where
-    by_set : (t : Bool) → (if t then Some right else None) ≡ (if t then Some right else None)
-    by_set t = refl
+turn_gives true s right None f s2 h e k = rw (h, k) refl
 turn_gives true s right (Some x) f s2 h e k = rw h refl
 turn_gives false s right before f s2 h e k = cc
 

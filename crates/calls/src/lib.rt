@@ -46,6 +46,7 @@ fn claim(callers: &mut [Option<u32>], free: &mut [u64], set: &[u64], nodes: u32,
         ≡ is_marked free.old n && not (is_marked set.now n) }
 {
     let mut from = 0;
+    // Each turn but the last gives one node, so there are turns enough.
     for _turn in 0..nodes {
         match next_marked_in_both(free, set, from, nodes) {
             Some(node) => {
