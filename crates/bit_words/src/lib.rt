@@ -44,12 +44,7 @@ pub fn unmark(words: &mut [u64], place: u32)
 
 /// The least place from `from` on and below `places` that both lists mark, or none where there is none. Two words
 /// without a common mark cost one look.
-pub fn next_marked_in_both(
-    words: &[u64],
-    others: &[u64],
-    from: u32,
-    places: u32,
-) -> Option<u32>
+pub fn next_marked_in_both(words: &[u64], others: &[u64], from: u32, places: u32) -> Option<u32>
     requires words { places ≤ 64 * length words.now }
     requires others { places ≤ 64 * length others.now }
     ensures some { IfSome result (λ p. IsNextInBoth words.now others.now from places p) }

@@ -4,7 +4,8 @@ use std::fs::File;
 use std::io::{BufWriter, Write};
 use std::{fs, io};
 use water_edge::{
-    FileShelf, MemoryShelf, MemorySink, Shelf, ShelfRefused, Sink, SinkFailed, StdSink, WatchedShelf,
+    FileShelf, MemoryShelf, MemorySink, Shelf, ShelfRefused, Sink, SinkFailed, StdSink,
+    WatchedShelf,
 };
 
 /// Whether a shelf answered with these bytes, or refused so.
@@ -189,7 +190,12 @@ fn watched_shelf_counts_the_calls_for_its_file(rt: HostRuntime) -> Result<(), Al
     assert_eq!(rt; shelf.asked(), 1);
     assert_eq!(rt; shelf.read_part("one", 1, &mut part), Ok(1));
     assert_eq!(rt; shelf.read_part("other", 0, &mut part), Ok(2));
-    assert!(rt; is_answer(shelf.read_whole(alloc, "one", 1), Err(ShelfRefused::TooLong)));
+    assert!(rt;
+        is_answer(
+            shelf.read_whole(alloc, "one", 1),
+            Err(ShelfRefused::TooLong)
+        )
+    );
     assert_eq!(rt; shelf.asked(), 3);
     Ok(())
 }

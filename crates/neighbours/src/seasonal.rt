@@ -61,19 +61,39 @@ fn accepts_wants_for_both_basins(rt: HostRuntime) -> Result<(), Fail> {
     let with_order = with(rt.alloc(), ORDERED, "want = 5", "want = \"series\"")?;
     let set = two(rt.alloc(), ORDERED, with_order.as_str(), ORDERED_SERIES)?;
     let line = "series2: MissingWant 1900-01 mill\n";
-    expect(rt.alloc(), &COMPARED, set, (Status::SeriesRefused, "", line))?;
+    expect(
+        rt.alloc(),
+        &COMPARED,
+        set,
+        (Status::SeriesRefused, "", line),
+    )?;
     let set = two(rt.alloc(), with_order.as_str(), ORDERED, ORDERED_SERIES)?;
     let line = "series: MissingWant 1900-01 mill\n";
-    expect(rt.alloc(), &COMPARED, set, (Status::SeriesRefused, "", line))?;
+    expect(
+        rt.alloc(),
+        &COMPARED,
+        set,
+        (Status::SeriesRefused, "", line),
+    )?;
     // Format 1 has no header of four fields.
     let numbers = with(rt.alloc(), ORDERED, "want = \"series\"", "want = 4")?;
     let first = with(rt.alloc(), numbers.as_str(), "format = 2", "format = 1")?;
     let set = two(rt.alloc(), first.as_str(), ORDERED, ORDERED_SERIES)?;
     let line = "series: Header 1\n";
-    expect(rt.alloc(), &COMPARED, set, (Status::SeriesRefused, "", line))?;
+    expect(
+        rt.alloc(),
+        &COMPARED,
+        set,
+        (Status::SeriesRefused, "", line),
+    )?;
     let set = two(rt.alloc(), ORDERED, numbers.as_str(), ORDERED_SERIES)?;
     let line = "series2: NotSeries 2\n";
-    expect(rt.alloc(), &COMPARED, set, (Status::SeriesRefused, "", line))
+    expect(
+        rt.alloc(),
+        &COMPARED,
+        set,
+        (Status::SeriesRefused, "", line),
+    )
 }
 
 #[test]
@@ -124,7 +144,10 @@ want = 100
 fn nothing_enters_by_a_canal_that_is_shut(rt: HostRuntime) -> Result<(), Fail> {
     let books = [
         ("1900-02", "why 1900-02 farm 0 100\nsum 0\n"),
-        ("1900-03", "why 1900-03 farm 62 100\nenter canal 62\nsum 62\n"),
+        (
+            "1900-03",
+            "why 1900-03 farm 62 100\nenter canal 62\nsum 62\n",
+        ),
     ];
     for (month, book) in books {
         let set = files(rt.alloc(), SHUT, "")?;
@@ -153,10 +176,18 @@ want = "series"
 "#;
 
 /// What the gauge reads and what the user orders in each month of a year, as records of a series.
-fn add_year(text: &mut String, alloc: Global, year: u32, read: u32, order: u32) -> Result<(), Fail> {
+fn add_year(
+    text: &mut String,
+    alloc: Global,
+    year: u32,
+    read: u32,
+    order: u32,
+) -> Result<(), Fail> {
     for month in 1..13u32 {
         let zero = if month < 10 { "0" } else { "" };
-        let lines = format!(in alloc; "{year}-{zero}{month},inflow,top,{read}\n{year}-{zero}{month},want,user,{order}\n")?;
+        let lines = format!(in alloc;
+            "{year}-{zero}{month},inflow,top,{read}\n{year}-{zero}{month},want,user,{order}\n"
+        )?;
         text.push_str(lines.as_str())?;
     }
     Ok(())

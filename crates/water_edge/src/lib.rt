@@ -9,9 +9,9 @@ mod memory;
 mod shelf;
 mod sink;
 mod stream;
-mod watched;
 #[cfg(test)]
 mod tests;
+mod watched;
 
 pub use file::FileShelf;
 pub use memory::{MemoryShelf, MemorySink};
