@@ -132,7 +132,8 @@ fn run<L: Ledger, R: Abort>(
     requires some { 0 < blank.parts }
 {
     let mut laid = open(rt, alloc, case)?;
-    let mut circ = lend(&laid.circ, laid.region.words_mut(laid.circ.place));
+    let place = laid.circ.place;
+    let mut circ = lend(&laid.circ, laid.region.words_mut(place));
     begin(rt, alloc, &mut circ, case)?;
     hold_all(rt, &mut circ, case);
     let nodes = circ.nodes();

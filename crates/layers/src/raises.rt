@@ -65,7 +65,8 @@ fn run<L: Ledger, R: Abort>(
     requires some { 0 < blank.parts }
 {
     let mut laid = open(rt, alloc, case)?;
-    let mut circ = lend(&laid.circ, laid.region.words_mut(laid.circ.place));
+    let place = laid.circ.place;
+    let mut circ = lend(&laid.circ, laid.region.words_mut(place));
     begin(rt, alloc, &mut circ, case)?;
     hold_all(rt, &mut circ, case);
     let mut searches: Steps<L> = Steps::new(blank);
