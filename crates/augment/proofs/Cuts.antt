@@ -1,9 +1,12 @@
 -- A cut bounds the flow of an arc, and is tight where nothing crosses it.
-use Rattle.std.proofs.Common.{ℕ, zero, suc, Bool, true, false, not, ◌==◌, ◌&&◌, ◌≡◌, ◌≢◌, ◌+◌, ◌<◌, ◌≤◌, refl, arith, ap, sym, subst, inl, inr, ◌∙◌}
-use Rattle.std.proofs.lemmas.Bool.{eq-eqb, ne_eqb, eqb-false, not-true, cases_lt, cases_eq, and_from, and_parts, and_right}
+use Rattle.std.proofs.Common.{ℕ, zero, suc, Bool, true, false, not, ◌==◌, ◌&&◌, ◌≡◌, ◌≢◌, ◌+◌, ◌<◌, ◌≤◌, refl, arith}
+use Rattle.std.proofs.Common.{ap, sym, subst, inl, inr, ◌∙◌}
+use Rattle.std.proofs.lemmas.Bool.{eq-eqb, ne_eqb, eqb-false, not-true, cases_lt, cases_eq, and_from, and_parts}
+use Rattle.std.proofs.lemmas.Bool.{and_right}
 use Rattle.place_sums.specs.Sums.{total, when}
 use Rattle.circulation.specs.Network.{Network, IsFlow, IsCut, IsTight, inflow, outflow, enters, leaves, cut_in, cut_out}
-use Rattle.place_sums.proofs.Totals.{total_same, total_le, total_zero, total_add, total_change, total_exchange, total_pick}
+use Rattle.place_sums.proofs.Totals.{total_same, total_le, total_zero, total_add, total_change, total_exchange}
+use Rattle.place_sums.proofs.Totals.{total_pick}
 
 -- a test of a sum is a test of each term
 when-total : (b : Bool) (n : ℕ) (f : ℕ → ℕ) → when b (total n f) ≡ total n (λ k. when b (f k))
@@ -42,7 +45,8 @@ at_arc w y u x basin =
 
 -- the sums at the nodes of a set are a sum over the arcs with an end in it
 at_nodes : (w : Network) (y : ℕ → Bool) (key g : ℕ → ℕ) → ((v : ℕ) → w.nodes ≤ v → y v ≡ false) →
-    total w.nodes (λ v. when (y v) (total w.arcs (λ a. when (key a == v) (g a)))) ≡ total w.arcs (λ a. when (y (key a)) (g a))
+    total w.nodes (λ v. when (y v) (total w.arcs (λ a. when (key a == v) (g a))))
+    ≡ total w.arcs (λ a. when (y (key a)) (g a))
 at_nodes w y key g basin =
     total_same w.nodes _ _ (λ v b. when-total (y v) w.arcs (λ a. when (key a == v) (g a)))
     ∙ total_exchange w.nodes w.arcs (λ v a. when (y v) (when (key a == v) (g a)))
@@ -57,7 +61,8 @@ in_set w y g basin flow =
     let out = at_nodes w y w.from g basin in
     let each : total w.nodes (λ v. when (y v) (w.supply v) + when (y v) (inflow w g v)) ≡ total w.nodes
     (λ v. when (y v) (outflow w g v)) =
-    total_same w.nodes _ _ (λ v b. sym (when-add (y v) (w.supply v) (inflow w g v)) ∙ ap (when (y v)) (flow.balanced v b)) in
+    total_same w.nodes _ _ (λ v b. sym (when-add (y v) (w.supply v) (inflow w g v))
+    ∙ ap (when (y v)) (flow.balanced v b)) in
     let parts = total_add w.nodes (λ v. when (y v) (w.supply v)) (λ v. when (y v) (inflow w g v)) in
     omega (arith, into, out, each, parts)
 
@@ -170,7 +175,8 @@ saturated-from_tight w r y g b flow tight =
     let cross = crossing w y g tight.cut.basin flow in
     let own = own_part w r y g b tight.cut in
     let above = λ (a : ℕ) (c : a < w.arcs). when-le (enters w y a) (g a) (w.upper a) (λ _. flow.high a c) in
-    let below = λ (a : ℕ) (c : a < w.arcs). when-le (leaves w y a && not (a == r)) (w.lower a) (g a) (λ _. flow.low a c) in
+    let below = λ (a : ℕ) (c : a < w.arcs).
+    when-le (leaves w y a && not (a == r)) (w.lower a) (g a) (λ _. flow.low a c) in
     let entering = total_le w.arcs (λ a. when (enters w y a) (g a)) (λ a. when (enters w y a) (w.upper a)) above in
     let leaving = total_le w.arcs (λ a. when (leaves w y a && not (a == r)) (w.lower a))
     (λ a. when (leaves w y a && not (a == r)) (g a)) below in

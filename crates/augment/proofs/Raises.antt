@@ -1,5 +1,6 @@
 -- What a round and a raise leave.
-use Rattle.std.proofs.Common.{◌≤◌, ◌-◌, ℕ, Bool, not, nat_lt, ◌==◌, ◌&&◌, ◌≡◌, ◌+◌, ◌*◌, ◌<◌, slice_index, arith, ap, sym, subst}
+use Rattle.std.proofs.Common.{◌≤◌, ◌-◌, ℕ, Bool, not, nat_lt, ◌==◌, ◌&&◌, ◌≡◌, ◌+◌, ◌*◌, ◌<◌, slice_index, arith, ap}
+use Rattle.std.proofs.Common.{sym, subst}
 use Rattle.place_sums.specs.Sums.{when}
 use Rattle.circulation.specs.Network.{IsFlow, HasEnds}
 use Rattle.circulation.specs.Contents.{Contents, network, flow_of, arcs, IsCirculation}
@@ -25,7 +26,8 @@ stopped_cut c d r size b rest way kept t none closed =
     let flow = subst (λ (x : Contents). IsFlow (network x) (flow_of x)) rest kept.flow in
     let tree = over_same c d r 1 size rest t in
     let cut : IsGreatestCut (network c) (flow_of c) r (λ v. nat_lt v c.nodes && (position_of d v == 0)) = record {
-      tight = tight_cut (network c) (flow_of c) r (position_of d) (node_at d) (step_at d) size b ends flow way tree closed none;
+      tight = tight_cut (network c) (flow_of c) r (position_of d) (node_at d) (step_at d) size b ends flow way tree
+          closed none;
       greatest = greatest_cut (network c) (flow_of c) r (position_of d) (node_at d) (step_at d) size b ends flow tree;
     } in
     let nodes = ap (λ (x : Contents). x.nodes) (sym rest) in

@@ -1,8 +1,10 @@
 -- How much a flow can still rise when a search over rooms of at least `least` is done.
-use Rattle.std.proofs.Common.{ℕ, min, ◌^◌, ◌/◌, zero, suc, Bool, true, false, not, nat_lt, ◌==◌, ◌&&◌, ◌≡◌, ◌≢◌, ◌+◌, ◌-◌, ◌*◌, ◌<◌, ◌≤◌, refl, arith, ap, sym, inl, inr, ◌∙◌}
+use Rattle.std.proofs.Common.{ℕ, min, ◌^◌, ◌/◌, zero, suc, Bool, true, false, not, nat_lt, ◌==◌, ◌&&◌, ◌≡◌, ◌≢◌, ◌+◌}
+use Rattle.std.proofs.Common.{◌-◌, ◌*◌, ◌<◌, ◌≤◌, refl, arith, ap, sym, inl, inr, ◌∙◌}
 use Rattle.std.proofs.Math.Nat.{mul-le-mul_left, mul-le-mul_right, pow-suc}
 use Rattle.std.proofs.Math.Pow.{pow_mono}
-use Rattle.std.proofs.lemmas.Bool.{eq-eqb, ne_eqb, eqb-false, lt-ltb, le-ltb, ltb-true, not-true, cases_lt, cases_eq, and_from, and_parts, and_right, and_left, both_ways}
+use Rattle.std.proofs.lemmas.Bool.{eq-eqb, ne_eqb, eqb-false, lt-ltb, le-ltb, ltb-true, not-true, cases_lt, cases_eq}
+use Rattle.std.proofs.lemmas.Bool.{and_from, and_parts, and_right, and_left, both_ways}
 use Rattle.place_sums.specs.Sums.{total, when}
 use Rattle.circulation.specs.Network.{Network, IsFlow, HasEnds, enters, leaves}
 use Rattle.place_sums.proofs.Totals.{total_le, total_add, total_change, term_le_total}
@@ -230,7 +232,11 @@ remaining_rise w g h r least position node step size b some ends fg fh t closed 
           elim (cases_lt (g a + (least - 1)) (w.upper a)) [
             | inl room ↦ elim (cases_eq a r) [
               | inl is ↦ absurd (omega (arith, head, into.1, ap (λ (x : ℕ). position (w.to x)) is))
-              | inr ne ↦ absurd (omega (arith, (closed (w.from a) (ends.from_in a c) from).out a c refl ne (omega arith), into.1))
+              | inr ne ↦ absurd (omega (
+                arith,
+                (closed (w.from a) (ends.from_in a c) from).out a c refl ne (omega arith),
+                into.1,
+              ))
             ]
             | inr full ↦ full
           ])
@@ -241,7 +247,11 @@ remaining_rise w g h r least position node step size b some ends fg fh t closed 
           let into = not_in_set w.nodes position (w.to a) (ends.to_in a c) out
           (not-true (nat_lt (w.to a) w.nodes && (position (w.to a) == 0)) parts.1) in
           elim (cases_lt (w.lower a + (least - 1)) (g a)) [
-            | inl room ↦ absurd (omega (arith, (closed (w.to a) (ends.to_in a c) into).into a c refl ne (omega arith), from.1))
+            | inl room ↦ absurd (omega (
+              arith,
+              (closed (w.to a) (ends.to_in a c) into).into a c refl ne (omega arith),
+              from.1,
+            ))
             | inr empty ↦ empty
           ])
     ]

@@ -1,5 +1,6 @@
 -- The way back from the tail of an arc to its head, along the steps by which the nodes were reached.
-use Rattle.std.proofs.Common.{ℕ, Bool, true, false, min, ◌≡◌, ◌≢◌, ◌+◌, ◌-◌, ◌*◌, ◌<◌, ◌≤◌, ◌⊎◌, List, length, slice_index, slice_set, refl, arith, ap, sym, subst, inl, inr, ◌∙◌}
+use Rattle.std.proofs.Common.{ℕ, Bool, true, false, min, ◌≡◌, ◌≢◌, ◌+◌, ◌-◌, ◌*◌, ◌<◌, ◌≤◌, ◌⊎◌, List, length}
+use Rattle.std.proofs.Common.{slice_index, slice_set, refl, arith, ap, sym, subst, inl, inr, ◌∙◌}
 use Rattle.std.proofs.lemmas.Bool.{cases_eq, cases_lt}
 use Rattle.std.proofs.lemmas.List.{get_or-set_other, get_or-set_same}
 use Rattle.circulation.specs.Network.{Network, HasEnds}
@@ -19,19 +20,20 @@ pub record IsOnTrail (w : Network) (g : ℕ → ℕ) (r : ℕ) (position : ℕ �
   pub end_later : position node ≤ position (end_of w s)
 
 -- the steps from `first` on lead from the node to the tail of the arc r
-pub record IsTrail (w : Network) (g : ℕ → ℕ) (r most : ℕ) (position step : ℕ → ℕ) (first last node amount : ℕ) : Type 0 where
-  pub within : first ≤ last
-  pub inside : node ≤ w.nodes
-  pub marked : 0 < position node
-  pub space : 3 * w.nodes + 3 + position node ≤ first
-  pub positive : 0 < amount
-  pub limit : amount ≤ most
-  pub on : (i : ℕ) → first ≤ i → i < last → IsOnTrail w g r position node amount (step i)
-  pub joined : (i : ℕ) → first ≤ i → i + 1 < last → end_of w (step i) ≡ start_of w (step (i + 1))
-  pub begins : first < last → start_of w (step first) ≡ node
-  pub empty : first ≡ last → node ≡ w.from r
-  pub ends : (i : ℕ) → first ≤ i → i + 1 ≡ last → end_of w (step i) ≡ w.from r
-  pub once : (i j : ℕ) → first ≤ i → i < j → j < last → arc_of (step i) ≢ arc_of (step j)
+pub record IsTrail (w : Network) (g : ℕ → ℕ) (r most : ℕ) (position step : ℕ → ℕ) (first last node amount : ℕ) : Type 0
+  where
+    pub within : first ≤ last
+    pub inside : node ≤ w.nodes
+    pub marked : 0 < position node
+    pub space : 3 * w.nodes + 3 + position node ≤ first
+    pub positive : 0 < amount
+    pub limit : amount ≤ most
+    pub on : (i : ℕ) → first ≤ i → i < last → IsOnTrail w g r position node amount (step i)
+    pub joined : (i : ℕ) → first ≤ i → i + 1 < last → end_of w (step i) ≡ start_of w (step (i + 1))
+    pub begins : first < last → start_of w (step first) ≡ node
+    pub empty : first ≡ last → node ≡ w.from r
+    pub ends : (i : ℕ) → first ≤ i → i + 1 ≡ last → end_of w (step i) ≡ w.from r
+    pub once : (i j : ℕ) → first ≤ i → i < j → j < last → arc_of (step i) ≢ arc_of (step j)
 
 -- the trail of no steps, at the tail
 pub trail_start : (w : Network) (g : ℕ → ℕ) (r most : ℕ) (position step : ℕ → ℕ) (last : ℕ) → w.from r ≤ w.nodes →
@@ -104,10 +106,11 @@ way_back w g r least position node_of step_of size node ends t inside marked ne 
     }
 
 -- one more step back
-pub trail_next : (w : Network) (g : ℕ → ℕ) (r most : ℕ) (position step step' : ℕ → ℕ) (first first' last node amount s : ℕ) →
-    first ≡ first' + 1 → IsTrail w g r most position step first last node amount → IsWayBack w g r 1 position node s →
-    step' first' ≡ s → ((i : ℕ) → first ≤ i → step' i ≡ step i) →
-    IsTrail w g r most position step' first' last (start_of w s) (min amount (room_of w g s))
+pub trail_next : (w : Network) (g : ℕ → ℕ) (r most : ℕ) (position step step' : ℕ → ℕ)
+    (first first' last node amount s : ℕ) → first ≡ first' + 1 →
+    IsTrail w g r most position step first last node amount → IsWayBack w g r 1 position node s → step' first' ≡ s →
+    ((i : ℕ) → first ≤ i → step' i ≡ step i) → IsTrail w g r most position step' first' last (start_of w s)
+    (min amount (room_of w g s))
 trail_next w g r most position step step' first first' last node amount s is t back at others =
     let start_at = ap (start_of w) at in
     let end_at = ap (end_of w) at in
@@ -121,8 +124,8 @@ trail_next w g r most position step step' first first' last node amount s is t b
       positive = omega (arith, t.positive, back.room);
       limit = omega (arith, t.limit);
       on = λ i a b. elim (cases_eq i first') [
-        | inl e ↦ subst (λ (j : ℕ). IsOnTrail w g r position (start_of w s) (min amount (room_of w g s)) (step' j)) (sym e)
-            (subst (λ (x : ℕ). IsOnTrail w g r position (start_of w s) (min amount (room_of w g s)) x) (sym at)
+        | inl e ↦ subst (λ (j : ℕ). IsOnTrail w g r position (start_of w s) (min amount (room_of w g s)) (step' j))
+            (sym e) (subst (λ (x : ℕ). IsOnTrail w g r position (start_of w s) (min amount (room_of w g s)) x) (sym at)
             record {
               arc = back.arc;
               other = back.other;
@@ -172,10 +175,10 @@ trail_next w g r most position step step' first first' last node amount s is t b
     }
 
 -- the arc itself closes the trail to a walk
-pub trail_closed : (w : Network) (g : ℕ → ℕ) (r most : ℕ) (position step step' : ℕ → ℕ) (first first' last amount s : ℕ) →
-    HasEnds w → r < w.arcs → first ≡ first' + 1 → IsTrail w g r most position step first last (w.to r) amount →
-    most ≤ w.upper r - g r → s ≡ 2 * r → step' first' ≡ s → ((i : ℕ) → first ≤ i → step' i ≡ step i) →
-    IsClosedWalk w g step' first' last amount
+pub trail_closed : (w : Network) (g : ℕ → ℕ) (r most : ℕ) (position step step' : ℕ → ℕ)
+    (first first' last amount s : ℕ) → HasEnds w → r < w.arcs → first ≡ first' + 1 →
+    IsTrail w g r most position step first last (w.to r) amount → most ≤ w.upper r - g r → s ≡ 2 * r →
+    step' first' ≡ s → ((i : ℕ) → first ≤ i → step' i ≡ step i) → IsClosedWalk w g step' first' last amount
 trail_closed w g r most position step step' first first' last amount s ends b is t most_fits step_is at others =
     let arc : arc_of (step' first') ≡ r = ap arc_of at ∙ arc-forward r s step_is in
     let way : is_back (step' first') ≡ false = ap is_back at ∙ way-forward r s step_is in
@@ -196,7 +199,8 @@ trail_closed w g r most position step step' first first' last amount s ends b is
       room = λ i c d. elim (cases_eq i first') [
         | inl e ↦ subst (λ (j : ℕ). amount ≤ room_of w g (step' j)) (sym e)
             (subst (λ (x : ℕ). amount ≤ x) (sym own_room) (omega (arith, t.limit)))
-        | inr ne ↦ subst (λ (x : ℕ). amount ≤ room_of w g x) (sym (others i (omega arith))) (t.on i (omega arith) d).room
+        | inr ne ↦ subst (λ (x : ℕ). amount ≤ room_of w g x) (sym (others i (omega arith)))
+            (t.on i (omega arith) d).room
       ];
       joined = λ i c d. elim (cases_eq i first') [
         | inl e ↦
@@ -213,7 +217,8 @@ trail_closed w g r most position step step' first first' last amount s ends b is
       once = λ i j c d f. elim (cases_eq i first') [
         | inl e ↦
             let later = t.on j (omega arith) f in
-            λ same. later.other (sym (ap arc_of (others j (omega arith))) ∙ sym same ∙ ap (λ (k : ℕ). arc_of (step' k)) e ∙ arc)
+            λ same. later.other (sym (ap arc_of (others j (omega arith))) ∙ sym same
+            ∙ ap (λ (k : ℕ). arc_of (step' k)) e ∙ arc)
         | inr ne ↦ λ same. t.once i j (omega arith) d f
             (sym (ap arc_of (others i (omega arith))) ∙ same ∙ ap arc_of (others j (omega arith)))
       ];
@@ -288,7 +293,8 @@ traced_end c d r most first last node amount s scratch ends b trail is room long
     let walk = trail_closed (network c) (flow_of c) r most (position_of c) (step_of d)
     (slice_index (slice_set d.scratch (first - 1) s)) first
     (first - 1) last amount s ends b before home room step_is w.0 (λ i f. w.1 i (omega arith)) in
-    subst (λ (xs : List ℕ). IsClosedWalk (network c) (flow_of c) (slice_index xs) (first - 1) last amount) (sym made) walk
+    subst (λ (xs : List ℕ). IsClosedWalk (network c) (flow_of c) (slice_index xs) (first - 1) last amount) (sym made)
+    walk
 
 -- a tree over greater rooms is one over rooms of 1
 pub tree_weak : (w : Network) (g : ℕ → ℕ) (r least : ℕ) (position node step : ℕ → ℕ) (size : ℕ) → 0 < least →

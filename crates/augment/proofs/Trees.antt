@@ -1,11 +1,15 @@
 -- The tree of the nodes that a search reached, and the cut that it leaves.
-use Rattle.std.proofs.Common.{ℕ, zero, suc, Bool, true, false, not, nat_lt, ◌==◌, ◌&&◌, ◌≡◌, ◌≢◌, ◌+◌, ◌-◌, ◌<◌, ◌≤◌, List, [], ◌∷◌, refl, arith, ap, sym, subst, inl, inr, ◌∙◌}
-use Rattle.std.proofs.lemmas.Bool.{eq-eqb, ne_eqb, eqb-true, eqb-false, lt-ltb, le-ltb, ltb-true, ltb-false, not-true, cases_lt, cases_eq, cases_Bool, and_from, and_parts, and_cases, and_left, and_right, both_ways}
+use Rattle.std.proofs.Common.{ℕ, zero, suc, Bool, true, false, not, nat_lt, ◌==◌, ◌&&◌, ◌≡◌, ◌≢◌, ◌+◌, ◌-◌, ◌<◌, ◌≤◌}
+use Rattle.std.proofs.Common.{List, [], ◌∷◌, refl, arith, ap, sym, subst, inl, inr, ◌∙◌}
+use Rattle.std.proofs.lemmas.Bool.{eq-eqb, ne_eqb, eqb-true, eqb-false, lt-ltb, le-ltb, ltb-true, ltb-false, not-true}
+use Rattle.std.proofs.lemmas.Bool.{cases_lt, cases_eq, cases_Bool, and_from, and_parts, and_cases, and_left, and_right}
+use Rattle.std.proofs.lemmas.Bool.{both_ways}
 use Rattle.place_sums.specs.Sums.{total, when}
 use Rattle.circulation.specs.Network.{Network, IsFlow, HasEnds, IsTight, LeadsOut}
 use Rattle.circulation.specs.Residual.{arc_of, is_back, by_way, start_of}
 use Rattle.place_sums.proofs.Totals.{total_change, total_pick}
 use Rattle.circulation.proofs.RowSums.{total_at_most}
+use Rattle.circulation.proofs.Scans.{by_way_both}
 use Rattle.augment.specs.Search.{IsBranch, IsTree, IsClosed, Grows}
 use Rattle.augment.specs.Raised.{HasWayOut}
 use Rattle.augment.proofs.Cuts.{IsSaturated, tight-from_closed, saturated-from_tight}
@@ -67,11 +71,6 @@ tree_start w g r least position node step b root here none = record {
   grown = λ k c d. absurd (omega arith);
 }
 
--- what bounds both bounds either
-pub by_way_both : (back : Bool) (x y n : ℕ) → x ≤ n → y ≤ n → by_way back x y ≤ n
-by_way_both true x y n a b = b
-by_way_both false x y n a b = a
-
 -- a step starts at a node
 pub start_within : (w : Network) (s : ℕ) → HasEnds w → arc_of s < w.arcs → start_of w s ≤ w.nodes
 start_within w s ends b = by_way_both (is_back s) (w.from (arc_of s)) (w.to (arc_of s)) w.nodes
@@ -99,7 +98,8 @@ pub tree_next : (w : Network) (g : ℕ → ℕ) (r least : ℕ) (old position no
     ((u : ℕ) → u ≤ w.nodes → u ≢ v → position u ≡ old u) → node' size ≡ v → ((k : ℕ) → k < size → node' k ≡ node k) →
     step' size ≡ s → ((k : ℕ) → k < size → step' k ≡ step k) → IsBranch w g r least old size s v →
     IsTree w g r least position node' step' (size + 1)
-tree_next w g r least old position node node' step step' size s v ends t b none here others at_node nodes at_step steps branch =
+tree_next w g r least old position node node' step step' size s v ends t b none here others at_node nodes at_step steps
+    branch =
     let kept = λ (u : ℕ) (c : u ≤ w.nodes) (m : 0 < old u). others u c (λ e. absurd (omega (arith, ap old e, none))) in
     let count = total_change (w.nodes + 1) v (λ u. when (nat_lt 0 (position u)) 1) (λ u. when (nat_lt 0 (old u)) 1)
     (omega arith) (λ u c ne. ap (λ (x : ℕ). when (nat_lt 0 x) 1) (others u (omega arith) ne)) in
@@ -242,7 +242,11 @@ tight_cut w g r position node step size b ends flow way t closed none =
       | inl room ↦
           elim (cases_eq a r) [
             | inl is ↦ absurd (omega (arith, head, into.1, ap (λ (x : ℕ). position (w.to x)) is))
-            | inr ne ↦ absurd (omega (arith, (closed (w.from a) (ends.from_in a c) from).out a c refl ne (omega arith), into.1))
+            | inr ne ↦ absurd (omega (
+              arith,
+              (closed (w.from a) (ends.from_in a c) from).out a c refl ne (omega arith),
+              into.1,
+            ))
           ]
       | inr full ↦ omega (arith, flow.high a c)
     ])
@@ -253,7 +257,11 @@ tight_cut w g r position node step size b ends flow way t closed none =
     let into = not_in_set w.nodes position (w.to a) (ends.to_in a c) out
     (not-true (nat_lt (w.to a) w.nodes && (position (w.to a) == 0)) parts.1) in
     elim (cases_lt (w.lower a) (g a)) [
-      | inl room ↦ absurd (omega (arith, (closed (w.to a) (ends.to_in a c) into).into a c refl ne (omega arith), from.1))
+      | inl room ↦ absurd (omega (
+        arith,
+        (closed (w.to a) (ends.to_in a c) into).into a c refl ne (omega arith),
+        from.1,
+      ))
       | inr empty ↦ omega (arith, flow.low a c)
     ])
 

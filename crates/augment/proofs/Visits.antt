@@ -1,5 +1,6 @@
 -- What a visit does to the tree.
-use Rattle.std.proofs.Common.{ℕ, Bool, true, false, ◌-◌, ◌%◌, ◌≡◌, ◌≢◌, ◌+◌, ◌*◌, ◌<◌, ◌≤◌, List, length, slice_index, slice_set, refl, arith, sym, subst, inl, inr, ◌∙◌}
+use Rattle.std.proofs.Common.{ℕ, Bool, true, false, ◌-◌, ◌%◌, ◌≡◌, ◌≢◌, ◌+◌, ◌*◌, ◌<◌, ◌≤◌, List, length, slice_index}
+use Rattle.std.proofs.Common.{slice_set, refl, arith, sym, subst, inl, inr, ◌∙◌}
 use Rattle.std.proofs.lemmas.Bool.{cases_eq, eq-eqb, ne_eqb}
 use Rattle.std.proofs.lemmas.List.{get_or-set_other, get_or-set_same, length-set}
 use Rattle.circulation.specs.Contents.{Contents, network, flow_of, arcs, IsCirculation}
@@ -31,7 +32,8 @@ at_second xs i j k x y z a b c =
 pub at_third : (xs : List ℕ) (i j k x y z : ℕ) → i < j → j < k → k < length xs →
     slice_index (three xs i j k x y z) k ≡ z
 at_third xs i j k x y z a b c =
-    get_or-set_same (slice_set (slice_set xs i x) j y) k z 0 (omega (arith, length-set xs i x, length-set (slice_set xs i x) j y))
+    get_or-set_same (slice_set (slice_set xs i x) j y) k z 0
+    (omega (arith, length-set xs i x, length-set (slice_set xs i x) j y))
 
 -- what stands at another place
 pub elsewhere : (xs : List ℕ) (i j k x y z m : ℕ) → m ≢ i → m ≢ j → m ≢ k →
@@ -119,7 +121,10 @@ visited c d r least size more s node k t b l room seen fresh = elim (cases_eq (p
       let f = seen (omega arith) in
       subst (λ (x : Contents). IsVisited c x r least size more node) (sym f.1)
       (subst (λ (n : ℕ). IsVisited c c r least size n node) (sym f.0)
-      record { by = record { rest = refl; tree = t; grows = grows_none c.nodes (position_of c) size }; reached = omega arith })
+      record {
+        by = record { rest = refl; tree = t; grows = grows_none c.nodes (position_of c) size };
+        reached = omega arith;
+      })
 ]
 
 -- a step over an arc other than r with room, from a node that was reached

@@ -20,3 +20,4 @@ pub mod Idle
 pub mod Handed
 pub mod Parts
 pub mod Unread
+pub mod Formats

@@ -16,7 +16,7 @@ use Rattle.basin_cli.specs.declared.ending.File.TheVariants as file
 use Rattle.basin_cli.specs.declared.ending.SeriesFinding.{SeriesFinding}
 use Rattle.basin_cli.specs.declared.ending.SecondFinding.{SecondFinding}
 use Rattle.basin_cli.specs.declared.ending.SecondFinding.TheVariants as of_second
-use Rattle.basin_cli.specs.Command.{Command, Files, run, check, report, trial, why, compare, ensemble, edit}
+use Rattle.basin_cli.specs.Command.{Command, Files, run, check, report, trial, why, compare, ensemble, edit, upgrade}
 use Rattle.basin_cli.specs.Ending.{line_of, status_of, status_of_second, finding_of}
 use Rattle.basin_cli.specs.Explained.{HasMonth, HasRight}
 use Rattle.basin_cli.specs.Bytes.{IsGoodBasin, IsGoodSeries, IsRefusedFor, IsSeriesRefusedFor, IsTooLong, Told, file_limit, series_told}
@@ -24,6 +24,7 @@ use Rattle.basin_cli.specs.Outcome.{IsHistoryText, IsRefuted, HasSolvingCause, H
 use Rattle.basin_cli.specs.Reading.{IsDone, IsJudged, StopsReading, CompletesBehind}
 use Rattle.basin_cli.proofs.OneSeries.{one_basin}
 use Rattle.basin_cli.specs.Edited.{HasEditingCause, IsGoodScript, IsScriptRefusedFor}
+use Rattle.basin_cli.specs.Upgrading.{HasUpgradingCause, UpgradesBehind}
 use Rattle.basin_cli.proofs.Comparisons.{comparing}
 use Rattle.basin_cli.proofs.Edited.{refused_not_good}
 
@@ -314,6 +315,28 @@ trying ending.WriteFault write h no_write = absurd (no_write h)
 trying ending.OutOfMemory write h no_write = inr refl
 trying other write h no_write = absurd h
 
+-- a file in format 2
+abbrev Upgraded : Status → Type 0 → Type 0 → Option (List ℕ) → Type 0
+Upgraded status read write o = IfSome o (λ bytes. IsGoodBasin bytes → (read → ⊥) → (write → ⊥) → IsDone status)
+
+upgraded_always : (o : Option (List ℕ)) (status : Status) (read write : Type 0) → ((read → ⊥) → (write → ⊥) → IsDone status) → Upgraded status read write o
+upgraded_always None status read write h = tt
+upgraded_always (Some bytes) status read write h = λ _. h
+
+upgraded_never : (o : Option (List ℕ)) (status : Status) (read write : Type 0) → IfSome o (λ bytes. IsGoodBasin bytes → ⊥) → Upgraded status read write o
+upgraded_never None status read write h = tt
+upgraded_never (Some bytes) status read write h = λ good. absurd (h good)
+
+upgrading : (name : List ℕ) (how : Ending) (told : Told) (read write : Type 0) → HasUpgradingCause name how told read write →
+    UpgradesBehind told name (status_of how) read write
+upgrading name ending.Done told read write h = upgraded_always (told name) its.Done read write (λ _ _. inl refl)
+upgrading name ending.WriteFault told read write h = upgraded_always (told name) its.WriteFault read write (λ _ no_write. absurd (no_write h.0))
+upgrading name (ending.BasinRefused finding) told read write h = upgraded_never (told name) its.BasinRefused read write (refused (told name) finding h)
+upgrading name (ending.ReadFault file.Basin) told read write h = upgraded_always (told name) its.ReadFault read write (λ no_read _. absurd (no_read h))
+upgrading name (ending.InputTooLong file.Basin) told read write h = upgraded_never (told name) its.InputTooLong read write (too_long (told name) h)
+upgrading name ending.OutOfMemory told read write h = upgraded_always (told name) its.OutOfMemory read write (λ _ _. inr refl)
+upgrading name other told read write h = absurd h
+
 pub completes : (command : Option Command) (how : Ending) (told : Told) (read write : Type 0) →
     EndingHasCause command how told read write → Completes command (status_of how) told read write
 completes None how told read write h = tt
@@ -325,6 +348,7 @@ completes (Some (compare files second)) how told read write h = comparing files 
 completes (Some (why files month name)) how told read write h = explaining files month name how told read write h
 completes (Some (ensemble files)) how told read write h = gathering files how told read write h
 completes (Some (edit files script)) how told read write h = editing files script how told read write h
+completes (Some (upgrade name)) how told read write h = upgrading name how told read write h
 
 -- nothing was told
 pub tells_nothing : (old : Option (List ℕ)) (before : ℕ) → Tells old old before before []

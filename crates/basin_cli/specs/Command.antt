@@ -16,7 +16,8 @@ pub record Files : Type 0 where
 
 -- a command with the names of its files, or with its numbers: `run` and `report` have the files of a basin and its series,
 -- `check` the file of a result besides, `compare` the file of a second basin, `trial` the number and the size of a generated
--- basin, `why` a month and the name of a right beside the files, `ensemble` the files, and `edit` the file of a script besides
+-- basin, `why` a month and the name of a right beside the files, `ensemble` the files, `edit` the file of a script besides, and
+-- `upgrade` the file of a basin alone
 pub data Command : Type 0 where
   run : Files → Command
   check : Files → List ℕ → Command
@@ -26,6 +27,7 @@ pub data Command : Type 0 where
   why : Files → Month → List ℕ → Command
   ensemble : Files → Command
   edit : Files → List ℕ → Command
+  upgrade : List ℕ → Command
 
 -- the word `-` names no file
 abbrev pub series_named : List ℕ → Option (List ℕ)
@@ -46,7 +48,9 @@ why_of files None right = None
 why_of files (Some month) right = if is_name right then Some (why files month right) else None
 
 abbrev pub command_of : List (List ℕ) → Option Command
-command_of (word ∷ basin ∷ []) = if bytes_eq word (codes "run") then Some (run (record { basin = basin; series = None })) else None
+command_of (word ∷ basin ∷ []) =
+    if bytes_eq word (codes "run") then Some (run (record { basin = basin; series = None }))
+    else (if bytes_eq word (codes "upgrade") then Some (upgrade basin) else None)
 command_of (word ∷ one ∷ other ∷ []) =
     if bytes_eq word (codes "run") then Some (run (record { basin = one; series = series_named other }))
     else (if bytes_eq word (codes "report") then Some (report (record { basin = one; series = series_named other }))
@@ -73,6 +77,7 @@ command_named (words.Compare inputs second) = compare (named inputs) second.now
 command_named (words.Why inputs month right) = why (named inputs) month right.now
 command_named (words.Ensemble inputs) = ensemble (named inputs)
 command_named (words.Edit inputs script) = edit (named inputs) script.now
+command_named (words.Upgrade basin) = upgrade basin.now
 
 -- the size of a trial is from 2 to 2,000, and the month of a `why` is one of the calendar
 abbrev pub IsInForm : Words → Type 0
@@ -95,3 +100,4 @@ ServesFiles serves (Some (compare files second)) = serves files.basin × ServesS
 ServesFiles serves (Some (why files month right)) = serves files.basin × ServesSeries serves files.series
 ServesFiles serves (Some (ensemble files)) = serves files.basin × ServesSeries serves files.series
 ServesFiles serves (Some (edit files script)) = serves files.basin × ServesSeries serves files.series × serves script
+ServesFiles serves (Some (upgrade basin)) = serves basin

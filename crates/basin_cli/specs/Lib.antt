@@ -6,6 +6,7 @@ pub mod Bytes
 pub mod Out
 pub mod Reading
 pub mod Edited
+pub mod Upgrading
 pub mod Comparison
 pub mod Outcome
 pub mod Code

@@ -26,7 +26,7 @@ use Rattle.basin_cli.specs.declared.status.Status.TheVariants.{Done, No}
 use Rattle.basin_cli.specs.declared.ending.Ending.{Ending}
 use Rattle.basin_cli.specs.declared.ending.Ending.TheVariants as ending
 use Rattle.basin_cli.specs.declared.ending.File.TheVariants as file
-use Rattle.basin_cli.specs.Command.{Command, Files, run, check, report, trial, why, compare, ensemble, edit}
+use Rattle.basin_cli.specs.Command.{Command, Files, run, check, report, trial, why, compare, ensemble, edit, upgrade}
 use Rattle.basin_cli.specs.Ending.{status_of, line_of}
 use Rattle.basin_cli.specs.Explained.{Explains, HasMonth, HasRight, IsAbout, PushesUpTo}
 use Rattle.basin_cli.specs.Headline.{HasGreatestPlans}
@@ -35,6 +35,7 @@ use Rattle.basin_cli.specs.Out.{Leaves, MayWrite}
 use Rattle.basin_cli.specs.Written.{LeavesRun}
 use Rattle.basin_cli.specs.Reading.{AreAccepted, BehindBasin, BehindBoth, BehindSeries, CompletesBehind, IsDone, IsJudged, OfBoth, StopsReading}
 use Rattle.basin_cli.specs.Edited.{HasEditingCause, EditsBehind, EditWrites, EditPushes}
+use Rattle.basin_cli.specs.Upgrading.{HasUpgradingCause, UpgradesBehind, UpgradeWrites}
 use Rattle.basin_cli.specs.Comparison.{HasComparingCause, ComparesBehind, ComparisonWrites, ComparisonPushes}
 use Rattle.month_fold.specs.Runs.{run_pushes}
 
@@ -160,6 +161,7 @@ HasCauseFor (compare files second) e told read write = HasComparingCause files s
 HasCauseFor (why files month name) e told read write = HasExplainingCause files month name e told read write
 HasCauseFor (ensemble files) e told read write = HasEnsembleCause files e told read write
 HasCauseFor (edit files script) e told read write = HasEditingCause files script e told read write
+HasCauseFor (upgrade basin) e told read write = HasUpgradingCause basin e told read write
 
 abbrev pub EndingHasCause : Option Command → Ending → Told → Type 0 → Type 0 → Type 0
 EndingHasCause None e told read write = e ≡ ending.Usage
@@ -195,6 +197,7 @@ Completes (Some (why files month name)) status told read write =
 Completes (Some (ensemble files)) status told read write =
     CompletesBehind told files (λ bytes _. IsOfYears bytes → (read → ⊥) → (write → ⊥) → IsDone status)
 Completes (Some (edit files script)) status told read write = EditsBehind told files script status read write
+Completes (Some (upgrade basin)) status told read write = UpgradesBehind told basin status read write
 
 -- what `run` leaves on out: the text of a run of what the bytes spell, or after a fault of out as far as it was written
 pub record WritesRun (status : Status) (bytes series_bytes : List ℕ) (old new : Option (List ℕ)) (before after : ℕ) : Type 0 where
@@ -268,6 +271,7 @@ WritesFor (Some (compare files second)) status told old new before after = Compa
 WritesFor (Some (why files month name)) status told old new before after =
     OfBoth told files (λ bytes series. MayWrite status → WritesAccount status month name bytes series old new)
 WritesFor (Some (edit files script)) status told old new before after = EditWrites told files script status old new
+WritesFor (Some (upgrade basin)) status told old new before after = UpgradeWrites told basin status old new
 WritesFor (Some (ensemble files)) status told old new before after = OfBoth told files (λ bytes series. MayWrite status → WritesEnsemble status bytes series old new)
 
 -- searches push at most so often as the bound of a month allows, for each month of the basin that the bytes spell
@@ -287,6 +291,7 @@ PushesFor (Some (why files month name)) told before now =
 PushesFor (Some (ensemble files)) told before now =
     IfSome (told files.basin) (λ bytes. (basin : Basin) → Spells bytes basin → now ≤ before + years_of basin * run_pushes basin)
 PushesFor (Some (edit files script)) told before now = EditPushes told files script before now
+PushesFor (Some (upgrade basin)) told before now = now ≡ before
 
 -- the statuses that leave err alone
 abbrev pub IsQuiet : Status → Type 0

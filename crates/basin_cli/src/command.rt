@@ -50,6 +50,8 @@ pub enum Words<'a> {
         month: Month,
         right: &'a str,
     },
+    /// Write the basin of a file in format 2.
+    Upgrade(&'a str),
 }
 
 /// The name of SERIES, unless the word is `-`.
@@ -116,6 +118,8 @@ pub fn command(words: &[String]) -> Option<Words<'_>>
                     basin: basin.as_str(),
                     series: None,
                 }))
+            } else if word.as_str() == "upgrade" {
+                Some(Words::Upgrade(basin.as_str()))
             } else {
                 None
             }

@@ -17,6 +17,7 @@ mod handing;
 mod pairs;
 mod status;
 mod top;
+mod upgrading;
 mod writing;
 
 pub use found::{Found, check_result, runs_are_accepted};

@@ -16,6 +16,7 @@ use crate::ending::{Ending, File, tell};
 use crate::explaining::explain_right;
 use crate::files::{read_file, read_inputs, read_record};
 use crate::status::Status;
+use crate::upgrading::do_upgrade;
 use std::alloc::Global;
 use std::sync::ledger::Ledger;
 use steps::Steps;
@@ -215,6 +216,7 @@ fn decide<S: Shelf, K: Sink, L: Ledger>(
         Some(Words::Edit { inputs, script }) => do_edit(
             alloc, inputs, script, shelf, out, searches,
         ),
+        Some(Words::Upgrade(basin)) => do_upgrade(alloc, basin, shelf, out),
         Some(Words::Trial { number, size }) => try_basin(alloc, number, size, out, searches),
         Some(Words::Compare { inputs, second }) => {
             do_compare(alloc, inputs, second, shelf, out, searches)

@@ -7,7 +7,7 @@ use Rattle.place_sums.proofs.Totals.{total_start, total_first}
 use Rattle.water_model.specs.Lookups.{of_entry}
 use Rattle.basin_file.proofs.Lists.{Each, EachFrom}
 
-count_by-cons : {X : Type 0} (p : X → Bool) (x : X) (xs : List X) → count_by p (x ∷ xs) ≡ (if p x then 1 else 0) + count_by p xs
+pub count_by-cons : {X : Type 0} (p : X → Bool) (x : X) (xs : List X) → count_by p (x ∷ xs) ≡ (if p x then 1 else 0) + count_by p xs
 count_by-cons p x xs = sum_by-cons (λ y. if p y then 1 else 0) x xs
 
 -- how many places of a list have an entry that passes is how many entries pass

@@ -1,5 +1,5 @@
 -- A file without a fault spells a valid basin.
-use Rattle.std.proofs.Common.{◌≡◌, ◌≢◌, ℕ, ◌+◌, Bool, true, false, List, [], ◌∷◌, Option, Some, None, option_and_then, All, refl, sym, ap, ◌∙◌}
+use Rattle.std.proofs.Common.{◌≡◌, ◌≢◌, ℕ, ◌+◌, Bool, true, false, List, [], ◌∷◌, Option, Some, None, option_and_then, refl, sym, ◌∙◌}
 use Rattle.std.specs.Prelude.{nat_lt, option_map, length, map, position}
 use Rattle.std.specs.List.{position_or_len, find, range_with_len}
 use Rattle.std.specs.Option.{option_or}
@@ -14,7 +14,6 @@ use Rattle.water_model.specs.declared.types.ReturnRow.{ReturnRow}
 use Rattle.water_model.specs.declared.types.Right.{Right}
 use Rattle.water_model.specs.Rights.{has_bad_date, has_zone_fault, priority}
 use Rattle.river_net.specs.NetFaults.{net_fault, first_self_link, first_from_outlet, first_without_river, first_on_cycle}
-use Rattle.river_net.specs.declared.refused.NetRefused.{NetRefused}
 use Rattle.river_net.specs.declared.refused.NetRefused.TheVariants as net
 use Rattle.river_net.proofs.NoFault.{faultless_sound}
 use Rattle.rights_roll.specs.RollFaults.{roll_fault, date_fault, same_seniority, same_from, zone_fault, parts_fault, has_many_parts}
@@ -22,7 +21,6 @@ use Rattle.rights_roll.specs.declared.RollRefused.{RollRefused}
 use Rattle.rights_roll.specs.declared.RollRefused.TheVariants as roll
 use Rattle.rights_roll.proofs.Soundness.{sound-from_faultless, roll_fault-is}
 use Rattle.basin_tree.specs.Order.{tree_fault}
-use Rattle.basin_tree.specs.declared.walk.Finding.{Finding}
 use Rattle.basin_file.specs.BasinFaults.{Spells, file_fault, document_fault, basin_fault, net_finding, roll_finding, areas_fault}
 use Rattle.basin_file.specs.Spelled.{basin_of}
 use Rattle.basin_file.proofs.Joins.{areas_sound, valid_by}

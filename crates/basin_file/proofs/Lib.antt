@@ -8,3 +8,13 @@ pub mod Counts
 pub mod Whole
 pub mod Joins
 pub mod Faultless
+pub mod Tables
+pub mod Texts
+pub mod Printed
+pub mod ReadBack
+pub mod Listed
+pub mod TableKeys
+pub mod TableSpells
+pub mod Fitting
+pub mod CleanTables
+pub mod CleanRights

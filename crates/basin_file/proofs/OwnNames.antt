@@ -26,7 +26,7 @@ use Rattle.basin_file.proofs.Passed.{IsListed, HasNoFault, IsFine, fine_rows}
 use Rattle.basin_file.proofs.Refers.{texts_in-rows, length-rows_in}
 
 -- a place that passes is not before the first
-first_le : {X : Type 0} (p : X → Bool) (n : ℕ) (xs : List X) (i : ℕ) (x : X) → slice_get xs i ≡ Some x → p x ≡ true →
+pub first_le : {X : Type 0} (p : X → Bool) (n : ℕ) (xs : List X) (i : ℕ) (x : X) → slice_get xs i ≡ Some x → p x ≡ true →
     (at : ℕ) × (first_from p n xs ≡ Some at) × (at ≤ n + i)
 first_le p n [] i x there passes = cc
 first_le p n (y ∷ xs) zero x there passes =

@@ -84,7 +84,7 @@ no_fault tree e =
     }
 
 -- a test that finds nothing in a list
-find_cons : {X : Type 0} (f : X → Bool) (x : X) (xs : List X) → find f (x ∷ xs) ≡ None → (f x ≡ false) × (find f xs ≡ None)
+pub find_cons : {X : Type 0} (f : X → Bool) (x : X) (xs : List X) → find f (x ∷ xs) ≡ None → (f x ≡ false) × (find f xs ≡ None)
 find_cons f x xs e =
     elim (cases_Bool (f x)) [
       | inl there ↦ (let h = rw there at e in cc)

@@ -57,7 +57,7 @@ fn table_of(kind: &RightKind) -> BasinTable
     }
 }
 
-fn is_in_table(table: BasinTable, kind: &RightKind) -> bool
+pub fn is_in_table(table: BasinTable, kind: &RightKind) -> bool
     ensures { result ≡ is_in_table table kind.now }
 {
     match (table, kind) {

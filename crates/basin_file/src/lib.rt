@@ -7,8 +7,10 @@ pub mod laws;
 mod parts;
 mod read;
 mod refused;
+mod upgrade;
 
 pub use basin_tree::fault::BasinFault;
 pub use basin_tree::tables::BasinTable;
 pub use read::read_basin;
 pub use refused::BasinRefused;
+pub use upgrade::{spelled, upgraded};

@@ -1,5 +1,6 @@
 -- The parts of the words of a circulation.
-use Rattle.std.proofs.Common.{ℕ, ◌≡◌, ◌+◌, ◌*◌, ◌≤◌, List, ◌++◌, length, take, drop, map, replicate, arith, ap, sym, ◌∙◌, inl}
+use Rattle.std.proofs.Common.{ℕ, ◌≡◌, ◌+◌, ◌*◌, ◌≤◌, List, ◌++◌, length, take, drop, map, replicate, arith, ap, sym}
+use Rattle.std.proofs.Common.{◌∙◌, inl}
 use Rattle.std.proofs.lemmas.List.{take_at, take_all, drop_at, length-map, length-replicate}
 use Rattle.word_region.specs.Words.{words_at, with_words, zeroed}
 use Rattle.word_region.specs.declared.Place.{Place}
@@ -23,8 +24,8 @@ contents_of n a b s l u f x p q r = record {
 }
 
 -- contents are the same where all their lists are
-lists_same : (n n' : ℕ) (a a' b b' s s' l l' u u' f f' x x' p p' q q' r r' : List ℕ) → n ≡ n' → a ≡ a' → b ≡ b' → s ≡ s' →
-    l ≡ l' → u ≡ u' → f ≡ f' → x ≡ x' → p ≡ p' → q ≡ q' → r ≡ r' →
+lists_same : (n n' : ℕ) (a a' b b' s s' l l' u u' f f' x x' p p' q q' r r' : List ℕ) → n ≡ n' → a ≡ a' → b ≡ b' →
+    s ≡ s' → l ≡ l' → u ≡ u' → f ≡ f' → x ≡ x' → p ≡ p' → q ≡ q' → r ≡ r' →
     contents_of n a b s l u f x p q r ≡ contents_of n' a' b' s' l' u' f' x' p' q' r'
 lists_same n n' a a' b b' s s' l l' u u' f f' x x' p p' q q' r r' e₁ e₂ e₃ e₄ e₅ e₆ e₇ e₈ e₉ e₁₀ e₁₁ =
     ap (λ (i : ℕ). contents_of i a b s l u f x p q r) e₁
@@ -48,8 +49,9 @@ cut xs ps qs front back n is count f b = (
 )
 
 -- the parts of the words are the lists of the contents
-pub lent_is : (circ : Circulation) (c : Contents) (kept moved ends k₁ step k₂ end first flow m₁ upper m₂ lower m₃ supply m₄
-    scratch : List ℕ) → AreWordsOf circ c kept moved →
+pub lent_is : (circ : Circulation) (c : Contents)
+    (kept moved ends k₁ step k₂ end first flow m₁ upper m₂ lower m₃ supply m₄ scratch : List ℕ) →
+    AreWordsOf circ c kept moved →
     ends ≡ take circ.arcs kept → k₁ ≡ drop circ.arcs kept →
     step ≡ take (2 * circ.arcs) k₁ → k₂ ≡ drop (2 * circ.arcs) k₁ →
     end ≡ take (2 * circ.arcs) k₂ → first ≡ drop (2 * circ.arcs) k₂ →
@@ -59,8 +61,8 @@ pub lent_is : (circ : Circulation) (c : Contents) (kept moved ends k₁ step k�
     supply ≡ take circ.nodes m₃ → m₄ ≡ drop circ.nodes m₃ →
     scratch ≡ take (4 * circ.nodes + 8) m₄ →
     contents_of circ.nodes (map tail_of ends) (map head_of ends) supply lower upper flow scratch first step end ≡ c
-lent_is circ c kept moved ends k₁ step k₂ end first flow m₁ upper m₂ lower m₃ supply m₄ scratch w e₁ e₂ e₃ e₄ e₅ e₆ e₇ e₈
-    e₉ e₁₀ e₁₁ e₁₂ e₁₃ e₁₄ e₁₅ =
+lent_is circ c kept moved ends k₁ step k₂ end first flow m₁ upper m₂ lower m₃ supply m₄ scratch w
+    e₁ e₂ e₃ e₄ e₅ e₆ e₇ e₈ e₉ e₁₀ e₁₁ e₁₂ e₁₃ e₁₄ e₁₅ =
     let shape = w.circulation.shape in
     let from = ap length w.from ∙ (length-map w.pairs tail_of ∙ w.arcs) in
     let at_ends = cut kept w.pairs _ ends k₁ circ.arcs w.fixed w.arcs e₁ e₂ in
@@ -102,4 +104,5 @@ written_other words new from other fits before =
 pub zeroed_other : (words : List ℕ) (from len : ℕ) (other : Place) → from + len ≤ length words →
     other.from + other.len ≤ from → words_at (zeroed words from len) other ≡ words_at words other
 zeroed_other words from len other fits before =
-    words_at-with_words_other words from (replicate len 0) other (omega (arith, length-replicate {A = ℕ} len 0)) (inl before)
+    words_at-with_words_other words from (replicate len 0) other (omega (arith, length-replicate {A = ℕ} len 0))
+    (inl before)

@@ -8,3 +8,4 @@ pub mod Pushing
 pub mod Kept
 pub mod RowLists
 pub mod RowSums
+pub mod Scans

@@ -1,7 +1,9 @@
 -- Turns are chained by their keys, from the last to the first.
-use Rattle.std.proofs.Common.{ℕ, ◌≡◌, ◌+◌, ◌-◌, ◌*◌, ◌<◌, ◌≤◌, List, length, slice_index, slice_set, arith, ap, sym, subst, inl, inr, ◌∙◌}
+use Rattle.std.proofs.Common.{ℕ, ◌≡◌, ◌+◌, ◌-◌, ◌*◌, ◌<◌, ◌≤◌, List, length, slice_index, slice_set, arith, ap, sym}
+use Rattle.std.proofs.Common.{subst, inl, inr, ◌∙◌}
 use Rattle.std.proofs.lemmas.Bool.{cases_eq, cases_lt}
-use Rattle.std.proofs.lemmas.List.{get_or_append_left, get_or-append-add, get_or-set_same, get_or-set_other, get_or-replicate, length-append, length-map, length-set}
+use Rattle.std.proofs.lemmas.List.{get_or_append_left, get_or-append-add, get_or-set_same, get_or-set_other}
+use Rattle.std.proofs.lemmas.List.{length-append, length-map, length-set}
 use Rattle.circulation.specs.Places.{tail_of, head_of}
 use Rattle.circulation.specs.Chains.{IsNext, AreChains, tails_of, heads_of, keys_of}
 
@@ -32,7 +34,8 @@ link_next keys first next a k some within is inside sizes l =
     record {
       starts = λ v b. elim (cases_eq v k) [
         | inl same ↦
-            let here : slice_index (slice_set first k (a - 1)) v ≡ a - 1 = ap (slice_index (slice_set first k (a - 1))) same
+            let here : slice_index (slice_set first k (a - 1)) v ≡ a - 1 =
+            ap (slice_index (slice_set first k (a - 1))) same
             ∙ get_or-set_same first k (a - 1) 0 inside in
             subst (λ (n : ℕ). IsNext keys v (a - 1) n) (sym here) record {
               within = omega arith;

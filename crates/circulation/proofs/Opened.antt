@@ -1,5 +1,6 @@
 -- A circulation that was just opened keeps its invariant.
-use Rattle.std.proofs.Common.{ℕ, Bool, true, false, ◌==◌, replicate, ◌≡◌, ◌≢◌, ◌+◌, ◌-◌, ◌*◌, ◌^◌, ◌<◌, ◌≤◌, List, ◌++◌, length, take, drop, slice_index, get_or, map, refl, arith, ap, sym, subst, ◌∙◌}
+use Rattle.std.proofs.Common.{ℕ, Bool, true, false, ◌==◌, replicate, ◌≡◌, ◌≢◌, ◌+◌, ◌-◌, ◌*◌, ◌^◌, ◌<◌, ◌≤◌, List, ◌++◌}
+use Rattle.std.proofs.Common.{length, take, drop, slice_index, get_or, map, refl, arith, ap, sym, subst, ◌∙◌}
 use Rattle.std.specs.Prelude.{All}
 use Rattle.std.proofs.lemmas.Grind.{common_steps}
 use Rattle.std.proofs.lemmas.List.{get_or-map, length-map, get_or-replicate, length-append, replicate-append-replicate}
@@ -134,7 +135,8 @@ empty-words circ c kept moved nodes arcs k is none pairs count from to steps sma
   moving = none
       ∙ zeros_in_parts (length c.from) c.nodes (word_count circ.nodes circ.arcs - fixed_count circ.nodes circ.arcs)
       (omega (arith, nodes, arcs))
-      ∙ ap (λ (e : Contents). e.flow ++ (e.upper ++ (e.lower ++ (e.supply ++ (e.scratch ++ replicate (2 * c.nodes + 6) 0)))))
+      ∙ ap (λ (e : Contents).
+      e.flow ++ (e.upper ++ (e.lower ++ (e.supply ++ (e.scratch ++ replicate (2 * c.nodes + 6) 0)))))
       (sym is);
   circulation = k;
 }
@@ -190,6 +192,10 @@ emptied-words circ c kept moved cleared w none =
           ∙ ap (λ (xs : List ℕ). replicate c.nodes 0 ++ xs)
           (zeros_append c.scratch w.unused (4 * c.nodes + 8) shape.scratch))));
       circulation = empty-circulation c.nodes c.from c.to c.rows shape.few_nodes shape.few_arcs shape.to
-          record { from_in = w.circulation.ends.from_in; to_in = w.circulation.ends.to_in; apart = w.circulation.ends.apart }
+          record {
+            from_in = w.circulation.ends.from_in;
+            to_in = w.circulation.ends.to_in;
+            apart = w.circulation.ends.apart;
+          }
           w.circulation.rows;
     }

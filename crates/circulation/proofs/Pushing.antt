@@ -1,5 +1,6 @@
 -- A push along a closed walk keeps the flow: what holds when the steps before `at` are done.
-use Rattle.std.proofs.Common.{ℕ, Bool, true, false, not, ◌==◌, ◌≡◌, ◌≢◌, ◌+◌, ◌-◌, ◌^◌, ◌<◌, ◌≤◌, List, length, slice_index, slice_set, refl, arith, ap, sym, subst, inl, inr, ◌∙◌}
+use Rattle.std.proofs.Common.{ℕ, Bool, true, false, not, ◌==◌, ◌≡◌, ◌≢◌, ◌+◌, ◌-◌, ◌^◌, ◌<◌, ◌≤◌, List, length}
+use Rattle.std.proofs.Common.{slice_index, slice_set, refl, arith, ap, sym, subst, inl, inr, ◌∙◌}
 use Rattle.std.proofs.lemmas.Bool.Decides.{eqb_tells}
 use Rattle.std.proofs.lemmas.List.{get_or-set_same, get_or-set_other, length-set}
 use Rattle.place_sums.specs.Sums.{when}
@@ -70,14 +71,19 @@ pub pushing_end : (w : Network) (old new step : ℕ → ℕ) (first last amount 
 pushing_end w old new step first last amount flow p = record {
   low = p.low;
   high = p.high;
-  balanced = λ v b. omega (arith, flow.balanced v b, p.moved (start_of w (step first)) (λ c. absurd (omega arith)) (λ c. refl) v);
+  balanced = λ v b. omega (
+    arith,
+    flow.balanced v b,
+    p.moved (start_of w (step first)) (λ c. absurd (omega arith)) (λ c. refl) v,
+  );
 }
 
 -- the arc of the next step has still its old flow
 pub untouched : (w : Network) (old new step : ℕ → ℕ) (first last at amount : ℕ) →
     IsClosedWalk w old step first last amount → IsPushing w old new step first last at amount → first ≤ at → at < last →
     new (arc_of (step at)) ≡ old (arc_of (step at))
-untouched w old new step first last at amount walk p a b = p.pushed.off (arc_of (step at)) (λ i c d. walk.once i at c d b)
+untouched w old new step first last at amount walk p a b =
+    p.pushed.off (arc_of (step at)) (λ i c d. walk.once i at c d b)
 
 -- an amount within the room keeps the bounds
 within_room : (back : Bool) (d x y low high : ℕ) → 0 < d → low ≤ x → x ≤ high → d ≤ by_way back (high - x) (x - low) →
@@ -88,10 +94,12 @@ within_room false d x y low high p a b room change = (omega arith, omega arith)
 -- one more step is done
 pub pushing_next : (w : Network) (old new next step : ℕ → ℕ) (first last at amount : ℕ) → IsFlow w old →
     IsClosedWalk w old step first last amount → IsPushing w old new step first last at amount → first ≤ at → at < last →
-    next (arc_of (step at)) + when (is_back (step at)) amount ≡ new (arc_of (step at)) + when (not (is_back (step at))) amount →
+    next (arc_of (step at)) + when (is_back (step at)) amount
+    ≡ new (arc_of (step at)) + when (not (is_back (step at))) amount →
     ((a : ℕ) → a ≢ arc_of (step at) → next a ≡ new a) → IsPushing w old next step first last (at + 1) amount
 pushing_next w old new next step first last at amount flow walk p a b change other =
-    let same : new (arc_of (step at)) ≡ old (arc_of (step at)) = untouched w old new step first last at amount walk p a b in
+    let same : new (arc_of (step at)) ≡ old (arc_of (step at)) =
+    untouched w old new step first last at amount walk p a b in
     let inside : arc_of (step at) < w.arcs = walk.arc at a b in
     let bounds = within_room (is_back (step at)) amount (old (arc_of (step at))) (next (arc_of (step at)))
     (w.lower (arc_of (step at))) (w.upper (arc_of (step at))) walk.positive (flow.low _ inside)
@@ -134,7 +142,8 @@ pub change_fits : (w : Network) (old new step : ℕ → ℕ) (first last at amou
     (is_back (step at) ≡ true → amount ≤ new (arc_of (step at))) ×
     (is_back (step at) ≡ false → new (arc_of (step at)) + amount ≤ w.upper (arc_of (step at)))
 change_fits w old new step first last at amount flow walk p a b =
-    let same : new (arc_of (step at)) ≡ old (arc_of (step at)) = untouched w old new step first last at amount walk p a b in
+    let same : new (arc_of (step at)) ≡ old (arc_of (step at)) =
+    untouched w old new step first last at amount walk p a b in
     let room = walk.room at a b in
     let low = flow.low _ (walk.arc at a b) in
     let positive : 0 < amount = walk.positive in (
@@ -153,7 +162,8 @@ pushed-kept c x written flow first last at amount view k same is end p =
     let kept = subst IsCirculation view k in
     let done = subst (λ (n : ℕ). IsPushing (network x) (flow_of x) (λ a. slice_index flow a)
     (step_of x) first last n amount) end p in
-    let last_flow = pushing_end (network x) (flow_of x) (λ a. slice_index flow a) (step_of x) first last amount kept.flow done in
+    let last_flow = pushing_end (network x) (flow_of x) (λ a. slice_index flow a) (step_of x) first last amount
+    kept.flow done in
     let own_flow = subst (λ (y : Contents). IsFlow (network y) (λ a. slice_index flow a)) (sym view) last_flow in
     let length_now : length flow ≡ length c.from = omega (arith, same, k.shape.flow) in
     subst (λ (xs : List ℕ). IsCirculation (record c { flow = xs })) (sym is) (flow-kept c flow k length_now own_flow)
@@ -167,10 +177,15 @@ pub record IsPushState (x y : Contents) (first last at amount : ℕ) : Type 0 wh
 pub push_start : (x y : Contents) (first last amount : ℕ) → y ≡ x → IsCirculation x → first < last →
     IsPushState x y first last first amount
 push_start x y first last amount is k some = subst (λ (z : Contents). IsPushState x z first last first amount) (sym is)
-    record { rest = refl; size = refl; pushing = pushing_start (network x) (flow_of x) (step_of x) first last amount some k.flow }
+    record {
+      rest = refl;
+      size = refl;
+      pushing = pushing_start (network x) (flow_of x) (step_of x) first last amount some k.flow;
+    }
 
 -- the step that is next is still the same
-next_same : (x y : Contents) (first last at amount : ℕ) → IsPushState x y first last at amount → step_of x at ≡ step_of y at
+next_same : (x y : Contents) (first last at amount : ℕ) → IsPushState x y first last at amount →
+    step_of x at ≡ step_of y at
 next_same x y first last at amount p = ap (λ (z : Contents). step_of z at) (sym p.rest)
 
 -- its arc has a flow
@@ -212,8 +227,8 @@ push_next x y first last at amount new k walk p a b change =
     record {
       rest = ap (λ (z : Contents). record z { flow = flow }) p.rest;
       size = length-set y.flow arc new ∙ p.size;
-      pushing = pushing_next (network x) (flow_of x) (flow_of y) (slice_index flow) (step_of x) first last at amount k.flow
-          walk p.pushing a b
+      pushing = pushing_next (network x) (flow_of x) (flow_of y) (slice_index flow) (step_of x) first last at amount
+          k.flow walk p.pushing a b
           (subst (λ (s : ℕ). slice_index flow (arc_of s) + when (is_back s) amount ≡ flow_of y (arc_of s) + when
           (not (is_back s)) amount) (sym same) done)
           (λ c ne. get_or-set_other y.flow arc c new 0 (λ e. ne (e ∙ ap arc_of (sym same))));
@@ -223,7 +238,8 @@ push_next x y first last at amount new k walk p a b change =
 pub push_kept : (x y : Contents) (first last at amount : ℕ) → IsCirculation x → IsPushState x y first last at amount →
     at ≡ last → IsCirculation y
 push_kept x y first last at amount k p end =
-    subst IsCirculation (sym p.rest) (pushed-kept x x y.flow y.flow first last at amount refl k p.size refl end p.pushing)
+    subst IsCirculation (sym p.rest)
+    (pushed-kept x x y.flow y.flow first last at amount refl k p.size refl end p.pushing)
 
 pub push_done : (x y : Contents) (first last at amount : ℕ) → IsPushState x y first last at amount → at ≡ last →
     IsPushed (flow_of x) (flow_of y) (step_of x) first last amount

@@ -1,10 +1,13 @@
 -- Rows are written, one step after another and one row after another.
-use Rattle.std.proofs.Common.{ℕ, Bool, true, false, ◌≡◌, ◌≢◌, ◌+◌, ◌*◌, ◌%◌, ◌^◌, ◌<◌, ◌≤◌, ◌++◌, List, length, take, drop, slice_index, slice_set, arith, ap, sym, subst, inl, inr, ◌∙◌}
+use Rattle.std.proofs.Common.{ℕ, Bool, true, false, ◌≡◌, ◌≢◌, ◌+◌, ◌*◌, ◌%◌, ◌^◌, ◌<◌, ◌≤◌, ◌++◌, List, length, take}
+use Rattle.std.proofs.Common.{drop, slice_index, slice_set, arith, ap, sym, subst, inl, inr, ◌∙◌}
 use Rattle.std.proofs.lemmas.Bool.{cases_eq, cases_lt, cases_Bool, eqb-true, eqb-false}
-use Rattle.std.proofs.lemmas.List.{get_or_append_left, get_or-append-add, get_or-set_same, get_or-set_other, get_or-take, get_or-drop, get_or_past, length-append, length-take, length-map}
+use Rattle.std.proofs.lemmas.List.{get_or_append_left, get_or-append-add, get_or-set_same, get_or-set_other}
+use Rattle.std.proofs.lemmas.List.{get_or-take, get_or-drop, get_or_past, length-append, length-take, length-map}
 use Rattle.circulation.specs.Residual.{arc_of, is_back, by_way, start_of, end_of}
 use Rattle.circulation.specs.Rows.{Rows, over, Leads, IsInRow, IsRow, AreRows}
-use Rattle.circulation.specs.Chains.{IsNext, turn_of, IsPartRow, AreApart, AreSameBelow, AreSmall, tails_of, heads_of, keys_of}
+use Rattle.circulation.specs.Chains.{IsNext, turn_of, IsPartRow, AreApart, AreSameBelow, AreSmall, tails_of, heads_of}
+use Rattle.circulation.specs.Chains.{keys_of}
 use Rattle.circulation.specs.Places.{tail_of}
 use Rattle.circulation.proofs.Links.{turns_are}
 use Rattle.circulation.proofs.Apart.{room_for_one}
@@ -133,7 +136,8 @@ pub next_has_room : (from to : List ℕ) (v upto turn first last s : ℕ) (steps
     IsPartRow from to v upto first last steps ends → AreApart from to v first steps →
     AreApart from to (v + 1) last steps → IsNextStep from to v upto turn s → last < 2 * length from
 next_has_room from to v upto turn first last s steps ends part before apart n =
-    room_for_one last (2 * length from) (slice_index steps) s (λ p b. omega (arith, apart.arcs p b)) (omega (arith, n.arc))
+    room_for_one last (2 * length from) (slice_index steps) s (λ p b. omega (arith, apart.arcs p b))
+    (omega (arith, n.arc))
     apart.once (next_is_new from to v upto turn first last s steps ends part before n)
 
 -- one more step was written
@@ -353,9 +357,9 @@ row_stays from to r more v last first next inside sizes same row =
     }
 
 -- the row of one more node is written
-pub rows_next : (from to : List ℕ) (n last last' turns : ℕ) (first step end step' end' : List ℕ) → n + 1 < length first →
-    AreRowsUpTo from to n last record { first = first; step = step; end = end } → turns ≡ 2 * length from →
-    IsPartRow from to n turns last last' step' end' → AreSameBelow last step end step' end' →
+pub rows_next : (from to : List ℕ) (n last last' turns : ℕ) (first step end step' end' : List ℕ) →
+    n + 1 < length first → AreRowsUpTo from to n last record { first = first; step = step; end = end } →
+    turns ≡ 2 * length from → IsPartRow from to n turns last last' step' end' → AreSameBelow last step end step' end' →
     length step' ≡ length step → last' ≤ length step' →
     AreRowsUpTo from to (n + 1) last' record { first = slice_set first (n + 1) last'; step = step'; end = end' }
 rows_next from to n last last' turns first step end step' end' room rows are part same sizes inside =
@@ -376,7 +380,8 @@ rows_next from to n last last' turns first step end step' end' room rows are par
       ];
       rows = λ v b. elim (cases_lt v n) [
         | inl old ↦ row_stays from to r more v last (w.other v (less_other v (n + 1) (omega arith)))
-            (w.other (v + 1) (less_other (v + 1) (n + 1) (omega arith))) (rows.before v old) sizes same (rows.rows v old)
+            (w.other (v + 1) (less_other (v + 1) (n + 1) (omega arith))) (rows.before v old) sizes same
+            (rows.rows v old)
         | inr new ↦
             let e : n ≡ v = omega arith in
             subst (λ (u : ℕ). IsRow from to more u) e record {

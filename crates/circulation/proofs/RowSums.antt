@@ -1,5 +1,6 @@
 -- A sum over the steps of a row is one over arcs.
-use Rattle.std.proofs.Common.{ℕ, zero, suc, Fits, w64, Bool, true, false, not, ◌==◌, ◌≡◌, ◌+◌, ◌-◌, ◌*◌, ◌%◌, ◌^◌, ◌<◌, ◌≤◌, List, length, slice_index, refl, arith, ap, sym, inl, inr, ◌∙◌}
+use Rattle.std.proofs.Common.{ℕ, zero, suc, Fits, w64, Bool, true, false, not, ◌==◌, ◌≡◌, ◌+◌, ◌-◌, ◌*◌, ◌%◌, ◌^◌, ◌<◌}
+use Rattle.std.proofs.Common.{◌≤◌, List, length, slice_index, refl, arith, ap, sym, subst, inl, inr, ◌∙◌}
 use Rattle.std.proofs.lemmas.Bool.{cases_eq, cases_Bool, eq-eqb, ne_eqb, eqb-true, eqb-false}
 use Rattle.place_sums.specs.Sums.{total, when}
 use Rattle.place_sums.proofs.Totals.{total_more, total_same, total_zero, total_exchange, total_pick}
@@ -153,9 +154,8 @@ pub record IsRowSum (r : Rows) (amounts : List ℕ) (v : ℕ) (test : ℕ → Bo
       (slice_index amounts (arc_of (slice_index r.step (slice_index r.first v + k)))))
 
 -- before the first step
-pub row_sum_start : (r : Rows) (amounts : List ℕ) (v : ℕ) (test : ℕ → Bool) (place : ℕ) → place ≡ slice_index r.first v
-    →
-    IsRowSum r amounts v test place 0
+pub row_sum_start : (r : Rows) (amounts : List ℕ) (v : ℕ) (test : ℕ → Bool) (place : ℕ) →
+    place ≡ slice_index r.first v → IsRowSum r amounts v test place 0
 row_sum_start r amounts v test place is =
     let none : place - slice_index r.first v ≡ 0 = omega arith in
     record { from = omega arith; is = sym (total_zero (place - slice_index r.first v) _ (λ k b. absurd (omega arith))) }
@@ -185,6 +185,36 @@ row_sum_next r amounts v test place sum s =
         last,
       );
     }
+
+-- one more step passed the test
+pub row_sum_on : (r : Rows) (amounts : List ℕ) (v : ℕ) (test : ℕ → Bool) (place sum s more : ℕ) →
+    IsRowSum r amounts v test place sum → s ≡ slice_index r.step place → test s ≡ true →
+    more ≡ sum + slice_index amounts (arc_of s) → IsRowSum r amounts v test (place + 1) more
+row_sum_on r amounts v test place sum s more before is passes made =
+    let amount : ℕ → ℕ = λ x. slice_index amounts (arc_of x) in
+    subst (λ (n : ℕ). IsRowSum r amounts v test (place + 1) n)
+    (omega (
+      arith,
+      made,
+      ap (λ (x : ℕ). when (test x) (amount x)) (sym is),
+      ap (λ (t : Bool). when t (amount s)) passes,
+    ))
+    (row_sum_next r amounts v test place sum before)
+
+-- one more step failed it
+pub row_sum_off : (r : Rows) (amounts : List ℕ) (v : ℕ) (test : ℕ → Bool) (place sum s more : ℕ) →
+    IsRowSum r amounts v test place sum → s ≡ slice_index r.step place → test s ≡ false → more ≡ sum →
+    IsRowSum r amounts v test (place + 1) more
+row_sum_off r amounts v test place sum s more before is fails made =
+    let amount : ℕ → ℕ = λ x. slice_index amounts (arc_of x) in
+    subst (λ (n : ℕ). IsRowSum r amounts v test (place + 1) n)
+    (omega (
+      arith,
+      made,
+      ap (λ (x : ℕ). when (test x) (amount x)) (sym is),
+      ap (λ (t : Bool). when t (amount s)) fails,
+    ))
+    (row_sum_next r amounts v test place sum before)
 
 -- a sum of terms of at most m each
 pub total_at_most : (n m : ℕ) (f : ℕ → ℕ) → ((k : ℕ) → f k ≤ m) → total n f ≤ n * m

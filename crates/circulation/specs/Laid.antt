@@ -1,5 +1,5 @@
 -- The words of a circulation that is opened.
-use Rattle.std.specs.Prelude.{ℕ, ◌≡◌, ◌+◌, ◌*◌, List, ◌++◌, length}
+use Rattle.std.specs.Prelude.{ℕ, ◌≡◌, ◌*◌, List, ◌++◌, length}
 use Rattle.circulation.specs.declared.Ends.{Ends}
 use Rattle.circulation.specs.Rows.{Rows, AreRows}
 use Rattle.circulation.specs.Places.{tails, heads}

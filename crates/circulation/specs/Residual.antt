@@ -44,5 +44,6 @@ pub record IsClosedWalk (w : Network) (g step : ℕ → ℕ) (first last amount 
 -- the flow changed by the amount on the arc of each of these steps, and nowhere else
 pub record IsPushed (old new step : ℕ → ℕ) (first last amount : ℕ) : Type 0 where
   pub on : (i : ℕ) → first ≤ i → i < last →
-      new (arc_of (step i)) + when (is_back (step i)) amount ≡ old (arc_of (step i)) + when (not (is_back (step i))) amount
+      new (arc_of (step i)) + when (is_back (step i)) amount
+      ≡ old (arc_of (step i)) + when (not (is_back (step i))) amount
   pub off : (a : ℕ) → ((i : ℕ) → first ≤ i → i < last → arc_of (step i) ≢ a) → new a ≡ old a

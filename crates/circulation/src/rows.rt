@@ -5,7 +5,8 @@
 ghost use Rattle.std.specs.Prelude.{◌≡◌, ◌++◌, ℕ, ◌+◌, ◌*◌, ◌^◌, ◌<◌, ◌≤◌, length, slice_index};
 ghost use Rattle.circulation.specs.Residual.{arc_of, end_of};
 ghost use Rattle.circulation.specs.Rows.{over, AreRows};
-ghost use Rattle.circulation.specs.Chains.{turn_of, tails_of, heads_of, keys_of, IsNext, AreChains, IsPartRow, AreApart, AreSameBelow, AreSmall};
+ghost use Rattle.circulation.specs.Chains.{turn_of, tails_of, heads_of, keys_of, IsNext, AreChains, IsPartRow};
+ghost use Rattle.circulation.specs.Chains.{AreApart, AreSameBelow, AreSmall};
 
 use crate::END;
 
@@ -85,7 +86,8 @@ fn write_row(
     requires inside { first ≤ length step.old }
     requires apart { AreApart (tails_of pairs.now) (heads_of pairs.now) node first step.old }
     requires small { AreSmall ends.old }
-    ensures row { IsPartRow (tails_of pairs.now) (heads_of pairs.now) node (2 * length pairs.now) first result step.new ends.new }
+    ensures row { IsPartRow (tails_of pairs.now) (heads_of pairs.now) node (2 * length pairs.now)
+        first result step.new ends.new }
     ensures apart { AreApart (tails_of pairs.now) (heads_of pairs.now) (node + 1) result step.new }
     ensures same { AreSameBelow first step.old ends.old step.new ends.new }
     ensures small { AreSmall ends.new }

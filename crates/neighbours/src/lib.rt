@@ -1,4 +1,4 @@
-//! The tests of the commands beside a run, `why`, `compare`, `ensemble` and `edit`, and of a month's two ways, over the program's
+//! The tests of the commands beside a run, `why`, `compare`, `ensemble`, `edit` and `upgrade`, and of a month's two ways, over the program's
 //! top call.
 #![tactic(auto)]
 
@@ -12,5 +12,7 @@ mod explaining;
 mod gathering;
 #[cfg(test)]
 mod seasonal;
+#[cfg(test)]
+mod upgrading;
 #[cfg(test)]
 mod ways;

@@ -1,5 +1,6 @@
 -- What freeing and reaching a node do to a tree that is repaired.
-use Rattle.std.proofs.Common.{ℕ, Bool, nat_lt, ◌==◌, ◌≡◌, ◌≢◌, ◌+◌, ◌-◌, ◌<◌, ◌≤◌, ◌⊎◌, if◌then◌else◌, List, length, slice_index, slice_set, refl, arith, ap, sym, subst, inl, inr, ◌∙◌}
+use Rattle.std.proofs.Common.{ℕ, Bool, nat_lt, ◌==◌, ◌≡◌, ◌≢◌, ◌+◌, ◌-◌, ◌<◌, ◌≤◌, ◌⊎◌, if◌then◌else◌, List, length}
+use Rattle.std.proofs.Common.{slice_index, slice_set, refl, arith, ap, sym, subst, inl, inr, ◌∙◌}
 use Rattle.std.proofs.lemmas.Bool.{cases_eq, lt-ltb, le-ltb, eq-eqb, ne_eqb}
 use Rattle.std.proofs.lemmas.List.{get_or-set_other, get_or-set_same, length-set}
 use Rattle.place_sums.specs.Sums.{when}
@@ -18,7 +19,8 @@ count_written : (nodes v x : ℕ) (way : List ℕ) → v < nodes →
     reached_count nodes (slice_set way v x) + when (nat_lt 0 (word_of way v)) 1 ≡
     reached_count nodes way + when (nat_lt 0 (word_of (slice_set way v x) v)) 1
 count_written nodes v x way b =
-    total_change nodes v (λ u. when (nat_lt 0 (word_of (slice_set way v x) u)) 1) (λ u. when (nat_lt 0 (word_of way u)) 1) b
+    total_change nodes v (λ u. when (nat_lt 0 (word_of (slice_set way v x) u)) 1)
+    (λ u. when (nat_lt 0 (word_of way u)) 1) b
     (λ u c ne. ap (λ (y : ℕ). when (nat_lt 0 y) 1) (get_or-set_other way v u x 0 ne))
 
 counts : (x : ℕ) → 0 < x → when (nat_lt 0 x) 1 ≡ 1
@@ -50,7 +52,8 @@ count_attached nodes v x way b long m some =
     )
 
 -- a step more stands in a list after a write behind those before
-pub stands_more : (xs : List ℕ) (first size v x : ℕ) → Stands xs first size x → Stands (slice_set xs size v) first (size + 1) x
+pub stands_more : (xs : List ℕ) (first size v x : ℕ) → Stands xs first size x →
+    Stands (slice_set xs size v) first (size + 1) x
 stands_more xs first size v x h = record {
   place = h.place;
   from = h.from;
@@ -59,7 +62,8 @@ stands_more xs first size v x h = record {
 }
 
 -- what was written stands there
-pub stands_here : (xs : List ℕ) (first size v : ℕ) → first ≤ size → size < length xs → Stands (slice_set xs size v) first (size + 1) v
+pub stands_here : (xs : List ℕ) (first size v : ℕ) → first ≤ size → size < length xs →
+    Stands (slice_set xs size v) first (size + 1) v
 stands_here xs first size v order long = record {
   place = size;
   from = order;
@@ -68,7 +72,8 @@ stands_here xs first size v order long = record {
 }
 
 -- what stands from a place on stands there or behind it
-pub stands_or : (xs : List ℕ) (first last x : ℕ) → Stands xs first last x → (slice_index xs first ≡ x) ⊎ Stands xs (first + 1) last x
+pub stands_or : (xs : List ℕ) (first last x : ℕ) → Stands xs first last x →
+    (slice_index xs first ≡ x) ⊎ Stands xs (first + 1) last x
 stands_or xs first last x h = elim (cases_eq h.place first) [
   | inl e ↦ inl (ap (slice_index xs) (sym e) ∙ h.is)
   | inr ne ↦ inr record { place = h.place; from = omega (arith, h.from, ne); below = h.below; is = h.is }
@@ -202,12 +207,14 @@ pub record IsLooseWay (c : Contents) (way : List ℕ) (worn : ℕ → Type 0) (v
 -- a dry node is reached by a step
 pub tree_attach : (c : Contents) (way : List ℕ) (worn orphan free raw raw' : ℕ → Type 0) (v s : ℕ) →
     IsTreeBut c way worn orphan free raw → ((u : ℕ) → orphan u → ⊥) → v < c.nodes → word_of way v ≡ 0 →
-    IsLooseWay c way worn v s → ((u : ℕ) → raw u → raw' u) → raw' v → IsTreeBut c (slice_set way v (s + 1)) worn orphan free raw'
+    IsLooseWay c way worn v s → ((u : ℕ) → raw u → raw' u) → raw' v →
+    IsTreeBut c (slice_set way v (s + 1)) worn orphan free raw'
 tree_attach c way worn orphan free raw raw' v s t no_orphan b dry in_s more_raw here_raw =
     let long : v < length way = omega (arith, t.words) in
     let here = get_or-set_same way v (s + 1) 0 long in
     let other = λ (u : ℕ) (ne : u ≢ v). get_or-set_other way v u (s + 1) 0 ne in
-    let apart = λ (u : ℕ) (m : IsReached way u) (e : u ≡ v). let was : word_of way u ≡ word_of way v = ap (word_of way) e in
+    let apart = λ (u : ℕ) (m : IsReached way u) (e : u ≡ v). let was : word_of way u ≡ word_of way v =
+    ap (word_of way) e in
     let none : ⊥ = omega (arith, was, dry, m) in none in
     let kept = λ (u : ℕ) (m : IsReached way u). let same = other u (apart u m) in
     let now : IsReached (slice_set way v (s + 1)) u = omega (arith, same, m) in now in
@@ -219,7 +226,8 @@ tree_attach c way worn orphan free raw raw' v s t no_orphan b dry in_s more_raw 
       rank = ranked t.rank v (t.rank (start_of (network c) s) + 1);
       branch = λ u d m. elim (cases_eq u v) [
         | inl e ↦
-            let is : word_of (slice_set way v (s + 1)) u - 1 ≡ s = omega (arith, ap (word_of (slice_set way v (s + 1))) e, here) in
+            let is : word_of (slice_set way v (s + 1)) u - 1 ≡ s =
+            omega (arith, ap (word_of (slice_set way v (s + 1))) e, here) in
             subst (λ (x : ℕ). IsLooseBranch c (slice_set way v (s + 1)) orphan
             (ranked t.rank v (t.rank (start_of (network c) s) + 1)) u x) (sym is)
             record {
@@ -245,7 +253,8 @@ tree_attach c way worn orphan free raw raw' v s t no_orphan b dry in_s more_raw 
                 before = omega (
                   arith,
                   was.before,
-                  rest (start_of (network c) (word_of way u - 1)) (apart (start_of (network c) (word_of way u - 1)) reached),
+                  rest (start_of (network c) (word_of way u - 1))
+                      (apart (start_of (network c) (word_of way u - 1)) reached),
                   rest u ne,
                 );
                 marked = inl (kept (start_of (network c) (word_of way u - 1)) reached);
@@ -255,12 +264,14 @@ tree_attach c way worn orphan free raw raw' v s t no_orphan b dry in_s more_raw 
       ];
       room = λ u d m. elim (cases_eq u v) [
         | inl e ↦
-            let is : word_of (slice_set way v (s + 1)) u - 1 ≡ s = omega (arith, ap (word_of (slice_set way v (s + 1))) e, here) in
+            let is : word_of (slice_set way v (s + 1)) u - 1 ≡ s =
+            omega (arith, ap (word_of (slice_set way v (s + 1))) e, here) in
             subst (λ (x : ℕ). (0 < room_of (network c) (flow_of c) x) ⊎ worn x) (sym is) in_s.room
         | inr ne ↦
             let same = other u ne in
             let is : word_of (slice_set way v (s + 1)) u - 1 ≡ word_of way u - 1 = ap (λ (x : ℕ). x - 1) same in
-            subst (λ (x : ℕ). (0 < room_of (network c) (flow_of c) x) ⊎ worn x) (sym is) (t.room u d (omega (arith, same, m)))
+            subst (λ (x : ℕ). (0 < room_of (network c) (flow_of c) x)
+            ⊎ worn x) (sym is) (t.room u d (omega (arith, same, m)))
       ];
       closed = λ x a r m. elim (cases_eq (start_of (network c) x) v) [
         | inl e ↦ inr (inr (subst raw' (sym e) here_raw))

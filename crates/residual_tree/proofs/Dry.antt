@@ -1,6 +1,8 @@
 -- The dry nodes are the greatest tight cut of an arc that leads out of them.
-use Rattle.std.proofs.Common.{ℕ, zero, suc, Bool, false, not, nat_lt, ◌==◌, ◌&&◌, ◌≡◌, ◌≢◌, ◌+◌, ◌-◌, ◌*◌, ◌<◌, ◌≤◌, List, slice_index, arith, ap, sym, subst, inl, inr, ◌∙◌}
-use Rattle.std.proofs.lemmas.Bool.{ne_eqb, le-ltb, not-true, cases_lt, cases_eq, cases_Bool, and_from, and_parts, and_left, and_right, both_ways}
+use Rattle.std.proofs.Common.{ℕ, zero, suc, Bool, false, not, nat_lt, ◌==◌, ◌&&◌, ◌≡◌, ◌≢◌, ◌+◌, ◌-◌, ◌*◌, ◌<◌, ◌≤◌}
+use Rattle.std.proofs.Common.{List, slice_index, arith, ap, sym, subst, inl, inr, ◌∙◌}
+use Rattle.std.proofs.lemmas.Bool.{ne_eqb, le-ltb, not-true, cases_lt, cases_eq, cases_Bool, and_from, and_parts}
+use Rattle.std.proofs.lemmas.Bool.{and_left, and_right, both_ways}
 use Rattle.circulation.specs.Contents.{Contents, network, flow_of, arcs, IsCirculation}
 use Rattle.circulation.specs.Residual.{arc_of, start_of, end_of, room_of}
 use Rattle.augment.specs.Raised.{IsGreatestCut}
@@ -74,7 +76,13 @@ blocked c r s z full b ne out room = elim (over_either (network c) (flow_of c) s
 apart_from : (c : Contents) (way : List ℕ) (r s : ℕ) → word_of way (slice_index c.from r) ≡ 0 →
     IsReached way (start_of (network c) s) → IsReached way (end_of (network c) s) → arc_of s ≢ r
 apart_from c way r s none start end e = elim (over_either (network c) (flow_of c) s) [
-  | inl f ↦ omega (arith, ap (word_of way) f.1.starts, ap (λ (a : ℕ). word_of way (slice_index c.from a)) e, none, start)
+  | inl f ↦ omega (
+    arith,
+    ap (word_of way) f.1.starts,
+    ap (λ (a : ℕ). word_of way (slice_index c.from a)) e,
+    none,
+    start,
+  )
   | inr f ↦ omega (arith, ap (word_of way) f.1.enters, ap (λ (a : ℕ). word_of way (slice_index c.from a)) e, none, end)
 ]
 
@@ -93,7 +101,8 @@ reached_outside (suc n) c way r z k t full basin head none v b m less = elim (ca
       let earlier = reached_outside n c way r z k t full basin head none (start_of (network c) s)
       (start_within (network c) s k.ends branch.arc) marked (omega (arith, branch.before, less)) in
       elim (t.tree.room v inner m) [
-        | inl room ↦ sym (ap z branch.enters) ∙ blocked c r s z full branch.arc (apart_from c way r s none marked end) earlier room
+        | inl room ↦ sym (ap z branch.enters)
+            ∙ blocked c r s z full branch.arc (apart_from c way r s none marked end) earlier room
         | inr lent ↦ ap z (sym branch.enters ∙ ap (end_of (network c)) lent ∙ t.enters) ∙ head
       ]
   | inr outer ↦ basin v outer
@@ -142,7 +151,8 @@ dry_cut c way r k t b none head =
             | inl is ↦ set_from c.nodes (word_of way) v basin is
             | inr ne ↦ absurd (both_ways (z v)
                 (reached_outside (suc (t.tree.rank v)) c way r z k t
-                (saturated-from_tight (network c) r z (flow_of c) b k.flow tight) tight.cut.basin tight.cut.head none v (omega (arith, basin))
+                (saturated-from_tight (network c) r z (flow_of c) b k.flow tight) tight.cut.basin tight.cut.head none v
+                (omega (arith, basin))
                 (omega arith) (omega arith)) e)
           ];
     }

@@ -1,5 +1,6 @@
 -- Nodes are freed, one after another.
-use Rattle.std.proofs.Common.{ℕ, nat_lt, ◌≡◌, ◌≢◌, ◌+◌, ◌-◌, ◌<◌, ◌≤◌, List, length, replicate, slice_index, slice_set, refl, arith, ap, sym, subst, inl, inr, ◌∙◌}
+use Rattle.std.proofs.Common.{ℕ, nat_lt, ◌≡◌, ◌≢◌, ◌+◌, ◌-◌, ◌<◌, ◌≤◌, List, length, replicate, slice_index, slice_set}
+use Rattle.std.proofs.Common.{refl, arith, ap, sym, subst, inl, inr, ◌∙◌}
 use Rattle.std.proofs.lemmas.Bool.{cases_eq, cases_lt}
 use Rattle.std.proofs.lemmas.List.{get_or-set_other, get_or-set_same, get_or-replicate, length-set, length-replicate}
 use Rattle.place_sums.specs.Sums.{when}
@@ -9,8 +10,9 @@ use Rattle.circulation.specs.Residual.{arc_of, start_of, end_of, room_of}
 use Rattle.residual_tree.specs.declared.TheConstants.{ROOT}
 use Rattle.residual_tree.specs.Tree.{word_of, IsReached}
 use Rattle.residual_tree.specs.Growth.{Stands, none, IsFreeing, IsWornTree}
-use Rattle.residual_tree.proofs.Scans.{end_within}
-use Rattle.residual_tree.proofs.Changes.{count_most, count_freed, stands_more, stands_here, stands_or, freed_word, tree_free, tree_map}
+use Rattle.circulation.proofs.Scans.{end_within}
+use Rattle.residual_tree.proofs.Changes.{count_most, count_freed, stands_more, stands_here, stands_or, freed_word}
+use Rattle.residual_tree.proofs.Changes.{tree_free, tree_map}
 
 -- a node with a step is a basin node
 pub basin_end : (c : Contents) (way : List ℕ) (s v : ℕ) → IsCirculation c → arc_of s < arcs c → v ≤ c.nodes →

@@ -1,5 +1,6 @@
 -- Freed nodes are reached again.
-use Rattle.std.proofs.Common.{ℕ, ◌≢◌, ◌≡◌, ◌+◌, ◌-◌, ◌*◌, ◌<◌, ◌≤◌, ◌⊎◌, List, [], length, slice_index, slice_set, refl, arith, ap, sym, subst, inl, inr, ◌∙◌}
+use Rattle.std.proofs.Common.{ℕ, ◌≢◌, ◌≡◌, ◌+◌, ◌-◌, ◌*◌, ◌<◌, ◌≤◌, ◌⊎◌, List, [], length, slice_index, slice_set, refl}
+use Rattle.std.proofs.Common.{arith, ap, sym, subst, inl, inr, ◌∙◌}
 use Rattle.std.proofs.lemmas.Bool.{cases_eq}
 use Rattle.std.proofs.lemmas.List.{get_or-set_other, get_or-set_same, length-set}
 use Rattle.circulation.specs.Contents.{Contents, network, flow_of, arcs, IsCirculation}
@@ -7,9 +8,12 @@ use Rattle.circulation.specs.Residual.{arc_of, start_of, end_of, room_of}
 use Rattle.residual_tree.specs.declared.TheConstants.{ROOT}
 use Rattle.residual_tree.specs.Steps.{opposite}
 use Rattle.residual_tree.specs.Tree.{word_of, IsReached, IsResidualTree}
-use Rattle.residual_tree.specs.Growth.{Stands, none, only, no_step, IsFound, IsShut, IsFreeing, IsGrowing, IsWayIn, IsLentTree}
-use Rattle.residual_tree.proofs.Changes.{count_most, count_attached, stands_more, stands_here, stands_or, stands_nowhere, IsLooseWay, tree_attach, tree_map}
-use Rattle.residual_tree.proofs.Scans.{opposite_is, end_within}
+use Rattle.residual_tree.specs.Growth.{Stands, none, only, no_step, IsFound, IsShut, IsFreeing, IsGrowing, IsWayIn}
+use Rattle.residual_tree.specs.Growth.{IsLentTree}
+use Rattle.residual_tree.proofs.Changes.{count_most, count_attached, stands_more, stands_here, stands_or}
+use Rattle.residual_tree.proofs.Changes.{stands_nowhere, IsLooseWay, tree_attach, tree_map}
+use Rattle.circulation.proofs.Scans.{end_within}
+use Rattle.residual_tree.proofs.Opposites.{opposite_is}
 use Rattle.residual_tree.proofs.Overs.{over_backward}
 
 -- nothing is in none
@@ -71,13 +75,15 @@ growing_attach c lent way freed queue next count done size v s b g dry in_s =
               subst (λ (u : ℕ). IsReached (slice_set way v (s + 1)) u) (sym is) (omega (arith, here)),
             )
         | inr ne ↦
-            let is : slice_index (slice_set queue size v) k ≡ slice_index queue k = get_or-set_other queue size k v 0 ne in
+            let is : slice_index (slice_set queue size v) k ≡ slice_index queue k =
+            get_or-set_other queue size k v 0 ne in
             let was = g.marked k (omega arith) in (
               omega (arith, is, was.0),
-              subst (λ (u : ℕ). IsReached (slice_set way v (s + 1)) u) (sym is) (elim (cases_eq (slice_index queue k) v) [
-                | inl e ↦ absurd (omega (arith, ap (word_of way) e, dry, was.1))
-                | inr other ↦ omega (arith, get_or-set_other way v (slice_index queue k) (s + 1) 0 other, was.1)
-              ]),
+              subst (λ (u : ℕ). IsReached (slice_set way v (s + 1)) u) (sym is)
+                  (elim (cases_eq (slice_index queue k) v) [
+                    | inl e ↦ absurd (omega (arith, ap (word_of way) e, dry, was.1))
+                    | inr other ↦ omega (arith, get_or-set_other way v (slice_index queue k) (s + 1) 0 other, was.1)
+                  ]),
             )
       ];
       few = omega (arith, count_attached c.nodes v (s + 1) way b long dry (omega arith), g.few);
@@ -146,12 +152,17 @@ seed_fresh c old way freed queue found next count size v word b is is_word s dry
     let step : word ≡ word - 1 + 1 = omega arith in
     let before = subst (λ (u : ℕ). IsWayIn c old u (word - 1)) is ((s.ways next b).some (word - 1) (is_word ∙ step)) in
     let grows = growing_attach c (no_step c) way freed queue next count 0 size v (word - 1) inner s.grows dry
-    record { arc = before.arc; enters = before.enters; marked = s.kept (start_of (network c) (word - 1)) before.marked; room = inl before.room } in
+    record {
+      arc = before.arc;
+      enters = before.enters;
+      marked = s.kept (start_of (network c) (word - 1)) before.marked;
+      room = inl before.room;
+    } in
     let here = get_or-set_same way v word 0 long in
     seed_past c old (slice_set way v word) freed (slice_set queue size v) found next count (size + 1) v is
     record {
-      grows = subst (λ (n : ℕ). IsGrowing c (no_step c) (slice_set way v n) freed (slice_set queue size v) next count 0 (size + 1))
-          (sym step) grows;
+      grows = subst (λ (n : ℕ). IsGrowing c (no_step c) (slice_set way v n) freed (slice_set queue size v) next count 0
+          (size + 1)) (sym step) grows;
       ways = s.ways;
       kept = λ u m. elim (cases_eq u v) [
         | inl e ↦ omega (arith, ap (word_of (slice_set way v word)) e, here, some)
@@ -174,7 +185,8 @@ pub seeding_next : (c : Contents) (old way way' freed queue queue' found : List 
     IsSeeding c old way freed queue found next count size →
     (word ≡ 0 → (size' ≡ size) × (way' ≡ way) × (queue' ≡ queue)) →
     (IsReached way v → (size' ≡ size) × (way' ≡ way) × (queue' ≡ queue)) →
-    (0 < word → word_of way v ≡ 0 → (size' ≡ size + 1) × (way' ≡ slice_set way v word) × (queue' ≡ slice_set queue size v)) →
+    (0 < word → word_of way v ≡ 0 → (size' ≡ size + 1) × (way' ≡ slice_set way v word)
+    × (queue' ≡ slice_set queue size v)) →
     IsSeeding c old way' freed queue' found (next + 1) count size'
 seeding_next c old way way' freed queue queue' found next count size size' v word b is is_word s skipped seen fresh =
     elim (cases_eq (word_of way v) 0) [
@@ -187,8 +199,10 @@ seeding_next c old way way' freed queue queue' found next count size size' v wor
         | inr some ↦
             let e = fresh (omega arith) dry in
             subst (λ (x : List ℕ). IsSeeding c old x freed queue' found (next + 1) count size') (sym e.1)
-            (subst (λ (x : List ℕ). IsSeeding c old (slice_set way v word) freed x found (next + 1) count size') (sym e.2)
-            (subst (λ (n : ℕ). IsSeeding c old (slice_set way v word) freed (slice_set queue size v) found (next + 1) count n) (sym e.0)
+            (subst (λ (x : List ℕ). IsSeeding c old (slice_set way v word) freed x found (next + 1) count size')
+            (sym e.2)
+            (subst (λ (n : ℕ). IsSeeding c old (slice_set way v word) freed (slice_set queue size v) found (next + 1)
+            count n) (sym e.0)
             (seed_fresh c old way freed queue found next count size v word b is is_word s dry (omega arith))))
       ]
       | inr ne ↦
@@ -235,10 +249,11 @@ pub record IsSpreading (c : Contents) (lent : ℕ) (way queue : List ℕ) (done 
   pub reached : IsReached way node
 
 -- a step was tried
-pub record IsReachedEnd (c : Contents) (lent : ℕ) (way queue way' queue' : List ℕ) (done size size' node s : ℕ) : Type 0 where
-  pub next : IsSpreading c lent way' queue' done size' node
-  pub more : (u : ℕ) → IsReached way u → IsReached way' u
-  pub here : IsTried c way' s
+pub record IsReachedEnd (c : Contents) (lent : ℕ) (way queue way' queue' : List ℕ) (done size size' node s : ℕ) : Type 0
+  where
+    pub next : IsSpreading c lent way' queue' done size' node
+    pub more : (u : ℕ) → IsReached way u → IsReached way' u
+    pub here : IsTried c way' s
 
 -- nothing is to be reached by the step
 tried_already : (c : Contents) (lent : ℕ) (way queue way' queue' : List ℕ) (done size size' node s : ℕ) →
@@ -254,8 +269,8 @@ tried_already c lent way queue way' queue' done size size' node s p tried e =
 tried_fresh : (c : Contents) (lent : ℕ) (way queue : List ℕ) (done size node s : ℕ) → end_of (network c) s < c.nodes →
     IsSpreading c lent way queue done size node → arc_of s < arcs c → start_of (network c) s ≡ node →
     word_of way (end_of (network c) s) ≡ 0 → 0 < room_of (network c) (flow_of c) s →
-    IsReachedEnd c lent way queue (slice_set way (end_of (network c) s) (s + 1)) (slice_set queue size (end_of (network c) s))
-    done size (size + 1) node s
+    IsReachedEnd c lent way queue (slice_set way (end_of (network c) s) (s + 1))
+    (slice_set queue size (end_of (network c) s)) done size (size + 1) node s
 tried_fresh c lent way queue done size node s inner p b starts dry room =
     let v = end_of (network c) s in
     let long : v < length way = omega (arith, p.state.tree.words, inner) in
@@ -267,7 +282,12 @@ tried_fresh c lent way queue done size node s inner p b starts dry room =
     record {
       next = record {
         state = growing_attach c lent way [] queue 0 0 done size v s inner p.state dry
-            record { arc = b; enters = refl; marked = subst (λ (u : ℕ). IsReached way u) (sym starts) p.reached; room = inl room };
+            record {
+              arc = b;
+              enters = refl;
+              marked = subst (λ (u : ℕ). IsReached way u) (sym starts) p.reached;
+              room = inl room;
+            };
         stands = get_or-set_other queue size done v 0 (λ e. absurd (omega (arith, order, e))) ∙ p.stands;
         order = omega (arith, order);
         reached = more node p.reached;
@@ -287,23 +307,24 @@ inner_end c way s k b root dry =
     ]
 
 -- a step was tried, and its end reached if it has room and the end was dry
-pub spreading_next : (c : Contents) (lent : ℕ) (way queue way' queue' : List ℕ) (done size size' node s : ℕ) → IsCirculation c →
-    IsSpreading c lent way queue done size node → arc_of s < arcs c → start_of (network c) s ≡ node →
-    (word_of way (end_of (network c) s) ≡ 0 → 0 < room_of (network c) (flow_of c) s →
-    (size' ≡ size + 1) × (way' ≡ slice_set way (end_of (network c) s) (s + 1)) ×
-    (queue' ≡ slice_set queue size (end_of (network c) s))) →
+pub spreading_next : (c : Contents) (lent : ℕ) (way queue way' queue' : List ℕ) (done size size' node s : ℕ) →
+    IsCirculation c → IsSpreading c lent way queue done size node → arc_of s < arcs c → start_of (network c) s ≡ node →
+    (word_of way (end_of (network c) s) ≡ 0 → 0 < room_of (network c) (flow_of c) s → (size' ≡ size + 1)
+    × (way' ≡ slice_set way (end_of (network c) s) (s + 1)) × (queue' ≡ slice_set queue size (end_of (network c) s))) →
     (IsReached way (end_of (network c) s) → (size' ≡ size) × (way' ≡ way) × (queue' ≡ queue)) →
     (room_of (network c) (flow_of c) s ≡ 0 → (size' ≡ size) × (way' ≡ way) × (queue' ≡ queue)) →
     IsReachedEnd c lent way queue way' queue' done size size' node s
 spreading_next c lent way queue way' queue' done size size' node s k p b starts fresh seen full =
     elim (cases_eq (word_of way (end_of (network c) s)) 0) [
       | inl dry ↦ elim (cases_eq (room_of (network c) (flow_of c) s) 0) [
-        | inl none ↦ tried_already c lent way queue way' queue' done size size' node s p (λ r. absurd (omega (arith, none, r))) (full none)
+        | inl none ↦ tried_already c lent way queue way' queue' done size size' node s p
+            (λ r. absurd (omega (arith, none, r))) (full none)
         | inr room ↦
             let e = fresh dry (omega arith) in
             let inner = inner_end c way s k b p.state.tree.root dry in
             subst (λ (x : List ℕ). IsReachedEnd c lent way queue x queue' done size size' node s) (sym e.1)
-            (subst (λ (x : List ℕ). IsReachedEnd c lent way queue (slice_set way (end_of (network c) s) (s + 1)) x done size size' node s) (sym e.2)
+            (subst (λ (x : List ℕ). IsReachedEnd c lent way queue (slice_set way (end_of (network c) s) (s + 1)) x done
+            size size' node s) (sym e.2)
             (subst (λ (n : ℕ). IsReachedEnd c lent way queue (slice_set way (end_of (network c) s) (s + 1))
             (slice_set queue size (end_of (network c) s)) done size n node s) (sym e.0)
             (tried_fresh c lent way queue done size node s inner p b starts dry (omega arith))))
@@ -314,7 +335,8 @@ spreading_next c lent way queue way' queue' done size size' node s k p b starts 
     ]
 
 -- all steps of the node were tried
-pub spreading_end : (c : Contents) (lent : ℕ) (way queue : List ℕ) (done size node : ℕ) → IsSpreading c lent way queue done size node →
+pub spreading_end : (c : Contents) (lent : ℕ) (way queue : List ℕ) (done size node : ℕ) →
+    IsSpreading c lent way queue done size node →
     ((s : ℕ) → arc_of s < arcs c → start_of (network c) s ≡ node → IsTried c way s) →
     IsGrowing c lent way [] queue 0 0 (done + 1) size
 spreading_end c lent way queue done size node p tried = record {
@@ -390,20 +412,21 @@ lent_marked c way lent v t b m = elim (t.branch v b m).marked [ inl reached ↦ 
 
 -- a tree with a lent step is closed
 pub lent_closed : (c : Contents) (way : List ℕ) (lent s : ℕ) → IsLentTree c way lent → arc_of s < arcs c →
-    0 < room_of (network c) (flow_of c) s → IsReached way (start_of (network c) s) → IsReached way (end_of (network c) s)
+    0 < room_of (network c) (flow_of c) s → IsReached way (start_of (network c) s) →
+    IsReached way (end_of (network c) s)
 lent_closed c way lent s t b room m = elim (t.closed s b room m) [
   | inl reached ↦ reached
   | inr o ↦ elim o [ inl free ↦ absurd free | inr raw ↦ absurd raw ]
 ]
 
 -- the head of an arc is reached by a lent step
-pub lend_start : (c : Contents) (way queue : List ℕ) (v s : ℕ) → IsResidualTree c way → length queue ≡ c.nodes → v < c.nodes →
-    word_of way v ≡ 0 → arc_of s < arcs c → end_of (network c) s ≡ v → start_of (network c) s ≡ c.nodes →
+pub lend_start : (c : Contents) (way queue : List ℕ) (v s : ℕ) → IsResidualTree c way → length queue ≡ c.nodes →
+    v < c.nodes → word_of way v ≡ 0 → arc_of s < arcs c → end_of (network c) s ≡ v → start_of (network c) s ≡ c.nodes →
     IsGrowing c s (slice_set way v (s + 1)) [] (slice_set queue 0 v) 0 0 0 1
 lend_start c way queue v s t places b dry arc enters starts =
     growing_attach c s way [] queue 0 0 0 0 v s b record {
-      tree = tree_map c way (only s) none none none (only s) none (Stands [] 0 0) (Stands queue 0 0) (lent_some c way s t)
-          (λ u d m e o. inr o)
+      tree = tree_map c way (only s) none none none (only s) none (Stands [] 0 0) (Stands queue 0 0)
+          (lent_some c way s t) (λ u d m e o. inr o)
           (λ u x d e f g o. o)
           (λ x d r m o. elim o [ inl free ↦ absurd free | inr raw ↦ absurd raw ]);
       order = omega arith;
@@ -434,7 +457,8 @@ shut_end c way v shut s in_s =
 
 -- a step that was turned is a way in
 pub way_in : (c : Contents) (way : List ℕ) (v s : ℕ) → arc_of s < arcs c → start_of (network c) s ≡ v →
-    IsReached way (end_of (network c) s) → 0 < room_of (network c) (flow_of c) (opposite s) → IsWayIn c way v (opposite s)
+    IsReached way (end_of (network c) s) → 0 < room_of (network c) (flow_of c) (opposite s) →
+    IsWayIn c way v (opposite s)
 way_in c way v s b starts m room =
     let o = opposite_is (network c) s in
     record {
@@ -466,23 +490,27 @@ pub record IsLending (c : Contents) (way queue : List ℕ) (x size : ℕ) : Type
   pub grows : IsGrowing c (word_of way (slice_index queue 0) - 1) way [] queue 0 0 0 size
 
 -- the lent step is that of the first node among those reached
-pub lending : (c : Contents) (way queue way' queue' : List ℕ) (x v s size : ℕ) → IsCirculation c → IsResidualTree c way →
-    length queue ≡ c.nodes → x < arcs c → slice_index c.to x ≡ c.nodes → word_of way (slice_index c.from x) ≡ 0 →
-    v ≡ slice_index c.from x → s ≡ 2 * x + 1 → way' ≡ slice_set way v (s + 1) → queue' ≡ slice_set queue 0 v → size ≡ 1 →
-    IsLending c way' queue' x size
+pub lending : (c : Contents) (way queue way' queue' : List ℕ) (x v s size : ℕ) → IsCirculation c →
+    IsResidualTree c way → length queue ≡ c.nodes → x < arcs c → slice_index c.to x ≡ c.nodes →
+    word_of way (slice_index c.from x) ≡ 0 → v ≡ slice_index c.from x → s ≡ 2 * x + 1 → way' ≡ slice_set way v (s + 1) →
+    queue' ≡ slice_set queue 0 v → size ≡ 1 → IsLending c way' queue' x size
 lending c way queue way' queue' x v s size k t places b out dry node step made made' one =
     let o = over_backward (network c) (flow_of c) x in
     let within = k.ends.from_in x b in
     let ne : slice_index c.from x ≢ c.nodes = λ e. k.ends.apart x b (e ∙ sym out) in
     let inner : slice_index c.from x < c.nodes = omega (arith, within, ne) in
-    let way_is = made ∙ ap (λ (u : ℕ). slice_set way u (s + 1)) node ∙ ap (λ (n : ℕ). slice_set way (slice_index c.from x) (n + 1)) step in
+    let way_is = made ∙ ap (λ (u : ℕ). slice_set way u (s + 1)) node
+    ∙ ap (λ (n : ℕ). slice_set way (slice_index c.from x) (n + 1)) step in
     let queue_is = made' ∙ ap (λ (u : ℕ). slice_set queue 0 u) node in
     let first : slice_index queue' 0 ≡ slice_index c.from x =
-    ap (λ (xs : List ℕ). slice_index xs 0) queue_is ∙ get_or-set_same queue 0 (slice_index c.from x) 0 (omega (arith, places, inner)) in
-    let own : word_of way' (slice_index c.from x) ≡ 2 * x + 1 + 1 = ap (λ (xs : List ℕ). slice_index xs (slice_index c.from x)) way_is
+    ap (λ (xs : List ℕ). slice_index xs 0) queue_is
+    ∙ get_or-set_same queue 0 (slice_index c.from x) 0 (omega (arith, places, inner)) in
+    let own : word_of way' (slice_index c.from x) ≡ 2 * x + 1 + 1 =
+    ap (λ (xs : List ℕ). slice_index xs (slice_index c.from x)) way_is
     ∙ get_or-set_same way (slice_index c.from x) (2 * x + 1 + 1) 0 (omega (arith, t.words, inner)) in
     let is : word_of way' (slice_index queue' 0) - 1 ≡ 2 * x + 1 = omega (arith, ap (word_of way') first, own) in
-    let grows = lend_start c way queue (slice_index c.from x) (2 * x + 1) t places inner dry (omega (arith, o.arc, b)) o.enters
+    let grows = lend_start c way queue (slice_index c.from x) (2 * x + 1) t places inner dry (omega (arith, o.arc, b))
+    o.enters
     (o.starts ∙ out) in
     record {
       lent = is;
@@ -490,6 +518,7 @@ lending c way queue way' queue' x v s size k t places b out dry node step made m
       grows = subst (λ (n : ℕ). IsGrowing c n way' [] queue' 0 0 0 size) (sym is)
           (subst (λ (n : ℕ). IsGrowing c (2 * x + 1) way' [] queue' 0 0 0 n) (sym one)
           (subst (λ (xs : List ℕ). IsGrowing c (2 * x + 1) xs [] queue' 0 0 0 1) (sym way_is)
-          (subst (λ (xs : List ℕ). IsGrowing c (2 * x + 1) (slice_set way (slice_index c.from x) (2 * x + 1 + 1)) [] xs 0 0 0 1)
+          (subst (λ (xs : List ℕ). IsGrowing c (2 * x + 1) (slice_set way (slice_index c.from x) (2 * x + 1 + 1)) [] xs
+          0 0 0 1)
           (sym queue_is) grows)));
     }

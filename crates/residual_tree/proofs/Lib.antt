@@ -1,5 +1,5 @@
 pub mod Marked
-pub mod Scans
+pub mod Opposites
 pub mod Changes
 pub mod Frees
 pub mod Grows

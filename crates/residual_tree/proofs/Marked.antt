@@ -1,5 +1,6 @@
 -- What is written to the words of the nodes, and to the marks beside them.
-use Rattle.std.proofs.Common.{ℕ, true, ◌≡◌, ◌==◌, ◌+◌, ◌-◌, ◌/◌, ◌%◌, ◌^◌, ◌<◌, List, length, replicate, arith, ap, sym, subst, ◌∙◌}
+use Rattle.std.proofs.Common.{ℕ, true, ◌≡◌, ◌==◌, ◌+◌, ◌-◌, ◌/◌, ◌%◌, ◌^◌, ◌<◌, List, length, replicate, arith, ap, sym}
+use Rattle.std.proofs.Common.{subst, ◌∙◌}
 use Rattle.std.specs.Int.{bit_at}
 use Rattle.std.proofs.lemmas.List.{get_or-replicate, length-replicate}
 use Rattle.std.proofs.lemmas.Nat.Bits.{bit_at_ones}

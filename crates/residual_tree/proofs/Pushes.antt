@@ -1,5 +1,6 @@
 -- What a push and a hold do to the tree.
-use Rattle.std.proofs.Common.{ℕ, zero, suc, Bool, not, max, ◌≡◌, ◌≢◌, ◌+◌, ◌-◌, ◌*◌, ◌<◌, ◌≤◌, ◌⊎◌, List, length, slice_index, slice_set, refl, arith, ap, sym, subst, inl, inr, ◌∙◌}
+use Rattle.std.proofs.Common.{ℕ, zero, suc, Bool, not, max, ◌≡◌, ◌≢◌, ◌+◌, ◌-◌, ◌*◌, ◌<◌, ◌≤◌, ◌⊎◌, List, length}
+use Rattle.std.proofs.Common.{slice_index, slice_set, refl, arith, ap, sym, subst, inl, inr, ◌∙◌}
 use Rattle.std.proofs.lemmas.Bool.{cases_eq}
 use Rattle.place_sums.specs.Sums.{when}
 use Rattle.circulation.specs.Network.{Network}
@@ -79,12 +80,14 @@ same_room : (c : Contents) (lower flow : List ℕ) (s : ℕ) → slice_index flo
     room_of (network (record c { lower = lower; flow = flow })) (slice_index flow) s ≡ room_of (network c) (flow_of c) s
 same_room c lower flow s f l =
     ap (λ (x : ℕ). by_way (is_back s) (slice_index c.upper (arc_of s) - x) (x - slice_index lower (arc_of s))) f
-    ∙ ap (λ (x : ℕ). by_way (is_back s) (slice_index c.upper (arc_of s) - flow_of c (arc_of s)) (flow_of c (arc_of s) - x)) l
+    ∙ ap (λ (x : ℕ). by_way (is_back s) (slice_index c.upper (arc_of s) - flow_of c (arc_of s))
+    (flow_of c (arc_of s) - x)) l
 
 -- a step against a step of the walk gains room
 gains : (c : Contents) (lower flow : List ℕ) (s t amount : ℕ) → arc_of s ≡ arc_of t → s ≢ t → 0 < amount →
-    slice_index lower (arc_of s) ≡ slice_index c.lower (arc_of s) → slice_index c.lower (arc_of s) ≤ flow_of c (arc_of s) →
-    flow_of c (arc_of s) ≤ slice_index c.upper (arc_of s) → amount ≤ room_of (network c) (flow_of c) t →
+    slice_index lower (arc_of s) ≡ slice_index c.lower (arc_of s) →
+    slice_index c.lower (arc_of s) ≤ flow_of c (arc_of s) → flow_of c (arc_of s) ≤ slice_index c.upper (arc_of s) →
+    amount ≤ room_of (network c) (flow_of c) t →
     slice_index flow (arc_of t) + when (is_back t) amount ≡ flow_of c (arc_of t) + when (not (is_back t)) amount →
     0 < room_of (network (record c { lower = lower; flow = flow })) (slice_index flow) s
 gains c lower flow s t amount e ne positive l low high room on =
@@ -96,12 +99,14 @@ gains c lower flow s t amount e ne positive l low high room on =
       | inl f ↦ elim (over_either (network c) (flow_of c) t) [
         | inl h ↦ absurd (ne (f.0 ∙ ap (λ (a : ℕ). 2 * a) e ∙ sym h.0))
         | inr h ↦
-            let moved = subst (λ (b : Bool). slice_index flow (arc_of t) + when b amount ≡ flow_of c (arc_of t) + when (not b) amount) h.1.way on in
+            let moved = subst (λ (b : Bool). slice_index flow (arc_of t) + when b amount
+            ≡ flow_of c (arc_of t) + when (not b) amount) h.1.way on in
             omega (arith, f.1.room, h.1.room, room, moved, flow_at, old_at, upper_at, lower_at, l, low, high, positive)
       ]
       | inr f ↦ elim (over_either (network c) (flow_of c) t) [
         | inl h ↦
-            let moved = subst (λ (b : Bool). slice_index flow (arc_of t) + when b amount ≡ flow_of c (arc_of t) + when (not b) amount) h.1.way on in
+            let moved = subst (λ (b : Bool). slice_index flow (arc_of t) + when b amount
+            ≡ flow_of c (arc_of t) + when (not b) amount) h.1.way on in
             omega (arith, f.1.room, h.1.room, room, moved, flow_at, old_at, upper_at, lower_at, l, low, high, positive)
         | inr h ↦ absurd (ne (f.0 ∙ ap (λ (a : ℕ). 2 * a + 1) e ∙ sym h.0))
       ]
@@ -155,8 +160,9 @@ pushed_worn c way lower flow r first last amount k t walk pushed forward ends he
                       held,
                     ))
                   ]
-                  | inr other ↦ inl (gains c lower flow s (step_of c on.place) amount (sym on.arc) (λ e. ne (sym e)) walk.positive
-                      (lowers (arc_of s) other) (k.flow.low (arc_of s) was.arc) (k.flow.high (arc_of s) was.arc) (walk.room on.place on.from on.below)
+                  | inr other ↦ inl (gains c lower flow s (step_of c on.place) amount (sym on.arc) (λ e. ne (sym e))
+                      walk.positive (lowers (arc_of s) other) (k.flow.low (arc_of s) was.arc)
+                      (k.flow.high (arc_of s) was.arc) (walk.room on.place on.from on.below)
                       (pushed.on on.place on.from on.below))
                 ]
               ]
@@ -191,7 +197,13 @@ held_worn c way lower r at t is lowers more = record {
           | inr h ↦ absurd (omega (arith, f.0, h.0))
         ]
         | inr f ↦ elim (cases_eq (arc_of s) r) [
-          | inl own ↦ inr record { place = at; from = omega arith; below = omega arith; is = is ∙ ap (λ (a : ℕ). 2 * a + 1) (sym own) ∙ sym f.0 }
+          | inl own ↦ inr record {
+            place = at;
+            from = omega arith;
+            below = omega arith;
+            is = is
+                ∙ ap (λ (a : ℕ). 2 * a + 1) (sym own) ∙ sym f.0;
+          }
           | inr other ↦ inl (omega (arith, same_room c lower c.flow s refl (lowers (arc_of s) other), was.room))
         ]
       ];
@@ -203,7 +215,15 @@ held_worn c way lower r at t is lowers more = record {
       ]
       | inr f ↦ elim (over_either (network (record c { lower = lower })) (flow_of c) s) [
         | inl h ↦ absurd (omega (arith, f.0, h.0))
-        | inr h ↦ omega (arith, f.1.room, h.1.room, room, ap (slice_index lower) own, ap (slice_index c.lower) own, more)
+        | inr h ↦ omega (
+          arith,
+          f.1.room,
+          h.1.room,
+          room,
+          ap (slice_index lower) own,
+          ap (slice_index c.lower) own,
+          more,
+        )
       ]
     ]
     | inr other ↦ omega (arith, same_room c lower c.flow s refl (lowers (arc_of s) other), room)
@@ -211,7 +231,8 @@ held_worn c way lower r at t is lowers more = record {
 }
 
 -- the tree does not depend on the scratch words
-pub tree_over : (c : Contents) (way scratch : List ℕ) → IsResidualTree c way → IsResidualTree (record c { scratch = scratch }) way
+pub tree_over : (c : Contents) (way scratch : List ℕ) → IsResidualTree c way →
+    IsResidualTree (record c { scratch = scratch }) way
 tree_over c way scratch t = record {
   words = t.words;
   root = t.root;
@@ -223,22 +244,24 @@ tree_over c way scratch t = record {
 }
 
 -- after a hold on an arc, whose step back was written down
-pub hold_worn : (c d e : Contents) (way : List ℕ) (r amount s : ℕ) → IsCirculation c → IsResidualTree c way → r < arcs c →
-    s ≡ 2 * r + 1 → d ≡ record c { scratch = slice_set c.scratch 0 s } → e ≡ held_contents d r amount → IsWornTree e way 0 1
+pub hold_worn : (c d e : Contents) (way : List ℕ) (r amount s : ℕ) → IsCirculation c → IsResidualTree c way →
+    r < arcs c → s ≡ 2 * r + 1 → d ≡ record c { scratch = slice_set c.scratch 0 s } → e ≡ held_contents d r amount →
+    IsWornTree e way 0 1
 hold_worn c d e way r amount s k t b is written held =
     let long : r < length c.lower = omega (arith, k.shape.lower, b) in
     let now = held ∙ ap (λ (x : Contents). held_contents x r amount) written in
     let more = max (slice_index c.lower r) amount in
     let here = get_or-set_same c.lower r more 0 long in
-    let at : slice_index (slice_set c.scratch 0 s) 0 ≡ 2 * r + 1 = get_or-set_same c.scratch 0 s 0 (omega (arith, k.shape.scratch)) ∙ is in
+    let at : slice_index (slice_set c.scratch 0 s) 0 ≡ 2 * r + 1 =
+    get_or-set_same c.scratch 0 s 0 (omega (arith, k.shape.scratch)) ∙ is in
     subst (λ (x : Contents). IsWornTree x way 0 1) (sym now)
     (held_worn (record c { scratch = slice_set c.scratch 0 s }) way (slice_set c.lower r more) r 0
     (tree_over c way (slice_set c.scratch 0 s) t) at
     (λ a ne. get_or-set_other c.lower r a more 0 ne) (omega (arith, here)))
 
 -- a tree that is repaired does not depend on the scratch words
-pub but_over : (c : Contents) (way scratch : List ℕ) (worn orphan free raw : ℕ → Type 0) → IsTreeBut c way worn orphan free raw →
-    IsTreeBut (record c { scratch = scratch }) way worn orphan free raw
+pub but_over : (c : Contents) (way scratch : List ℕ) (worn orphan free raw : ℕ → Type 0) →
+    IsTreeBut c way worn orphan free raw → IsTreeBut (record c { scratch = scratch }) way worn orphan free raw
 but_over c way scratch worn orphan free raw t = record {
   words = t.words;
   root = t.root;
@@ -259,12 +282,13 @@ residual_lent c way r t = record {
 }
 
 -- the lent step was written in front of the walk
-pub worn_written : (c : Contents) (way : List ℕ) (first first' last lent : ℕ) → first' + 1 ≡ first → first ≤ length c.scratch →
-    first ≤ last → IsTreeBut c way (IsWorn c.scratch first last lent) none none none →
+pub worn_written : (c : Contents) (way : List ℕ) (first first' last lent : ℕ) → first' + 1 ≡ first →
+    first ≤ length c.scratch → first ≤ last → IsTreeBut c way (IsWorn c.scratch first last lent) none none none →
     IsWornTree (record c { scratch = slice_set c.scratch (first - 1) lent }) way first' last
 worn_written c way first first' last lent before long order t =
     let place : first - 1 ≡ first' = omega arith in
-    tree_map (record c { scratch = slice_set c.scratch (first - 1) lent }) way (IsWorn c.scratch first last lent) none none none
+    tree_map (record c { scratch = slice_set c.scratch (first - 1) lent }) way (IsWorn c.scratch first last lent) none
+    none none
     (Stands (slice_set c.scratch (first - 1) lent) first' last) none none none
     (but_over c way (slice_set c.scratch (first - 1) lent) (IsWorn c.scratch first last lent) none none none t)
     (λ u d m e o. elim o [
@@ -272,7 +296,8 @@ worn_written c way first first' last lent before long order t =
         place = stands.place;
         from = omega (arith, stands.from);
         below = stands.below;
-        is = get_or-set_other c.scratch (first - 1) stands.place lent 0 (λ f. absurd (omega (arith, stands.from, f))) ∙ stands.is;
+        is = get_or-set_other c.scratch (first - 1) stands.place lent 0 (λ f. absurd (omega (arith, stands.from, f)))
+            ∙ stands.is;
       }
       | inr own ↦ inr record {
         place = first';
@@ -296,7 +321,8 @@ stopped_tree c d way way' t rest same =
 pub settle_worn : (c d : Contents) (way : List ℕ) (lent s : ℕ) → IsCirculation c → IsLentTree c way lent → s ≡ lent →
     d ≡ record c { scratch = slice_set c.scratch 0 s } → IsWornTree d way 0 1
 settle_worn c d way lent s k t is written =
-    let at : slice_index (slice_set c.scratch 0 s) 0 ≡ lent = get_or-set_same c.scratch 0 s 0 (omega (arith, k.shape.scratch)) ∙ is in
+    let at : slice_index (slice_set c.scratch 0 s) 0 ≡ lent =
+    get_or-set_same c.scratch 0 s 0 (omega (arith, k.shape.scratch)) ∙ is in
     subst (λ (x : Contents). IsWornTree x way 0 1) (sym written)
     (tree_map (record c { scratch = slice_set c.scratch 0 s }) way (only lent) none none none
     (Stands (slice_set c.scratch 0 s) 0 1) none none none
@@ -306,8 +332,8 @@ settle_worn c d way lent s k t is written =
     (λ s b r m o. inr o))
 
 -- a tree with a lent step stays where only scratch words were written
-pub stopped_lent : (c d : Contents) (way way' : List ℕ) (lent : ℕ) → IsLentTree c way lent → SameButScratch c d → way' ≡ way →
-    IsLentTree d way' lent
+pub stopped_lent : (c d : Contents) (way way' : List ℕ) (lent : ℕ) → IsLentTree c way lent → SameButScratch c d →
+    way' ≡ way → IsLentTree d way' lent
 stopped_lent c d way way' lent t rest same =
     subst (λ (x : List ℕ). IsLentTree d x lent) (sym same)
     (subst (λ (x : Contents). IsLentTree x way lent) (sym rest) (but_over c way d.scratch (only lent) none none none t))

@@ -26,7 +26,11 @@ unfolding counted
 counted_not x y b = ap (λ (t : Bool). if t then 1 else 0) (le-ltb x y b)
 
 counted_one : (x y : ℕ) → counted x y ≤ 1
-counted_one x y = elim (cases_lt x y) [ inl b ↦ omega (arith, counted_less x y b) | inr b ↦ omega (arith, counted_not x y b) ]
+counted_one x y = elim (cases_lt x y) [
+  | inl b ↦ omega (arith, counted_less x y b)
+  | inr b ↦
+      omega (arith, counted_not x y b)
+]
 
 counted_more : (x y z : ℕ) → y ≤ z → counted x y ≤ counted x z
 counted_more x y z b = elim (cases_lt x y) [

@@ -16,21 +16,23 @@ use Rattle.residual_tree.proofs.Dry.{dry_cut}
 use Rattle.residual_tree.proofs.Pushes.{residual_lent, stopped_tree}
 
 -- along the tree
-walk_from : (n : ℕ) (c : Contents) (way : List ℕ) → IsCirculation c → (t : IsResidualTree c way) → (v : ℕ) → v ≤ c.nodes →
-    IsReached way v → t.rank v < n → (path : List ℕ) × IsWalkTo c v path
+walk_from : (n : ℕ) (c : Contents) (way : List ℕ) → IsCirculation c → (t : IsResidualTree c way) → (v : ℕ) →
+    v ≤ c.nodes → IsReached way v → t.rank v < n → (path : List ℕ) × IsWalkTo c v path
 walk_from zero c way k t v b m less = absurd (omega arith)
 walk_from (suc n) c way k t v b m less = elim (cases_lt v c.nodes) [
   | inl inner ↦
       let branch = t.branch v inner m in
       let s = word_of way v - 1 in
-      let before = walk_from n c way k t (start_of (network c) s) (start_within (network c) s k.ends branch.arc) branch.marked
+      let before = walk_from n c way k t (start_of (network c) s) (start_within (network c) s k.ends branch.arc)
+      branch.marked
       (omega (arith, branch.before, less)) in
       (s ∷ before.0, (branch.arc, branch.enters, branch.room, before.1))
   | inr outer ↦ let e : v ≡ c.nodes = omega arith in ([], e)
 ]
 
 -- along a walk
-reached_by : (c : Contents) (way : List ℕ) → IsResidualTree c way → (v : ℕ) (path : List ℕ) → IsWalkTo c v path → IsReached way v
+reached_by : (c : Contents) (way : List ℕ) → IsResidualTree c way → (v : ℕ) (path : List ℕ) → IsWalkTo c v path →
+    IsReached way v
 reached_by c way t v [] e = omega (arith, ap (word_of way) e, t.root)
 reached_by c way t v (s ∷ path) walk =
     subst (λ (u : ℕ). IsReached way u) walk.1
@@ -58,28 +60,34 @@ dry_is_greatest_cut_lem c way r k t b none head = dry_cut c way r k (residual_le
 same_out : (old new : Contents) (r : ℕ) (y : ℕ → Bool) → IsRaisedOver old new r →
     cut_out (network new) r y ≡ cut_out (network old) r y
 same_out old new r y raised =
-    ap (λ (x : Contents). total (arcs x) (λ a. when (leaves (network x) y a && not (a == r)) (slice_index new.lower a))) raised.rest
+    ap (λ (x : Contents). total (arcs x) (λ a. when (leaves (network x) y a && not (a == r)) (slice_index new.lower a)))
+    raised.rest
     ∙ total_same (arcs old) _ _ (λ a b. elim (cases_eq a r) [
       | inl e ↦
-          let off : (leaves (network old) y a && not (a == r)) ≡ false = and_right (leaves (network old) y a) (not (a == r))
+          let off : (leaves (network old) y a && not (a == r)) ≡ false =
+          and_right (leaves (network old) y a) (not (a == r))
           (ap not (eq-eqb a r e)) in
-          ap (λ (t : Bool). when t (slice_index new.lower a)) off ∙ sym (ap (λ (t : Bool). when t (slice_index old.lower a)) off)
+          ap (λ (t : Bool). when t (slice_index new.lower a)) off
+          ∙ sym (ap (λ (t : Bool). when t (slice_index old.lower a)) off)
       | inr ne ↦ ap (when (leaves (network old) y a && not (a == r))) (raised.lowers a ne)
     ])
 
 -- what comes into a cut
-same_in : (old new : Contents) (r : ℕ) (y : ℕ → Bool) → IsRaisedOver old new r → cut_in (network new) y ≡ cut_in (network old) y
+same_in : (old new : Contents) (r : ℕ) (y : ℕ → Bool) → IsRaisedOver old new r →
+    cut_in (network new) y ≡ cut_in (network old) y
 same_in old new r y raised = ap (λ (x : Contents). cut_in (network x) y) raised.rest
 
 -- a cut is one in both networks
-cut_old : (old new : Contents) (r : ℕ) (y : ℕ → Bool) → IsRaisedOver old new r → IsCut (network new) r y → IsCut (network old) r y
+cut_old : (old new : Contents) (r : ℕ) (y : ℕ → Bool) → IsRaisedOver old new r → IsCut (network new) r y →
+    IsCut (network old) r y
 cut_old old new r y raised cut = record {
   basin = λ v b. cut.basin v (omega (arith, b, ap (λ (x : Contents). x.nodes) raised.rest));
   tail = ap (λ (x : Contents). y (slice_index x.from r)) (sym raised.rest) ∙ cut.tail;
   head = ap (λ (x : Contents). y (slice_index x.to r)) (sym raised.rest) ∙ cut.head;
 }
 
-cut_new : (old new : Contents) (r : ℕ) (y : ℕ → Bool) → IsRaisedOver old new r → IsCut (network old) r y → IsCut (network new) r y
+cut_new : (old new : Contents) (r : ℕ) (y : ℕ → Bool) → IsRaisedOver old new r → IsCut (network old) r y →
+    IsCut (network new) r y
 cut_new old new r y raised cut = record {
   basin = λ v b. cut.basin v (omega (arith, b, ap (λ (x : Contents). x.nodes) raised.rest));
   tail = ap (λ (x : Contents). y (slice_index x.from r)) raised.rest ∙ cut.tail;
@@ -87,15 +95,15 @@ cut_new old new r y raised cut = record {
 }
 
 -- a cut is tight in both networks
-tight_old : (old new : Contents) (r : ℕ) (y : ℕ → Bool) → IsRaisedOver old new r → IsTight (network new) (flow_of new) r y →
-    IsTight (network old) (flow_of new) r y
+tight_old : (old new : Contents) (r : ℕ) (y : ℕ → Bool) → IsRaisedOver old new r →
+    IsTight (network new) (flow_of new) r y → IsTight (network old) (flow_of new) r y
 tight_old old new r y raised t = record {
   cut = cut_old old new r y raised t.cut;
   equal = sym (same_in old new r y raised) ∙ t.equal ∙ ap (λ (n : ℕ). flow_of new r + n) (same_out old new r y raised);
 }
 
-tight_new : (old new : Contents) (r : ℕ) (y : ℕ → Bool) → IsRaisedOver old new r → IsTight (network old) (flow_of new) r y →
-    IsTight (network new) (flow_of new) r y
+tight_new : (old new : Contents) (r : ℕ) (y : ℕ → Bool) → IsRaisedOver old new r →
+    IsTight (network old) (flow_of new) r y → IsTight (network new) (flow_of new) r y
 tight_new old new r y raised t = record {
   cut = cut_new old new r y raised t.cut;
   equal = same_in old new r y raised ∙ t.equal ∙ ap (λ (n : ℕ). flow_of new r + n) (sym (same_out old new r y raised));

@@ -1,5 +1,6 @@
 -- What a round and a hold leave.
-use Rattle.std.proofs.Common.{ℕ, max, ◌≡◌, ◌+◌, ◌-◌, ◌*◌, ◌<◌, ◌≤◌, List, length, slice_index, slice_set, refl, arith, ap, sym, subst, inl, inr, ◌∙◌}
+use Rattle.std.proofs.Common.{ℕ, max, ◌≡◌, ◌+◌, ◌-◌, ◌*◌, ◌<◌, ◌≤◌, List, length, slice_index, slice_set, refl, arith}
+use Rattle.std.proofs.Common.{ap, sym, subst, inl, inr, ◌∙◌}
 use Rattle.std.proofs.lemmas.Bool.{cases_eq}
 use Rattle.std.proofs.lemmas.List.{get_or-set_other, get_or-set_same, length-set}
 use Rattle.std.proofs.lemmas.Grind.{same_number_lists}
@@ -21,7 +22,8 @@ raised_scratch c d r rest = record {
 -- one raise after another
 pub raised_more : (c d e : Contents) (r : ℕ) → IsRaisedOver c d r → IsRaisedOver d e r → IsRaisedOver c e r
 raised_more c d e r first second = record {
-  rest = second.rest ∙ ap (λ (x : Contents). record x { lower = e.lower; flow = e.flow; scratch = e.scratch }) first.rest;
+  rest = second.rest ∙ ap (λ (x : Contents). record x { lower = e.lower; flow = e.flow; scratch = e.scratch })
+      first.rest;
   lowers = λ a ne. second.lowers a ne ∙ first.lowers a ne;
 }
 
@@ -30,8 +32,8 @@ abbrev pub raised_contents : Contents → List ℕ → List ℕ → ℕ → ℕ 
 raised_contents c scratch flow r amount =
     record c { scratch = scratch; flow = flow; lower = slice_set c.lower r (max (slice_index c.lower r) amount) }
 
-raised_is : (c d e f : Contents) (r amount : ℕ) → d ≡ record c { scratch = d.scratch } → e ≡ record d { flow = e.flow } →
-    f ≡ held_contents e r amount → f ≡ raised_contents c d.scratch e.flow r amount
+raised_is : (c d e f : Contents) (r amount : ℕ) → d ≡ record c { scratch = d.scratch } →
+    e ≡ record d { flow = e.flow } → f ≡ held_contents e r amount → f ≡ raised_contents c d.scratch e.flow r amount
 raised_is c d e f r amount written pushed held =
     held ∙ ap (λ (x : Contents). held_contents x r amount) pushed
     ∙ ap (λ (x : Contents). held_contents (record x { flow = e.flow }) r amount) written
@@ -41,12 +43,13 @@ pub record IsRoundTree (c g : Contents) (way : List ℕ) (first last : ℕ) : Ty
   pub worn : IsWornTree g way first last
   pub arcs : (i : ℕ) → first ≤ i → i < last → arc_of (step_of g i) < arcs g
 
-pub round_worn : (c d e f g : Contents) (way : List ℕ) (r most first first' last last' amount flow : ℕ) → IsCirculation d →
-    (t : IsLent c way r) → arc_of t.step < arcs c → flow_of c r ≡ slice_index c.lower r →
+pub round_worn : (c d e f g : Contents) (way : List ℕ) (r most first first' last last' amount flow : ℕ) →
+    IsCirculation d → (t : IsLent c way r) → arc_of t.step < arcs c → flow_of c r ≡ slice_index c.lower r →
     IsTraced c d way r most first amount → 0 < amount → e ≡ record d { flow = e.flow } → last ≡ 4 * c.nodes + 8 →
     IsPushed (flow_of d) (flow_of e) (step_of d) first last amount → f ≡ held_contents e r flow → first' + 1 ≡ first →
     g ≡ record f { scratch = slice_set f.scratch (first - 1) t.step } → last' ≡ last → IsRoundTree c g way first' last'
-round_worn c d e f g way r most first first' last last' amount flow k t b held traced positive pushed is p made before written more =
+round_worn c d e f g way r most first first' last last' amount flow k t b held traced positive pushed is p made before
+    written more =
     let rest = traced.rest in
     let kept = subst IsCirculation rest k in
     let now = raised_is c d e f r flow rest pushed made in
@@ -62,10 +65,12 @@ round_worn c d e f g way r most first first' last last' amount flow k t b held t
     } in
     let long : first ≤ length d.scratch = omega (arith, kept.shape.scratch, traced.some) in
     subst (λ (x : Contents). IsRoundTree c x way first' last') (sym after)
-    (subst (λ (n : ℕ). IsRoundTree c (record here { scratch = slice_set d.scratch (first - 1) t.step }) way first' n) (sym (more ∙ is))
+    (subst (λ (n : ℕ). IsRoundTree c (record here { scratch = slice_set d.scratch (first - 1) t.step }) way first' n)
+    (sym (more ∙ is))
     record {
       worn = worn_written here way first first' (4 * c.nodes + 8) t.step before long (omega (arith, traced.some))
-          (pushed_worn (record c { scratch = d.scratch }) way (slice_set c.lower r (max (slice_index c.lower r) flow)) e.flow r
+          (pushed_worn (record c { scratch = d.scratch }) way (slice_set c.lower r (max (slice_index c.lower r) flow))
+          e.flow r
           first (4 * c.nodes + 8) amount kept over walk whole traced.forward traced.ends
           (omega (arith, held)) (λ a ne. get_or-set_other c.lower r a (max (slice_index c.lower r) flow) 0 ne));
       arcs = λ i h j. elim (cases_eq i (first - 1)) [
@@ -91,15 +96,16 @@ pub record IsRound (c f : Contents) (r amount : ℕ) : Type 0 where
 
 pub round_is : (c d e f : Contents) (way : List ℕ) (r most first last amount flow : ℕ) → IsCirculation d → r < arcs c →
     flow_of c r ≡ slice_index c.lower r → IsTraced c d way r most first amount → 0 < amount →
-    e ≡ record d { flow = e.flow } → last ≡ 4 * c.nodes + 8 → IsPushed (flow_of d) (flow_of e) (step_of d) first last amount →
-    flow ≡ flow_of e r → f ≡ held_contents e r flow → IsRound c f r amount
+    e ≡ record d { flow = e.flow } → last ≡ 4 * c.nodes + 8 → IsPushed (flow_of d) (flow_of e)
+    (step_of d) first last amount → flow ≡ flow_of e r → f ≡ held_contents e r flow → IsRound c f r amount
 round_is c d e f way r most first last amount flow k b held traced positive pushed is p seen made =
     let rest = traced.rest in
     let now = raised_is c d e f r flow rest pushed made in
     let more = max (slice_index c.lower r) flow in
     let kept = subst IsCirculation rest k in
     let long : r < length c.lower = omega (arith, kept.shape.lower, b) in
-    let own = pushed_first (flow_of d) (flow_of e) (step_of d) first last amount r p (omega (arith, traced.some, is)) traced.forward in
+    let own = pushed_first (flow_of d) (flow_of e) (step_of d) first last amount r p (omega (arith, traced.some, is))
+    traced.forward in
     let before = ap (λ (x : Contents). flow_of x r) rest in
     let here = get_or-set_same c.lower r more 0 long in
     subst (λ (x : Contents). IsRound c x r amount) (sym now) record {
@@ -128,8 +134,10 @@ hold_is c d r amount k b is made =
     }
 
 -- only scratch words changed
-pub scratch_is : (f g : Contents) (scratch : List ℕ) → g ≡ record f { scratch = scratch } → g ≡ record f { scratch = g.scratch }
-scratch_is f g scratch e = e ∙ ap (λ (xs : List ℕ). record f { scratch = xs }) (sym (ap (λ (x : Contents). x.scratch) e))
+pub scratch_is : (f g : Contents) (scratch : List ℕ) → g ≡ record f { scratch = scratch } →
+    g ≡ record f { scratch = g.scratch }
+scratch_is f g scratch e = e
+    ∙ ap (λ (xs : List ℕ). record f { scratch = xs }) (sym (ap (λ (x : Contents). x.scratch) e))
 
 -- a round after which scratch words were written
 pub round_written : (c f g : Contents) (r amount : ℕ) (scratch : List ℕ) → IsRound c f r amount →
@@ -142,7 +150,8 @@ round_written c f g r amount scratch round e = record {
 
 -- a hold of an arc that was held at its flow
 pub hold_still : (c d : Contents) (r amount : ℕ) → IsCirculation c → r < arcs c → amount ≡ flow_of c r →
-    flow_of c r ≡ slice_index c.lower r → d ≡ record (held_contents c r amount) { scratch = d.scratch } → SameButScratch c d
+    flow_of c r ≡ slice_index c.lower r → d ≡ record (held_contents c r amount) { scratch = d.scratch } →
+    SameButScratch c d
 hold_still c d r amount k b is held made =
     let more = max (slice_index c.lower r) amount in
     let long : r < length c.lower = omega (arith, k.shape.lower, b) in

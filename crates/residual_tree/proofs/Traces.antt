@@ -1,5 +1,6 @@
 -- The walk is written down from its end.
-use Rattle.std.proofs.Common.{ℕ, min, ◌≡◌, ◌≢◌, ◌+◌, ◌-◌, ◌*◌, ◌<◌, ◌≤◌, List, length, slice_index, slice_set, refl, arith, ap, sym, subst, inl, inr, ◌∙◌}
+use Rattle.std.proofs.Common.{ℕ, min, ◌≡◌, ◌≢◌, ◌+◌, ◌-◌, ◌*◌, ◌<◌, ◌≤◌, List, length, slice_index, slice_set, refl}
+use Rattle.std.proofs.Common.{arith, ap, sym, subst, inl, inr, ◌∙◌}
 use Rattle.std.proofs.lemmas.Bool.{cases_eq, cases_lt}
 use Rattle.std.proofs.lemmas.List.{get_or-set_other, get_or-set_same}
 use Rattle.circulation.specs.Contents.{Contents, network, flow_of, arcs, step_of, IsCirculation}
@@ -25,8 +26,8 @@ pub record IsTracing (c d : Contents) (way : List ℕ) (r most first node amount
   pub rest : SameButScratch c d
   pub kept : IsCirculation d
   pub reached : IsReached way node
-  pub trail : (t : IsLent c way r) → IsTrail (network c) (flow_of c) r most (place_of c.nodes t.tree.rank) (step_of d) first
-      (4 * c.nodes + 8) node amount
+  pub trail : (t : IsLent c way r) → IsTrail (network c) (flow_of c) r most (place_of c.nodes t.tree.rank)
+      (step_of d) first (4 * c.nodes + 8) node amount
   pub passed : (i : ℕ) → first ≤ i → i < 4 * c.nodes + 8 → IsPassed c way r (step_of d i)
 
 -- at the tail
@@ -38,8 +39,8 @@ tracing_start c way r most k b positive m =
       rest = refl;
       kept = k;
       reached = m;
-      trail = λ t. trail_start (network c) (flow_of c) r most (place_of c.nodes t.tree.rank) (step_of c) (4 * c.nodes + 8) inside
-          (place_positive c.nodes t.tree.rank (slice_index c.from r))
+      trail = λ t. trail_start (network c) (flow_of c) r most (place_of c.nodes t.tree.rank) (step_of c)
+          (4 * c.nodes + 8) inside (place_positive c.nodes t.tree.rank (slice_index c.from r))
           (omega (arith, place_most c.nodes t.tree.rank (slice_index c.from r) inside)) positive;
       passed = λ i h j. absurd (omega arith);
     }
@@ -55,7 +56,8 @@ wrote d e first first' s is before long =
     let scratch = ap (λ (x : Contents). x.scratch) is in
     let place : first' ≡ first - 1 = omega arith in
     record {
-      at = ap (λ (xs : List ℕ). slice_index xs first') scratch ∙ ap (slice_index (slice_set d.scratch (first - 1) s)) place
+      at = ap (λ (xs : List ℕ). slice_index xs first') scratch
+          ∙ ap (slice_index (slice_set d.scratch (first - 1) s)) place
           ∙ get_or-set_same d.scratch (first - 1) s 0 (omega arith);
       others = λ i h. ap (λ (xs : List ℕ). slice_index xs i) scratch
           ∙ get_or-set_other d.scratch (first - 1) i s 0 (λ e. absurd (omega arith));
@@ -66,7 +68,8 @@ pub rest_more : (c d e : Contents) (scratch : List ℕ) → SameButScratch c d �
     SameButScratch c e
 rest_more c d e scratch rest is =
     let own = ap (λ (x : Contents). x.scratch) is in
-    is ∙ ap (λ (x : Contents). record x { scratch = scratch }) rest ∙ ap (λ (xs : List ℕ). record c { scratch = xs }) (sym own)
+    is ∙ ap (λ (x : Contents). record x { scratch = scratch }) rest
+    ∙ ap (λ (xs : List ℕ). record c { scratch = xs }) (sym own)
 
 -- there are as many scratch words as before
 pub long_as : (c d : Contents) → SameButScratch c d → IsCirculation d → length d.scratch ≡ 4 * c.nodes + 8
@@ -82,13 +85,14 @@ tracing_back c d way r most first node amount s k p t held ne basin is =
     way_back c way r node s k t (omega (arith, held)) (omega (arith, inside, basin)) p.reached ne is
 
 -- one more step back
-pub tracing_next : (c d e : Contents) (way : List ℕ) (r most first first' node next amount more s : ℕ) → IsCirculation c →
-    IsTracing c d way r most first node amount → (t : IsLent c way r) → flow_of c r ≡ slice_index c.lower r →
-    node ≢ slice_index c.to r → node ≢ c.nodes → s ≡ word_of way node - 1 → next ≡ start_of (network d) s →
-    more ≡ min amount (room_of (network d) (flow_of d) s) → first' + 1 ≡ first →
+pub tracing_next : (c d e : Contents) (way : List ℕ) (r most first first' node next amount more s : ℕ) →
+    IsCirculation c → IsTracing c d way r most first node amount → (t : IsLent c way r) →
+    flow_of c r ≡ slice_index c.lower r → node ≢ slice_index c.to r → node ≢ c.nodes → s ≡ word_of way node - 1 →
+    next ≡ start_of (network d) s → more ≡ min amount (room_of (network d) (flow_of d) s) → first' + 1 ≡ first →
     e ≡ record d { scratch = slice_set d.scratch (first - 1) s } → IsCirculation e →
     IsTracing c e way r most first' next more
-tracing_next c d e way r most first first' node next amount more s k p t held ne basin is is_next is_more before written kept =
+tracing_next c d e way r most first first' node next amount more s k p t held ne basin is is_next is_more before written
+    kept =
     let back = tracing_back c d way r most first node amount s k p t held ne basin is in
     let trail = p.trail t in
     let wr = wrote d e first first' s written before (omega (arith, long_as c d p.rest p.kept, trail.within)) in
@@ -103,7 +107,8 @@ tracing_next c d e way r most first first' node next amount more s k p t held ne
           (lent_marked c way t.step node t.tree (omega (arith, inside, basin)) p.reached));
       trail = λ t'.
           let back' = tracing_back c d way r most first node amount s k p t' held ne basin is in
-          let moved = trail_next (network c) (flow_of c) r most (place_of c.nodes t'.tree.rank) (step_of d) (step_of e) first first'
+          let moved = trail_next (network c) (flow_of c) r most (place_of c.nodes t'.tree.rank) (step_of d) (step_of e)
+          first first'
           (4 * c.nodes + 8) node amount s (sym before) (p.trail t') back' wr.at wr.others in
           subst (λ (u : ℕ). IsTrail (network c) (flow_of c) r most (place_of c.nodes t'.tree.rank) (step_of e) first'
           (4 * c.nodes + 8) u more) (sym start)
@@ -115,13 +120,15 @@ tracing_next c d e way r most first first' node next amount more s k p t held ne
           head = λ g. ne (sym back.enters ∙ g);
           basin = λ g. basin (sym back.enters ∙ g);
         }
-        | inr other ↦ subst (λ (x : ℕ). IsPassed c way r x) (sym (wr.others i (omega arith))) (p.passed i (omega arith) j)
+        | inr other ↦ subst (λ (x : ℕ). IsPassed c way r x) (sym (wr.others i (omega arith)))
+            (p.passed i (omega arith) j)
       ];
     }
 
 -- the head of an arc with room is reached where its tail is
 pub head_reached : (c : Contents) (way : List ℕ) (r most : ℕ) → IsLent c way r → r < arcs c → 0 < most →
-    flow_of c r + most ≤ slice_index c.upper r → IsReached way (slice_index c.from r) → IsReached way (slice_index c.to r)
+    flow_of c r + most ≤ slice_index c.upper r → IsReached way (slice_index c.from r) →
+    IsReached way (slice_index c.to r)
 head_reached c way r most t b positive room m =
     let o = over_forward (network c) (flow_of c) r in
     subst (λ (u : ℕ). IsReached way u) o.enters
@@ -129,9 +136,9 @@ head_reached c way r most t b positive room m =
     (subst (λ (u : ℕ). IsReached way u) (sym o.starts) m))
 
 -- the tree comes by the head of the arc
-pub tracing_head : (c d e : Contents) (way : List ℕ) (r most first first' node amount s : ℕ) → IsCirculation c → r < arcs c →
-    IsTracing c d way r most first node amount → IsLent c way r → flow_of c r + most ≤ slice_index c.upper r →
-    node ≡ slice_index c.to r → s ≡ 2 * r → first' + 1 ≡ first →
+pub tracing_head : (c d e : Contents) (way : List ℕ) (r most first first' node amount s : ℕ) → IsCirculation c →
+    r < arcs c → IsTracing c d way r most first node amount → IsLent c way r →
+    flow_of c r + most ≤ slice_index c.upper r → node ≡ slice_index c.to r → s ≡ 2 * r → first' + 1 ≡ first →
     e ≡ record d { scratch = slice_set d.scratch (first - 1) s } → IsTraced c e way r most first' amount
 tracing_head c d e way r most first first' node amount s k b p t room is step before written =
     let trail = p.trail t in
@@ -142,8 +149,9 @@ tracing_head c d e way r most first first' node amount s k b p t room is step be
       rest = rest_more c d e (slice_set d.scratch (first - 1) s) p.rest written;
       some = omega (arith, before, trail.within);
       front = omega (arith, before, trail.space);
-      walk = λ positive. trail_closed (network c) (flow_of c) r most (place_of c.nodes t.tree.rank) (step_of d) (step_of e) first first'
-          (4 * c.nodes + 8) amount s k.ends b (sym before) home (omega (arith, room)) step wr.at wr.others;
+      walk = λ positive. trail_closed (network c) (flow_of c) r most (place_of c.nodes t.tree.rank) (step_of d)
+          (step_of e) first first' (4 * c.nodes + 8) amount s k.ends b (sym before) home (omega (arith, room)) step
+          wr.at wr.others;
       limit = trail.limit;
       forward = wr.at ∙ step;
       ends = λ i h j. elim (cases_eq i first') [
@@ -163,8 +171,8 @@ pub tracing_exit : (c d d' e : Contents) (way : List ℕ) (r x most first first'
     more ≡ min amount (room_of (network d) (flow_of d) s) → first' + 1 ≡ first → first'' + 1 ≡ first' →
     d' ≡ record d { scratch = slice_set d.scratch (first - 1) s } → IsCirculation d' →
     e ≡ record d' { scratch = slice_set d'.scratch (first' - 1) s' } → IsTraced c e way r most first'' more
-tracing_exit c d d' e way r x most first first' first'' node amount more s s' k b some p t room m exit ne is step_x step_r is_more
-    before before' written kept' written' =
+tracing_exit c d d' e way r x most first first' first'' node amount more s s' k b some p t room m exit ne is step_x
+    step_r is_more before before' written kept' written' =
     let trail = p.trail t in
     let apart : slice_index c.to r ≢ c.nodes = λ f. ne (is ∙ sym f) in
     let ex = exit apart in
@@ -175,19 +183,23 @@ tracing_exit c d d' e way r x most first first' first'' node amount more s s' k 
     (omega (arith, long_as c d' rest' kept', trail.within, before)) in
     let home = subst (λ (u : ℕ). IsTrail (network c) (flow_of c) r most (place_of c.nodes t.tree.rank) (step_of d) first
     (4 * c.nodes + 8) u amount) is trail in
-    let second : step_of e (first'' + 1) ≡ 2 * x = ap (step_of e) before' ∙ wr'.others first' (omega arith) ∙ wr.at ∙ step_x in
-    let others = λ (i : ℕ) (h : first ≤ i). let same : step_of e i ≡ step_of d i = wr'.others i (omega (arith, h, before)) ∙ wr.others i h in same in
+    let second : step_of e (first'' + 1) ≡ 2 * x = ap (step_of e) before' ∙ wr'.others first' (omega arith) ∙ wr.at
+    ∙ step_x in
+    let others = λ (i : ℕ) (h : first ≤ i). let same : step_of e i ≡ step_of d i =
+    wr'.others i (omega (arith, h, before)) ∙ wr.others i h in same in
     let over_exit = over_forward (network c) (flow_of c) x in
     let room_exit : room_of (network d) (flow_of d) s ≡ slice_index c.upper x - flow_of c x =
-    ap (λ (y : Contents). room_of (network y) (flow_of y) s) p.rest ∙ ap (room_of (network c) (flow_of c)) step_x ∙ over_exit.room in
+    ap (λ (y : Contents). room_of (network y) (flow_of y) s) p.rest ∙ ap (room_of (network c) (flow_of c)) step_x
+    ∙ over_exit.room in
     record {
       rest = rest_more c d' e (slice_set d'.scratch (first' - 1) s') rest' written';
       some = omega (arith, before, before', trail.within);
       front = omega (arith, before, before', trail.space);
-      walk = λ positive. trail_exit (network c) (flow_of c) r x most (place_of c.nodes t.tree.rank) (step_of d) (step_of e) first first''
-          (4 * c.nodes + 8) amount more k.ends b ex.0 (omega (arith, before, before')) home (omega (arith, room)) (wr'.at ∙ step_r)
-          second others ex.1 ex.2 apart (λ i h j. ((p.passed i h j).head, (p.passed i h j).basin)) positive
-          (omega (arith, is_more)) (omega (arith, is_more, room_exit));
+      walk = λ positive. trail_exit (network c) (flow_of c) r x most (place_of c.nodes t.tree.rank) (step_of d)
+          (step_of e) first first'' (4 * c.nodes + 8) amount more k.ends b ex.0 (omega (arith, before, before')) home
+          (omega (arith, room)) (wr'.at ∙ step_r) second others ex.1 ex.2 apart
+          (λ i h j. ((p.passed i h j).head, (p.passed i h j).basin)) positive (omega (arith, is_more))
+          (omega (arith, is_more, room_exit));
       limit = omega (arith, is_more, trail.limit);
       forward = wr'.at ∙ step_r;
       ends = λ i h j. elim (cases_lt i first) [
@@ -201,13 +213,14 @@ tracing_exit c d d' e way r x most first first' first'' node amount more s s' k 
               (is ∙ sym (ap (λ (y : ℕ). end_of (network c) (step_of e y)) here ∙ ap (end_of (network c)) second
               ∙ over_exit.enters ∙ ex.2)) p.reached
         ]
-        | inr far ↦ subst (λ (y : ℕ). IsReached way (end_of (network c) y)) (sym (others i far)) (p.passed i far j).reached
+        | inr far ↦ subst (λ (y : ℕ). IsReached way (end_of (network c) y)) (sym (others i far))
+            (p.passed i far j).reached
       ];
     }
 
 -- there is room for two more words in front
-pub tracing_space : (c d : Contents) (way : List ℕ) (r most first node amount : ℕ) → IsTracing c d way r most first node amount →
-    IsLent c way r → (2 ≤ first) × (first ≤ 4 * d.nodes + 8)
+pub tracing_space : (c d : Contents) (way : List ℕ) (r most first node amount : ℕ) →
+    IsTracing c d way r most first node amount → IsLent c way r → (2 ≤ first) × (first ≤ 4 * d.nodes + 8)
 tracing_space c d way r most first node amount p t =
     let trail = p.trail t in (
       omega (arith, trail.space),

@@ -1,5 +1,6 @@
 -- The closed walk along an arc, an exit and the tree.
-use Rattle.std.proofs.Common.{ℕ, ◌≡◌, ◌≢◌, ◌+◌, ◌-◌, ◌*◌, ◌<◌, ◌≤◌, ◌⊎◌, List, slice_index, arith, ap, sym, subst, inl, inr, ◌∙◌}
+use Rattle.std.proofs.Common.{ℕ, ◌≡◌, ◌≢◌, ◌+◌, ◌-◌, ◌*◌, ◌<◌, ◌≤◌, ◌⊎◌, List, slice_index, arith, ap, sym, subst, inl}
+use Rattle.std.proofs.Common.{inr, ◌∙◌}
 use Rattle.std.proofs.lemmas.Bool.{cases_eq, cases_lt}
 use Rattle.circulation.specs.Network.{Network, HasEnds}
 use Rattle.circulation.specs.Contents.{Contents, network, flow_of, IsCirculation}
@@ -57,13 +58,14 @@ pub trail_exit : (w : Network) (g : ℕ → ℕ) (r x most : ℕ) (position step
     step' (first' + 1) ≡ 2 * x → ((i : ℕ) → first ≤ i → step' i ≡ step i) → w.from x ≡ w.to r → w.to x ≡ w.nodes →
     w.to r ≢ w.nodes → ((i : ℕ) → first ≤ i → i < last → (end_of w (step i) ≢ w.to r) × (end_of w (step i) ≢ w.nodes)) →
     0 < amount' → amount' ≤ amount → amount' ≤ w.upper x - g x → IsClosedWalk w g step' first' last amount'
-trail_exit w g r x most position step step' first first' last amount amount' ends b d is t most_fits at_arc at_exit others
-    from_exit to_exit apart_out apart positive least least_exit =
+trail_exit w g r x most position step step' first first' last amount amount' ends b d is t most_fits at_arc at_exit
+    others from_exit to_exit apart_out apart positive least least_exit =
     let over_arc = over_forward w g r in
     let over_exit = over_forward w g x in
     let arc_first : arc_of (step' first') ≡ r = ap arc_of at_arc ∙ over_arc.arc in
     let arc_second : arc_of (step' (first' + 1)) ≡ x = ap arc_of at_exit ∙ over_exit.arc in
-    let second = λ (i : ℕ) (h : first' ≤ i) (ne : i ≢ first') (short : i < first). let e : i ≡ first' + 1 = omega arith in e in
+    let second = λ (i : ℕ) (h : first' ≤ i) (ne : i ≢ first') (short : i < first). let e : i ≡ first' + 1 =
+    omega arith in e in
     record {
       some = omega (arith, t.within);
       positive = positive;
@@ -76,7 +78,15 @@ trail_exit w g r x most position step step' first first' last amount amount' end
       ];
       room = λ i h j. elim (cases_lt i first) [
         | inl short ↦ elim (cases_eq i first') [
-          | inl e ↦ omega (arith, ap (λ (k : ℕ). room_of w g (step' k)) e, ap (room_of w g) at_arc, over_arc.room, t.limit, most_fits, least)
+          | inl e ↦ omega (
+            arith,
+            ap (λ (k : ℕ). room_of w g (step' k)) e,
+            ap (room_of w g) at_arc,
+            over_arc.room,
+            t.limit,
+            most_fits,
+            least,
+          )
           | inr ne ↦ omega (
             arith,
             ap (λ (k : ℕ). room_of w g (step' k)) (second i h ne short),
@@ -91,7 +101,8 @@ trail_exit w g r x most position step step' first first' last amount amount' end
         | inl short ↦ elim (cases_eq i first') [
           | inl e ↦
               ap (λ (k : ℕ). end_of w (step' k)) e ∙ ap (end_of w) at_arc ∙ over_arc.enters ∙ sym from_exit
-              ∙ sym over_exit.starts ∙ ap (start_of w) (sym at_exit) ∙ ap (λ (k : ℕ). start_of w (step' (k + 1))) (sym e)
+              ∙ sym over_exit.starts ∙ ap (start_of w) (sym at_exit)
+              ∙ ap (λ (k : ℕ). start_of w (step' (k + 1))) (sym e)
           | inr ne ↦
               let here = second i h ne short in
               let next : i + 1 ≡ first = omega (arith, here, is) in
@@ -99,7 +110,8 @@ trail_exit w g r x most position step step' first first' last amount amount' end
               ∙ sym (t.begins (omega (arith, next, j))) ∙ ap (start_of w) (sym (others first (omega arith)))
               ∙ ap (λ (k : ℕ). start_of w (step' k)) (sym next)
         ]
-        | inr long ↦ ap (end_of w) (others i long) ∙ t.joined i long j ∙ ap (start_of w) (sym (others (i + 1) (omega arith)))
+        | inr long ↦ ap (end_of w) (others i long) ∙ t.joined i long j
+            ∙ ap (start_of w) (sym (others (i + 1) (omega arith)))
       ];
       closed = λ i e. elim (cases_lt i first) [
         | inl short ↦
@@ -107,7 +119,8 @@ trail_exit w g r x most position step step' first first' last amount amount' end
             let empty : first ≡ last = omega (arith, e, here, is) in
             ap (λ (k : ℕ). end_of w (step' k)) here ∙ ap (end_of w) at_exit ∙ over_exit.enters ∙ to_exit ∙ t.empty empty
             ∙ sym over_arc.starts ∙ ap (start_of w) (sym at_arc)
-        | inr long ↦ ap (end_of w) (others i long) ∙ t.ends i long e ∙ sym over_arc.starts ∙ ap (start_of w) (sym at_arc)
+        | inr long ↦ ap (end_of w) (others i long) ∙ t.ends i long e ∙ sym over_arc.starts
+            ∙ ap (start_of w) (sym at_arc)
       ];
       once = λ i j h less l. elim (cases_lt i first) [
         | inl short ↦ elim (cases_eq i first') [
@@ -119,7 +132,8 @@ trail_exit w g r x most position step step' first first' last amount amount' end
                 ∙ ap (λ (k : ℕ). arc_of (step' k)) here ∙ arc_second in
                 apart_out (ap w.to both ∙ to_exit)
             | inr far ↦ λ same.
-                (t.on j far l).other (sym (ap arc_of (others j far)) ∙ sym same ∙ ap (λ (k : ℕ). arc_of (step' k)) e ∙ arc_first)
+                (t.on j far l).other (sym (ap arc_of (others j far)) ∙ sym same ∙ ap (λ (k : ℕ). arc_of (step' k)) e
+                ∙ arc_first)
           ]
           | inr ne ↦
               let here = second i h ne short in

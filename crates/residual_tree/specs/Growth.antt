@@ -35,14 +35,16 @@ pub record IsTreeBut (c : Contents) (way : List ℕ) (worn orphan free raw : ℕ
   pub branch : (v : ℕ) → v < c.nodes → IsReached way v → IsLooseBranch c way orphan rank v (word_of way v - 1)
   pub room : (v : ℕ) → v < c.nodes → IsReached way v →
       (0 < room_of (network c) (flow_of c) (word_of way v - 1)) ⊎ worn (word_of way v - 1)
-  pub closed : (s : ℕ) → arc_of s < arcs c → 0 < room_of (network c) (flow_of c) s → IsReached way (start_of (network c) s) →
+  pub closed : (s : ℕ) → arc_of s < arcs c → 0 < room_of (network c) (flow_of c) s →
+      IsReached way (start_of (network c) s) →
       IsReached way (end_of (network c) s) ⊎ (free (end_of (network c) s) ⊎ raw (start_of (network c) s))
 
 -- none
 abbrev pub none : ℕ → Type 0
 none v = ⊥
 
--- nodes are being freed: steps that the scratch words from `at` on name may have no room, `size` nodes were freed, and of
+-- nodes are being freed: steps that the scratch words from `at` on name may have no room, `size` nodes were freed, and
+-- of
 -- those from number `done` on children may still be reached
 pub record IsFreeing (c : Contents) (way freed : List ℕ) (at last done size : ℕ) : Type 0 where
   pub tree : IsTreeBut c way (Stands c.scratch at last) (Stands freed done size) (Stands freed 0 size) none
@@ -85,7 +87,8 @@ pub record IsFound (c : Contents) (way : List ℕ) (v word : ℕ) : Type 0 where
   pub none : word ≡ 0 → (s : ℕ) → ¬ IsWayIn c way v s
   pub some : (s : ℕ) → word ≡ s + 1 → IsWayIn c way v s
 
--- a tree of the circulation in which the steps that the scratch words from `first` to below `last` name may have no room
+-- a tree of the circulation in which the steps that the scratch words from `first` to below `last` name may have no
+-- room
 abbrev pub IsWornTree : Contents → List ℕ → ℕ → ℕ → Type 0
 IsWornTree c way first last = IsTreeBut c way (Stands c.scratch first last) none none none
 

@@ -12,7 +12,8 @@ pub record IsRaisedOver (old new : Contents) (r : ℕ) : Type 0 where
 
 -- where the head of the arc r is not the outside, x is an arc from there to the outside
 abbrev pub IsExit : Contents → ℕ → ℕ → Type 0
-IsExit c r x = slice_index c.to r ≢ c.nodes → (x < arcs c) × (slice_index c.from x ≡ slice_index c.to r) × (slice_index c.to x ≡ c.nodes)
+IsExit c r x = slice_index c.to r ≢ c.nodes → (x < arcs c) × (slice_index c.from x ≡ slice_index c.to r)
+    × (slice_index c.to x ≡ c.nodes)
 
 -- no more can go over the arc x
 abbrev pub IsFull : Contents → ℕ → Type 0

@@ -1,5 +1,6 @@
 //! The tree grows: freed nodes are reached again, as far as steps with room lead to them.
-ghost use Rattle.std.specs.Prelude.{◌≡◌, true, false, ℕ, ◌+◌, ◌-◌, ◌*◌, ◌^◌, ◌<◌, ◌≤◌, [], length, slice_index, slice_set};
+ghost use Rattle.std.specs.Prelude.{◌≡◌, true, false, ℕ, ◌+◌, ◌-◌, ◌*◌, ◌^◌, ◌<◌, ◌≤◌, []};
+ghost use Rattle.std.specs.Prelude.{length, slice_index, slice_set};
 ghost use Rattle.circulation.specs.Contents.{arcs, flow_of, network, IsCirculation};
 ghost use Rattle.circulation.specs.Residual.{arc_of, room_of, end_of};
 ghost use Rattle.residual_tree.specs.Steps.{opposite};

@@ -1,5 +1,5 @@
-//! What is done in the three parts of a tree's room: the nodes that are freed, those that are reached again, and the ways
-//! that are found.
+//! What is done in the three parts of a tree's room: the nodes that are freed, those that are reached again, and the
+//! ways that are found.
 ghost use Rattle.std.specs.Prelude.{◌≡◌, ℕ, ◌+◌, ◌*◌, ◌<◌, ◌≤◌, length, slice_index};
 ghost use Rattle.circulation.specs.Contents.{arcs, step_of, IsCirculation};
 ghost use Rattle.circulation.specs.Residual.{arc_of};

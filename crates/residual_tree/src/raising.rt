@@ -118,8 +118,8 @@ pub enum Pulled {
     Unfinished,
 }
 
-/// Raises the flow on an arc towards `want`, in units of 1,000 cubic metres, by at most `most_pushes` pushes along the tree,
-/// each of which ticks `searches` once. The flow on the arc is held as it rises. Where the head of the arc
+/// Raises the flow on an arc towards `want`, in units of 1,000 cubic metres, by at most `most_pushes` pushes along the
+/// tree, each of which ticks `searches` once. The flow on the arc is held as it rises. Where the head of the arc
 /// is not the outside, `exit` is an arc from there to the outside. Each push costs about as much as the
 /// walk is long, and as there are arcs at the nodes below the steps that it fills.
 pub fn raise_by_tree<L: Ledger>(

@@ -1,8 +1,10 @@
 -- A month that starts from the run of the river.
-use Rattle.std.proofs.Common.{◌≡◌, ℕ, ◌*◌, ◌<◌, ◌≤◌, Bool, true, false, refl, sym, ◌∙◌, ap, ap₂, subst, arith, List, length}
+use Rattle.std.proofs.Common.{◌≡◌, ℕ, ◌*◌, ◌<◌, ◌≤◌, Bool, true, false, refl, sym, ◌∙◌, ap, ap₂, subst, arith, List}
+use Rattle.std.proofs.Common.{length}
 use Rattle.std.proofs.lemmas.List.{get_or-replicate}
 use Rattle.std.proofs.lemmas.Grind.{same_number_lists}
-use Rattle.std.specs.Prelude.{◌^◌, ◌-◌, slice_index, slice_get, unwrap_or, option_map, pos, if◌then◌else◌, Option, Some, None, is_some}
+use Rattle.std.specs.Prelude.{◌^◌, ◌-◌, slice_index, slice_get, unwrap_or, option_map, pos, if◌then◌else◌, Option, Some}
+use Rattle.std.specs.Prelude.{None, is_some}
 use Rattle.place_sums.specs.Sums.{when}
 use Rattle.water_model.specs.Basin.{is_outlet, taking_node}
 use Rattle.water_model.specs.Valid.{IsValidBasin, IsValidLink, IsValidCarry}
@@ -28,13 +30,16 @@ use Rattle.senior_hold.specs.Arcs.{AreAmounts, AreBounds}
 
 -- a month has at most 31 days
 days_most : (m : Month) → IsMonth m → days_of m ≤ 31
-days_most m is = subst (λ d. d ≤ 31) (sym (days_in-days_in_month m.year m.month is.month.0 is.month.1)) (days_in_month-le (pos m.year) m.month)
+days_most m is = subst (λ d. d ≤ 31) (sym (days_in-days_in_month m.year m.month is.month.0 is.month.1))
+    (days_in_month-le (pos m.year) m.month)
 
-pub carry_most : (b : Basin) (month : Month) (e : ℕ) → IsMonth month → IsValidBasin b → e < length b.links → carry_of b month e ≤ 10 ^ 15
+pub carry_most : (b : Basin) (month : Month) (e : ℕ) → IsMonth month → IsValidBasin b → e < length b.links →
+    carry_of b month e ≤ 10 ^ 15
 carry_most b month e is_month valid l =
     let entry = entry_holds (λ l. IsValidLink b l) b.links e valid.links l in
     let link : Link = entry.0 in
-    let is : carry_of b month e ≡ carry_of_kind link.carry month = ap (λ o. unwrap_or (option_map (λ x. carry_of_kind x.carry month) o) 0) entry.1 in
+    let is : carry_of b month e ≡ carry_of_kind link.carry month =
+    ap (λ o. unwrap_or (option_map (λ x. carry_of_kind x.carry month) o) 0) entry.1 in
     let most = of_kind link.carry entry.2.carry in
     omega arith
   where
@@ -47,19 +52,26 @@ carry_most b month e is_month valid l =
 
     of_kind : (c : Carry) → IsValidCarry c → carry_of_kind c month ≤ 10 ^ 15
     of_kind River h = omega arith
-    of_kind (Canal per_day shut) h = open_or_shut (unwrap_or (slice_get shut (month.month - 1)) false) (per_day * days_of month) (product per_day (days_of month) h.0 (days_most month is_month))
+    of_kind (Canal per_day shut) h =
+        open_or_shut (unwrap_or (slice_get shut (month.month - 1)) false) (per_day * days_of month)
+        (product per_day (days_of month) h.0 (days_most month is_month))
 
-pub begun_small : {most : ℕ → ℕ} (b : Basin) (month : Month) (want upper : List ℕ) → ((e : ℕ) → e < length b.links → carry_of b month e ≤ 10 ^ 15) → AreBounds b month want most (λ a. slice_index upper a) →
-    ((n : ℕ) → n < length b.nodes → most n ≤ 10 ^ 15) → ((r : ℕ) → r < length b.rights → slice_index want r ≤ 10 ^ 9) →
-    length upper ≡ arc_count b → (a : ℕ) → a < length upper → slice_index upper a ≤ 10 ^ 15
+pub begun_small : {most : ℕ → ℕ} (b : Basin) (month : Month) (want upper : List ℕ) →
+    ((e : ℕ) → e < length b.links → carry_of b month e ≤ 10 ^ 15) →
+    AreBounds b month want most (λ a. slice_index upper a) → ((n : ℕ) → n < length b.nodes → most n ≤ 10 ^ 15) →
+    ((r : ℕ) → r < length b.rights → slice_index want r ≤ 10 ^ 9) → length upper ≡ arc_count b → (a : ℕ) →
+    a < length upper → slice_index upper a ≤ 10 ^ 15
 begun_small b month want upper carries are mosts limits len a l = of_arc a (arc_is b a (omega arith))
   where
     of_arc : (a : ℕ) → IsArc b a → slice_index upper a ≤ 10 ^ 15
     of_arc a (is_link k) = omega (arith, are.on_links a k, carries a k)
-    of_arc a (is_take r k h e) = subst (λ a. slice_index upper a ≤ 10 ^ 15) e (omega (arith, are.on_takes r k h, limits r k))
-    of_arc a (is_out n k h e) = subst (λ a. slice_index upper a ≤ 10 ^ 15) e (omega (arith, are.on_outs n k h, mosts n k))
+    of_arc a (is_take r k h e) =
+        subst (λ a. slice_index upper a ≤ 10 ^ 15) e (omega (arith, are.on_takes r k h, limits r k))
+    of_arc a (is_out n k h e) =
+        subst (λ a. slice_index upper a ≤ 10 ^ 15) e (omega (arith, are.on_outs n k h, mosts n k))
 
-pub begun_net : {most : ℕ → ℕ} (b : Basin) (month : Month) (supply want upper start : List ℕ) (c : Contents) → HasBasinEnds b (network c) → AreBounds b month want most (λ a. slice_index upper a) →
+pub begun_net : {most : ℕ → ℕ} (b : Basin) (month : Month) (supply want upper start : List ℕ) (c : Contents) →
+    HasBasinEnds b (network c) → AreBounds b month want most (λ a. slice_index upper a) →
     IsMonthNetwork b month supply want (network (month_contents c supply upper start))
 begun_net b month supply want upper start c ends are = record {
   ends = record {
@@ -77,37 +89,46 @@ begun_net b month supply want upper start c ends are = record {
   supplies = λ n l. refl;
 }
 
-pub begun_flow : {most : ℕ → ℕ} (b : Basin) (month : Month) (supply want upper start : List ℕ) (c : Contents) (p : Plan) → HasBasinEnds b (network c) → AreBounds b month want most (λ a. slice_index upper a) →
+pub begun_flow : {most : ℕ → ℕ} (b : Basin) (month : Month) (supply want upper start : List ℕ) (c : Contents)
+    (p : Plan) → HasBasinEnds b (network c) → AreBounds b month want most (λ a. slice_index upper a) →
     IsPlan b month supply want p → AreAmounts b p (λ a. slice_index start a) →
     ((n : ℕ) → n < length b.nodes → slice_index p.out n ≤ most n) →
     IsFlow (network (month_contents c supply upper start)) (λ a. slice_index start a)
 begun_flow b month supply want upper start c p ends are plan laid small =
-    flow_is b month supply want (network (month_contents c supply upper start)) p (λ a. slice_index start a) (begun_net b month supply want upper start c ends are) plan
+    flow_is b month supply want (network (month_contents c supply upper start)) p (λ a. slice_index start a)
+    (begun_net b month supply want upper start c ends are) plan
     (λ a l. get_or-replicate {A = ℕ} (length c.from) a 0 0 l) laid.on_links laid.on_takes laid.on_outs
     (λ n l h. omega (arith, small n l, are.on_outs n l h))
 
 -- a month may start with these bounds and amounts
-pub start_is : {most : ℕ → ℕ} (b : Basin) (month : Month) (supply want upper start : List ℕ) (c : Contents) (p : Plan) → ((e : ℕ) → e < length b.links → carry_of b month e ≤ 10 ^ 15) →
-    HasBasinEnds b (network c) → length supply ≡ length b.nodes → AreWants b month want → length upper ≡ arc_count b → length start ≡ arc_count b →
-    AreBounds b month want most (λ a. slice_index upper a) → AreAmounts b p (λ a. slice_index start a) → IsPlan b month supply want p →
-    ((n : ℕ) → n < length b.nodes → most n ≤ 10 ^ 15) →
+pub start_is : {most : ℕ → ℕ} (b : Basin) (month : Month) (supply want upper start : List ℕ) (c : Contents) (p : Plan) →
+    ((e : ℕ) → e < length b.links → carry_of b month e ≤ 10 ^ 15) → HasBasinEnds b (network c) →
+    length supply ≡ length b.nodes → AreWants b month want → length upper ≡ arc_count b → length start ≡ arc_count b →
+    AreBounds b month want most (λ a. slice_index upper a) → AreAmounts b p (λ a. slice_index start a) →
+    IsPlan b month supply want p → ((n : ℕ) → n < length b.nodes → most n ≤ 10 ^ 15) →
     ((n : ℕ) → n < length b.nodes → slice_index p.out n ≤ most n) → IsStart c supply upper start
-start_is b month supply want upper start c p carries ends supplies wants uppers starts are laid plan mosts small = record {
-  supplies = supplies ∙ sym ends.nodes;
-  uppers = uppers ∙ sym ends.arcs;
-  amounts = starts ∙ sym ends.arcs;
-  small = λ a l. begun_small b month want upper carries are mosts wants.small uppers a (let n = ends.arcs in omega arith);
-  flow = begun_flow b month supply want upper start c p ends are plan laid small;
-}
+start_is b month supply want upper start c p carries ends supplies wants uppers starts are laid plan mosts small =
+    record {
+      supplies = supplies ∙ sym ends.nodes;
+      uppers = uppers ∙ sym ends.arcs;
+      amounts = starts ∙ sym ends.arcs;
+      small = λ a l. begun_small b month want upper carries are mosts wants.small uppers a (let n = ends.arcs in
+          omega arith);
+      flow = begun_flow b month supply want upper start c p ends are plan laid small;
+    }
 
 -- the plan of the flow that a plan gives is the plan
-pub plan_same : (b : Basin) (month : Month) (supply want : List ℕ) (p : Plan) (g : ℕ → ℕ) → FitsPlan b p → IsPlan b month supply want p →
-    AreAmounts b p g → plan_of b g ≡ p
+pub plan_same : (b : Basin) (month : Month) (supply want : List ℕ) (p : Plan) (g : ℕ → ℕ) → FitsPlan b p →
+    IsPlan b month supply want p → AreAmounts b p g → plan_of b g ≡ p
 plan_same b month supply want p g fits plan laid =
     ap₂ (λ (f t : List ℕ). made f t (plan_of b g).out)
-    (same_number_lists (plan_of b g).flow p.flow (list_len (length b.links) g ∙ sym fits.flow) (λ e l. flows e (let s = list_len (length b.links) g in omega arith)))
-    (same_number_lists (plan_of b g).take p.take (list_len (length b.rights) took ∙ sym fits.take) (λ r l. takings r (let s = list_len (length b.rights) took in omega arith)))
-    ∙ ap (made p.flow p.take) (same_number_lists (plan_of b g).out p.out (list_len (length b.nodes) gone ∙ sym fits.out) (λ n l. goings n (let s = list_len (length b.nodes) gone in omega arith)))
+    (same_number_lists (plan_of b g).flow p.flow (list_len (length b.links) g
+    ∙ sym fits.flow) (λ e l. flows e (let s = list_len (length b.links) g in omega arith)))
+    (same_number_lists (plan_of b g).take p.take (list_len (length b.rights) took
+    ∙ sym fits.take) (λ r l. takings r (let s = list_len (length b.rights) took in omega arith)))
+    ∙ ap (made p.flow p.take)
+    (same_number_lists (plan_of b g).out p.out (list_len (length b.nodes) gone
+    ∙ sym fits.out) (λ n l. goings n (let s = list_len (length b.nodes) gone in omega arith)))
   where
     made : List ℕ → List ℕ → List ℕ → Plan
     made f t o = record { flow = f; take = t; out = o }
@@ -136,13 +157,16 @@ plan_same b month supply want p g fits plan laid =
     goings n l = list_get (length b.nodes) gone n l ∙ by_outlet n l (is_outlet b n) refl
 
 -- the run of the river is a plan for any wants
-pub river_plan : (b : Basin) (month : Month) (supply want : List ℕ) (p : Plan) → IsValidBasin b → AreSupplies b supply → IsRunOfRiver b supply p → IsPlan b month supply want p
-river_plan b month supply want p valid given run = river_is_plan b month supply want p valid (let few = given.small in omega arith) run
+pub river_plan : (b : Basin) (month : Month) (supply want : List ℕ) (p : Plan) → IsValidBasin b → AreSupplies b supply →
+    IsRunOfRiver b supply p → IsPlan b month supply want p
+river_plan b month supply want p valid given run =
+    river_is_plan b month supply want p valid (let few = given.small in omega arith) run
 
 -- the same bounds and amounts in another list
 pub bounds_over : (b : Basin) (month : Month) (want xs ys : List ℕ) (most : ℕ → ℕ) → xs ≡ ys →
     AreBounds b month want most (λ a. slice_index ys a) → AreBounds b month want most (λ a. slice_index xs a)
-bounds_over b month want xs ys most same are = subst (λ (zs : List ℕ). AreBounds b month want most (λ a. slice_index zs a)) (sym same) are
+bounds_over b month want xs ys most same are =
+    subst (λ (zs : List ℕ). AreBounds b month want most (λ a. slice_index zs a)) (sym same) are
 
 pub amounts_over : (b : Basin) (p : Plan) (xs ys : List ℕ) → xs ≡ ys → AreAmounts b p (λ a. slice_index ys a) →
     AreAmounts b p (λ a. slice_index xs a)

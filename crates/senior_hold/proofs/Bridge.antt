@@ -1,5 +1,6 @@
 -- A tight cut of a right's arc is a tight cut of the right, and the other way round.
-use Rattle.std.proofs.Common.{◌≡◌, ℕ, ◌<◌, ◌≤◌, Bool, true, false, refl, sym, ◌∙◌, ap, subst, arith, List, length, inl, inr}
+use Rattle.std.proofs.Common.{◌≡◌, ℕ, ◌<◌, ◌≤◌, Bool, true, false, refl, sym, ◌∙◌, ap, subst, arith, List, length, inl}
+use Rattle.std.proofs.Common.{inr}
 use Rattle.std.proofs.lemmas.Bool.{cases_Bool, cases_lt}
 use Rattle.std.proofs.lemmas.Bool.Decides.{nat_tests}
 use Rattle.std.proofs.lemmas.List.FromFn.{get_or-map-range_with_len, length-map-range_with_len}
@@ -7,8 +8,10 @@ use Rattle.std.proofs.Math.ListN.{get_or-eq_default}
 use Rattle.std.specs.Prelude.{◌==◌, slice_index, ◌&&◌, not, if◌then◌else◌, Option, Some, None, is_some}
 use Rattle.place_sums.specs.Sums.{total, total_where, when}
 use Rattle.place_sums.proofs.Totals.{total_same, total_zero}
-use Rattle.water_model.specs.Basin.{tail_of, head_of, taking_node, instream_link, is_senior, is_on_link, is_at, is_outlet}
-use Rattle.water_model.specs.Cuts.{enters, leaves, takes_within, node_within, kept_on, cut_capacity, cut_kept, Separates, IsCut, IsTight, IsReach}
+use Rattle.water_model.specs.Basin.{tail_of, head_of, taking_node, instream_link, is_senior, is_on_link, is_at}
+use Rattle.water_model.specs.Basin.{is_outlet}
+use Rattle.water_model.specs.Cuts.{enters, leaves, takes_within, node_within, kept_on, cut_capacity, cut_kept}
+use Rattle.water_model.specs.Cuts.{Separates, IsCut, IsTight, IsReach}
 use Rattle.water_text.specs.declared.month.Month.{Month}
 use Rattle.water_model.specs.declared.types.Basin.{Basin}
 use Rattle.water_model.proofs.Sets.{has_below, total_where_same}
@@ -16,7 +19,8 @@ use Rattle.water_model.proofs.Duality.{not_senior_to_itself}
 use Rattle.circulation.specs.Network.{Network, cut_in, cut_out}
 use Rattle.circulation.specs.Network as arc
 use Rattle.augment.specs.Raised.{IsGreatestCut}
-use Rattle.senior_hold.specs.MonthNetwork.{takes, take_arc, out_arc, right_arc, arc_by_link, IsMonthNetwork, Holds, list_of}
+use Rattle.senior_hold.specs.MonthNetwork.{takes, take_arc, out_arc, right_arc, arc_by_link, IsMonthNetwork, Holds}
+use Rattle.senior_hold.specs.MonthNetwork.{list_of}
 use Rattle.senior_hold.proofs.MonthArcs.{arcs_total, take_arc_apart, IsKind, on_link, at_node}
 use Rattle.water_model.specs.Lookups.{has}
 use Rattle.water_model.specs.Plans.{carry_of}
@@ -31,16 +35,19 @@ outside_out cut n len = elim (cases_Bool (has cut n)) [
 not_in : (p q : Bool) → p ≡ false → p && q ≡ false
 not_in p q h = grind (arith, nat_tests)
 
-pub capacity_same : (b : Basin) (month : Month) (supply want : List ℕ) (w : Network) (cut : List Bool) → IsMonthNetwork b month supply want w →
-    length cut ≡ length b.nodes → cut_in w (has cut) ≡ cut_capacity b month supply cut
+pub capacity_same : (b : Basin) (month : Month) (supply want : List ℕ) (w : Network) (cut : List Bool) →
+    IsMonthNetwork b month supply want w → length cut ≡ length b.nodes →
+    cut_in w (has cut) ≡ cut_capacity b month supply cut
 capacity_same b month supply want w cut net len =
     omega (
       arith,
       ap (λ n. total n entering) net.ends.arcs,
       arcs_total b entering,
       total_same (length b.links) entering (λ e. if enters b cut e then carry_of b month e else 0) links,
-      total_zero (length b.rights) (λ r. if takes b r then entering (take_arc b r) else 0) (λ r l. none (takes b r) (take_arc b r) (net.ends.take_to r l)),
-      total_zero (length b.nodes) (λ n. if is_outlet b n then entering (out_arc b n) else 0) (λ n l. none (is_outlet b n) (out_arc b n) (net.ends.out_to n l)),
+      total_zero (length b.rights) (λ r. if takes b r then entering (take_arc b r) else 0)
+          (λ r l. none (takes b r) (take_arc b r) (net.ends.take_to r l)),
+      total_zero (length b.nodes) (λ n. if is_outlet b n then entering (out_arc b n) else 0)
+          (λ n l. none (is_outlet b n) (out_arc b n) (net.ends.out_to n l)),
       supplies,
     )
   where
@@ -55,7 +62,8 @@ capacity_same b month supply want w cut net len =
     none true a h = ap (λ t. if t then w.upper a else 0) (not_in (has cut (w.to a)) (not (has cut (w.from a)))
         (ap (has cut) (h refl) ∙ outside_out cut (length b.nodes) (omega arith)))
 
-    supplies : total_where w.nodes (has cut) w.supply ≡ total_where (length b.nodes) (λ n. has cut n) (λ n. slice_index supply n)
+    supplies : total_where w.nodes (has cut) w.supply
+        ≡ total_where (length b.nodes) (λ n. has cut n) (λ n. slice_index supply n)
     supplies = ap (λ k. total_where k (has cut) w.supply) net.ends.nodes
         ∙ total_where_same (length b.nodes) (λ n. has cut n) w.supply (λ n. slice_index supply n) net.supplies
 
@@ -88,19 +96,23 @@ owns b right (at_node v l i t) =
     same : (x y : ℕ) → x == y ≡ true → x ≡ y
     same x y h = grind (arith, nat_tests)
 
-pub kept_same : (b : Basin) (month : Month) (supply want delivered : List ℕ) (w : Network) (right : ℕ) (cut : List Bool) →
-    IsMonthNetwork b month supply want w → Holds b delivered (λ s. is_senior b s right) w → IsKind b right →
-    length cut ≡ length b.nodes → cut_out w (right_arc b right) (has cut) ≡ cut_kept b delivered right cut
+pub kept_same : (b : Basin) (month : Month) (supply want delivered : List ℕ) (w : Network) (right : ℕ)
+    (cut : List Bool) → IsMonthNetwork b month supply want w → Holds b delivered (λ s. is_senior b s right) w →
+    IsKind b right → length cut ≡ length b.nodes → cut_out w (right_arc b right)
+    (has cut) ≡ cut_kept b delivered right cut
 kept_same b month supply want delivered w right cut net holds kind len =
     omega (
       arith,
       ap (λ n. total n leaving) net.ends.arcs,
       arcs_total b leaving,
-      total_same (length b.links) leaving (λ e. if leaves b cut e && not (is_on_link b right e) then kept_on b delivered right e else 0) links,
+      total_same (length b.links) leaving
+          (λ e. if leaves b cut e && not (is_on_link b right e) then kept_on b delivered right e else 0) links,
       total_same (length b.rights) (λ r. if takes b r then leaving (take_arc b r) else 0)
           (λ s. if takes_within b cut s && is_senior b s right then slice_index delivered s else 0)
-          (λ r l. at_take r (taking_node b r) (net.ends.take_from r l) (net.ends.take_to r l) (holds.on_takes r l) (own.take r)),
-      total_zero (length b.nodes) (λ n. if is_outlet b n then leaving (out_arc b n) else 0) (λ n l. none (is_outlet b n) (out_arc b n) (holds.on_outs n l)),
+          (λ r l. at_take r (taking_node b r) (net.ends.take_from r l) (net.ends.take_to r l) (holds.on_takes r l)
+          (own.take r)),
+      total_zero (length b.nodes) (λ n. if is_outlet b n then leaving (out_arc b n) else 0)
+          (λ n l. none (is_outlet b n) (out_arc b n) (holds.on_outs n l)),
     )
   where
     own : Owns b right (right_arc b right)
@@ -143,7 +155,8 @@ kept_same b month supply want delivered w right cut net holds kind len =
 pub has_list : (n : ℕ) (y : ℕ → Bool) → ((v : ℕ) → n ≤ v → y v ≡ false) → (v : ℕ) → has (list_of n y) v ≡ y v
 has_list n y basin v = elim (cases_lt v n) [
   | inl l ↦ get_or-map-range_with_len y 0 n v v false l (omega arith)
-  | inr l ↦ get_or-eq_default (list_of n y) false (let e = length-map-range_with_len y 0 n in omega arith) ∙ sym (basin v l)
+  | inr l ↦ get_or-eq_default (list_of n y) false (let e = length-map-range_with_len y 0 n in omega arith)
+      ∙ sym (basin v l)
 ]
 
 both : (p q : Bool) → p && q ≡ true → (p ≡ true) × (q ≡ true)
@@ -154,7 +167,8 @@ not_true p h = grind (arith, nat_tests)
 
 -- a cut of a right is a cut of its arc
 pub right_cut : (b : Basin) (month : Month) (supply want : List ℕ) (w : Network) (right : ℕ) (cut : List Bool) →
-    IsMonthNetwork b month supply want w → right < length b.rights → IsKind b right → IsCut b right cut → arc.IsCut w (right_arc b right) (has cut)
+    IsMonthNetwork b month supply want w → right < length b.rights → IsKind b right → IsCut b right cut →
+    arc.IsCut w (right_arc b right) (has cut)
 right_cut b month supply want w right cut net k (on_link e l i t) is =
     subst (λ a. arc.IsCut w a (has cut)) (sym (ap (arc_by_link b right) i)) record {
       basin = λ v h. outside_out cut v (let len = is.one_each in let n = net.ends.nodes in omega arith);
@@ -171,7 +185,8 @@ right_cut b month supply want w right cut net k (at_node v l i t) is =
     subst (λ a. arc.IsCut w a (has cut)) (sym (ap (arc_by_link b right) i)) record {
       basin = λ v h. outside_out cut v (let len = is.one_each in let n = net.ends.nodes in omega arith);
       tail = sym (ap (λ o. node_within o cut) (net.ends.take_from right k (ap is_some t))) ∙ separates;
-      head = ap (has cut) (net.ends.take_to right k (ap is_some t)) ∙ outside_out cut (length b.nodes) (let len = is.one_each in omega arith);
+      head = ap (has cut) (net.ends.take_to right k (ap is_some t))
+          ∙ outside_out cut (length b.nodes) (let len = is.one_each in omega arith);
     }
   where
     separates : Separates b (taking_node b right) None cut
@@ -198,30 +213,44 @@ arc_cut b month supply want w right cut net k kind len is = record { one_each = 
         ∙ ap (λ a. has cut (w.from a)) (sym (ap (arc_by_link b right) i)) ∙ is.tail)
 
 -- tight cuts of a right and of its arc are the same
-pub arc_tight : (b : Basin) (month : Month) (supply want delivered : List ℕ) (w : Network) (g : ℕ → ℕ) (right : ℕ) (cut : List Bool) →
-    IsMonthNetwork b month supply want w → Holds b delivered (λ s. is_senior b s right) w → right < length b.rights → IsKind b right →
-    g (right_arc b right) ≡ slice_index delivered right → length cut ≡ length b.nodes →
-    arc.IsTight w g (right_arc b right) (has cut) → IsTight b month supply delivered right cut
+pub arc_tight : (b : Basin) (month : Month) (supply want delivered : List ℕ) (w : Network) (g : ℕ → ℕ) (right : ℕ)
+    (cut : List Bool) → IsMonthNetwork b month supply want w → Holds b delivered (λ s. is_senior b s right) w →
+    right < length b.rights → IsKind b right → g (right_arc b right) ≡ slice_index delivered right →
+    length cut ≡ length b.nodes → arc.IsTight w g (right_arc b right) (has cut) →
+    IsTight b month supply delivered right cut
 arc_tight b month supply want delivered w g right cut net holds k kind gets len tight = record {
   is_cut = arc_cut b month supply want w right cut net k kind len tight.cut;
-  tight = (let e = tight.equal in omega (arith, capacity_same b month supply want w cut net len, kept_same b month supply want delivered w right cut net holds kind len));
+  tight = (let e = tight.equal in
+      omega (
+        arith,
+        capacity_same b month supply want w cut net len,
+        kept_same b month supply want delivered w right cut net holds kind len,
+      ));
 }
 
-pub right_tight : (b : Basin) (month : Month) (supply want delivered : List ℕ) (w : Network) (g : ℕ → ℕ) (right : ℕ) (cut : List Bool) →
-    IsMonthNetwork b month supply want w → Holds b delivered (λ s. is_senior b s right) w → right < length b.rights → IsKind b right →
-    g (right_arc b right) ≡ slice_index delivered right →
+pub right_tight : (b : Basin) (month : Month) (supply want delivered : List ℕ) (w : Network) (g : ℕ → ℕ) (right : ℕ)
+    (cut : List Bool) → IsMonthNetwork b month supply want w → Holds b delivered (λ s. is_senior b s right) w →
+    right < length b.rights → IsKind b right → g (right_arc b right) ≡ slice_index delivered right →
     IsTight b month supply delivered right cut → arc.IsTight w g (right_arc b right) (has cut)
 right_tight b month supply want delivered w g right cut net holds k kind gets tight = record {
   cut = right_cut b month supply want w right cut net k kind tight.is_cut;
-  equal = (let e = tight.tight in omega (arith, capacity_same b month supply want w cut net tight.is_cut.one_each, kept_same b month supply want delivered w right cut net holds kind tight.is_cut.one_each));
+  equal = (let e = tight.tight in
+      omega (
+        arith,
+        capacity_same b month supply want w cut net tight.is_cut.one_each,
+        kept_same b month supply want delivered w right cut net holds kind tight.is_cut.one_each,
+      ));
 }
 
 -- the greatest tight cut of a right's arc is the right's reach
-pub greatest_reach : (b : Basin) (month : Month) (supply want delivered : List ℕ) (w : Network) (g : ℕ → ℕ) (right : ℕ) (cut : List Bool) →
-    IsMonthNetwork b month supply want w → Holds b delivered (λ s. is_senior b s right) w → right < length b.rights → IsKind b right →
-    g (right_arc b right) ≡ slice_index delivered right → length cut ≡ length b.nodes →
-    IsGreatestCut w g (right_arc b right) (has cut) → IsReach b month supply delivered right cut
+pub greatest_reach : (b : Basin) (month : Month) (supply want delivered : List ℕ) (w : Network) (g : ℕ → ℕ) (right : ℕ)
+    (cut : List Bool) → IsMonthNetwork b month supply want w → Holds b delivered (λ s. is_senior b s right) w →
+    right < length b.rights → IsKind b right → g (right_arc b right) ≡ slice_index delivered right →
+    length cut ≡ length b.nodes → IsGreatestCut w g (right_arc b right) (has cut) →
+    IsReach b month supply delivered right cut
 greatest_reach b month supply want delivered w g right cut net holds k kind gets len greatest = record {
   is_tight = arc_tight b month supply want delivered w g right cut net holds k kind gets len greatest.tight;
-  contains = λ other tight n h. greatest.greatest (has other) (right_tight b month supply want delivered w g right other net holds k kind gets tight) n h;
+  contains = λ other tight n h.
+      greatest.greatest (has other)
+      (right_tight b month supply want delivered w g right other net holds k kind gets tight) n h;
 }

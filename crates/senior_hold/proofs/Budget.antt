@@ -43,7 +43,8 @@ never_full b month supply want c arc exit first valid supplies net wide start ab
     let is : spill_arc b node ≡ exit = omega arith in
     let now = subst (λ (x : Contents). IsMonthNetwork (spilled b) month supply want (network x)) (sym fills.rest.rest)
     (net_kept (spilled b) month supply want c d.flow d.scratch d.lower net) in
-    let small : total (length b.nodes) (λ v. slice_index supply v) < 10 ^ 15 = let few = supplies.small in omega arith in
+    let small : total (length b.nodes) (λ v. slice_index supply v) < 10 ^ 15 = let few = supplies.small in
+    omega arith in
     let few = spills_few b month supply want (network d) (flow_of d) valid now fills.kept.flow small in
     let most = spill_most b (flow_of d) node inside in
     let upper = ap (λ (x : Contents). slice_index x.upper exit) fills.rest.rest

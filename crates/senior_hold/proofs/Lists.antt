@@ -1,5 +1,6 @@
 -- Reads after writes and after additions.
-use Rattle.std.proofs.Common.{◌≡◌, ◌≢◌, ℕ, zero, suc, ◌+◌, ◌<◌, refl, sym, ◌∙◌, ap, arith, List, [], ◌∷◌, ◌++◌, length, take, drop, inl, inr}
+use Rattle.std.proofs.Common.{◌≡◌, ◌≢◌, ℕ, zero, suc, ◌+◌, ◌<◌, refl, sym, ◌∙◌, ap, arith, List, [], ◌∷◌, ◌++◌, length}
+use Rattle.std.proofs.Common.{take, drop, inl, inr}
 use Rattle.std.specs.Prelude.{slice_index, slice_get, slice_set, Some}
 use Rattle.std.proofs.lemmas.Bool.{cases_lt}
 use Rattle.std.proofs.lemmas.Grind.{common_steps}
@@ -9,7 +10,8 @@ get_set [] i x l = absurd (omega arith)
 get_set (y ∷ xs) zero x l = refl
 get_set (y ∷ xs) (suc i) x l = get_set xs i x (omega arith)
 
-pub get_set_other : {X : Type 0} (xs : List X) (i j : ℕ) (x : X) → j ≢ i → slice_get (slice_set xs i x) j ≡ slice_get xs j
+pub get_set_other : {X : Type 0} (xs : List X) (i j : ℕ) (x : X) → j ≢ i →
+    slice_get (slice_set xs i x) j ≡ slice_get xs j
 get_set_other [] i j x ne = refl
 get_set_other (y ∷ xs) zero zero x ne = absurd (ne refl)
 get_set_other (y ∷ xs) zero (suc j) x ne = refl
@@ -21,7 +23,8 @@ set_twice [] i x z = refl
 set_twice (y ∷ xs) zero x z = refl
 set_twice (y ∷ xs) (suc i) x z = ap (λ (ys : List _). y ∷ ys) (set_twice xs i x z)
 
-pub get_before : {X : Type 0} (xs ys : List X) (k : ℕ) (x : X) → slice_get xs k ≡ Some x → slice_get (xs ++ ys) k ≡ Some x
+pub get_before : {X : Type 0} (xs ys : List X) (k : ℕ) (x : X) → slice_get xs k ≡ Some x →
+    slice_get (xs ++ ys) k ≡ Some x
 get_before [] ys k x h = cc
 get_before (y ∷ xs) ys zero x h = h
 get_before (y ∷ xs) ys (suc k) x h = get_before xs ys k x h
@@ -33,11 +36,12 @@ get_last (y ∷ xs) zero x h = absurd (omega arith)
 get_last (y ∷ xs) (suc k) x h = get_last xs k x (omega arith)
 
 -- one number more of a list that is known place by place
-pub pushed_each : (f : ℕ → ℕ) (xs ys : List ℕ) (n y : ℕ) → ys ≡ xs ++ y ∷ [] → length xs ≡ n → ((k : ℕ) → k < n → slice_index xs k ≡ f k) → y ≡ f n →
-    (k : ℕ) → k < n + 1 → slice_index ys k ≡ f k
+pub pushed_each : (f : ℕ → ℕ) (xs ys : List ℕ) (n y : ℕ) → ys ≡ xs ++ y ∷ [] → length xs ≡ n →
+    ((k : ℕ) → k < n → slice_index xs k ≡ f k) → y ≡ f n → (k : ℕ) → k < n + 1 → slice_index ys k ≡ f k
 pushed_each f xs ys n y is len each here k l = elim (cases_lt k n) [
   | inl below ↦ ap (λ (zs : List ℕ). slice_index zs k) is ∙ before xs y k (omega arith) ∙ each k below
-  | inr above ↦ (let e : k ≡ n = omega arith in ap (λ (zs : List ℕ). slice_index zs k) is ∙ last xs y k (omega arith) ∙ here ∙ sym (ap f e))
+  | inr above ↦ (let e : k ≡ n = omega arith in ap (λ (zs : List ℕ). slice_index zs k) is ∙ last xs y k (omega arith)
+      ∙ here ∙ sym (ap f e))
 ]
   where
     before : (xs : List ℕ) (y k : ℕ) → k < length xs → slice_index (xs ++ y ∷ []) k ≡ slice_index xs k
@@ -50,7 +54,8 @@ pub pushed_count : {X : Type 0} (xs ys : List X) (y : X) (n : ℕ) → ys ≡ xs
 pushed_count xs ys y n is len = ap length is ∙ grind (arith, common_steps)
 
 -- a list that is written whole
-pub whole_rows : {X : Type 0} (old front : List X) → length front ≡ length old → take (length old) (front ++ drop (length front) old) ≡ front
+pub whole_rows : {X : Type 0} (old front : List X) → length front ≡ length old →
+    take (length old) (front ++ drop (length front) old) ≡ front
 whole_rows old front len = rw (sym len) (take_front front (drop (length front) old))
   where
     take_front : {X : Type 0} (xs ys : List X) → take (length xs) (xs ++ ys) ≡ xs

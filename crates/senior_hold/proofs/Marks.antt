@@ -1,10 +1,13 @@
 -- The set of a right after writes.
-use Rattle.std.proofs.Common.{◌≡◌, ◌≢◌, ℕ, zero, suc, [], ◌∷◌, ◌+◌, ◌<◌, ◌≤◌, Bool, true, false, refl, sym, ◌∙◌, ap, subst, arith, List, length, replicate, map, take, inl, inr}
+use Rattle.std.proofs.Common.{◌≡◌, ◌≢◌, ℕ, zero, suc, [], ◌∷◌, ◌+◌, ◌<◌, Bool, true, false, refl, sym, ◌∙◌, ap}
+use Rattle.std.proofs.Common.{subst, arith, List, length, replicate, inl, inr}
 use Rattle.std.proofs.lemmas.Bool.{cases_eq}
 use Rattle.std.proofs.lemmas.Bool.Decides.{nat_tests}
-use Rattle.std.proofs.lemmas.List.{ext_get_or, get_or-replicate, get_or-set_same, get_or-set_other, length-set, length-replicate, length-map, length-take-le, get_or-map, get_or-take}
+use Rattle.std.proofs.lemmas.List.{ext_get_or, get_or-replicate, get_or-set_same, get_or-set_other, length-set}
+use Rattle.std.proofs.lemmas.List.{length-replicate}
 use Rattle.std.proofs.lemmas.List.FromFn.{get_or-map-range_with_len, length-map-range_with_len}
-use Rattle.std.specs.Prelude.{◌==◌, ◌&&◌, nat_lt, slice_get, slice_set, slice_index, Option, Some, None, unwrap_or, option_map, IfSome, IsSome, IsTrue, ◌↔◌}
+use Rattle.std.specs.Prelude.{◌==◌, ◌&&◌, nat_lt, slice_get, slice_set, slice_index, Option, Some, None, unwrap_or}
+use Rattle.std.specs.Prelude.{option_map, IfSome, IsSome, IsTrue, ◌↔◌}
 use Rattle.bit_words.specs.Marks.{is_marked, marks}
 use Rattle.water_model.specs.CutSets.{CutSets, set_of, with_set}
 use Rattle.senior_hold.specs.MonthNetwork.{list_of}
@@ -18,7 +21,8 @@ pub set_of_other : (c : CutSets) (r q : ℕ) (s : Option (List Bool)) → q ≢ 
 set_of_other c r q s ne = ap (λ o. unwrap_or (option_map (λ set. set) o) None) (get_set_other c.sets r q s ne)
 
 pub with_twice : (c : CutSets) (r : ℕ) (s t : Option (List Bool)) → with_set (with_set c r s) r t ≡ with_set c r t
-with_twice c r s t = ap (λ (xs : List (Option (List Bool))). let d : CutSets = record c { sets = xs } in d) (set_twice c.sets r s t)
+with_twice c r s t = ap (λ (xs : List (Option (List Bool))). let d : CutSets = record c { sets = xs } in
+    d) (set_twice c.sets r s t)
 
 -- the set of the nodes below k that pass
 abbrev pub marked : ℕ → (ℕ → Bool) → ℕ → List Bool
@@ -35,8 +39,9 @@ same_marks n f g h = ext_get_or false (list_of n f) (list_of n g) (list_size n f
     (λ i l. let k : i < n = omega (arith, list_size n f) in list_at n f i k ∙ h i k ∙ sym (list_at n g i k))
 
 pub marked_none : (n : ℕ) (y : ℕ → Bool) → replicate n false ≡ marked n y 0
-marked_none n y = ext_get_or false (replicate n false) (marked n y 0) (length-replicate {A = Bool} n false ∙ sym (list_size n (λ v. nat_lt v 0 && y v)))
-    (λ i l. let k : i < n = count i l in get_or-replicate n i false false k ∙ sym (list_at n (λ v. nat_lt v 0 && y v) i k ∙ none i (y i)))
+marked_none n y = ext_get_or false (replicate n false) (marked n y 0) (length-replicate {A = Bool} n false
+    ∙ sym (list_size n (λ v. nat_lt v 0 && y v))) (λ i l. let k : i < n = count i l in
+    get_or-replicate n i false false k ∙ sym (list_at n (λ v. nat_lt v 0 && y v) i k ∙ none i (y i)))
   where
     count : (i : ℕ) → i < length (replicate n false) → i < n
     count i l = omega (arith, length-replicate {A = Bool} n false)
@@ -62,9 +67,14 @@ marked_skip n y k h = same_marks n (λ v. nat_lt v k && y v) (λ v. nat_lt v (k 
     other : (v k : ℕ) (t : Bool) → v ≢ k → nat_lt v k && t ≡ nat_lt v (k + 1) && t
     other v k t ne = grind (arith, nat_tests)
 
-pub marked_more : (n : ℕ) (y : ℕ → Bool) (k : ℕ) → k < n → y k ≡ true → slice_set (marked n y k) k true ≡ marked n y (k + 1)
-marked_more n y k m h = ext_get_or false (slice_set (marked n y k) k true) (marked n y (k + 1)) (length-set (marked n y k) k true ∙ (list_size n (λ v. nat_lt v k && y v) ∙ sym (list_size n (λ v. nat_lt v (k + 1) && y v))))
-    (λ i l. at i (let e = length-set (marked n y k) k true in omega (arith, list_size n (λ v. nat_lt v k && y v))) ∙ sym (list_at n (λ v. nat_lt v (k + 1) && y v) i (let e = length-set (marked n y k) k true in omega (arith, list_size n (λ v. nat_lt v k && y v)))))
+pub marked_more : (n : ℕ) (y : ℕ → Bool) (k : ℕ) → k < n → y k ≡ true →
+    slice_set (marked n y k) k true ≡ marked n y (k + 1)
+marked_more n y k m h = ext_get_or false (slice_set (marked n y k) k true) (marked n y (k + 1))
+    (length-set (marked n y k) k true
+    ∙ (list_size n (λ v. nat_lt v k && y v) ∙ sym (list_size n (λ v. nat_lt v (k + 1) && y v))))
+    (λ i l. at i (let e = length-set (marked n y k) k true in omega (arith, list_size n (λ v. nat_lt v k && y v)))
+    ∙ sym (list_at n (λ v. nat_lt v (k + 1) && y v) i (let e = length-set (marked n y k) k true in
+    omega (arith, list_size n (λ v. nat_lt v k && y v)))))
   where
     here : (i k : ℕ) (t : Bool) → i ≡ k → t ≡ true → true ≡ nat_lt i (k + 1) && t
     here i k t e h = grind (arith, nat_tests)
@@ -74,29 +84,39 @@ marked_more n y k m h = ext_get_or false (slice_set (marked n y k) k true) (mark
 
     at : (i : ℕ) → i < n → has (slice_set (marked n y k) k true) i ≡ nat_lt i (k + 1) && y i
     at i l = elim (cases_eq i k) [
-      | inl e ↦ ap (has (slice_set (marked n y k) k true)) e ∙ get_or-set_same (marked n y k) k true false (omega (arith, list_size n (λ v. nat_lt v k && y v)))
+      | inl e ↦ ap (has (slice_set (marked n y k) k true)) e
+          ∙ get_or-set_same (marked n y k) k true false (omega (arith, list_size n (λ v. nat_lt v k && y v)))
           ∙ here i k (y i) e (ap y e ∙ h)
-      | inr ne ↦ get_or-set_other (marked n y k) k i true false ne ∙ (list_at n (λ v. nat_lt v k && y v) i l ∙ other i k (y i) ne)
+      | inr ne ↦ get_or-set_other (marked n y k) k i true false ne
+          ∙ (list_at n (λ v. nat_lt v k && y v) i l ∙ other i k (y i) ne)
     ]
 
 -- one node more is marked
-pub mark_more : (c : CutSets) (new : CutSets) (r n : ℕ) (y : ℕ → Bool) (k : ℕ) → r < length c.sets → k < n → y k ≡ true →
-    IfSome (set_of (with_set c r (Some (marked n y k))) r) (λ set. new ≡ with_set (with_set c r (Some (marked n y k))) r (Some (slice_set set k true))) →
+pub mark_more : (c : CutSets) (new : CutSets) (r n : ℕ) (y : ℕ → Bool) (k : ℕ) → r < length c.sets → k < n →
+    y k ≡ true → IfSome (set_of (with_set c r (Some (marked n y k))) r)
+    (λ set. new ≡ with_set (with_set c r (Some (marked n y k))) r (Some (slice_set set k true))) →
     new ≡ with_set c r (Some (marked n y (k + 1)))
 mark_more c new r n y k l m h added =
-    let P : Option (List Bool) → Type 0 = λ (o : Option (List Bool)). IfSome o (λ set. new ≡ with_set (with_set c r (Some (marked n y k))) r (Some (slice_set set k true))) in
-    let done : new ≡ with_set (with_set c r (Some (marked n y k))) r (Some (slice_set (marked n y k) k true)) = subst P (set_of_with c r (Some (marked n y k)) l) added in
-    done ∙ (with_twice c r (Some (marked n y k)) (Some (slice_set (marked n y k) k true)) ∙ ap (λ (xs : List Bool). with_set c r (Some xs)) (marked_more n y k m h))
+    let P : Option (List Bool) → Type 0 =
+    λ (o : Option (List Bool)).
+    IfSome o (λ set. new ≡ with_set (with_set c r (Some (marked n y k))) r (Some (slice_set set k true))) in
+    let done : new ≡ with_set (with_set c r (Some (marked n y k))) r (Some (slice_set (marked n y k) k true)) =
+    subst P (set_of_with c r (Some (marked n y k)) l) added in
+    done ∙ (with_twice c r (Some (marked n y k)) (Some (slice_set (marked n y k) k true))
+    ∙ ap (λ (xs : List Bool). with_set c r (Some xs)) (marked_more n y k m h))
 
 pub with_same : (c : CutSets) (r : ℕ) (s : List Bool) → set_of c r ≡ Some s → with_set c r (Some s) ≡ c
-with_same c r s h = ap (λ (xs : List (Option (List Bool))). let d : CutSets = record c { sets = xs } in d) (same c.sets r h)
+with_same c r s h = ap (λ (xs : List (Option (List Bool))). let d : CutSets = record c { sets = xs } in
+    d) (same c.sets r h)
   where
-    same : (xs : List (Option (List Bool))) (r : ℕ) → unwrap_or (option_map (λ set. set) (slice_get xs r)) None ≡ Some s → slice_set xs r (Some s) ≡ xs
+    same : (xs : List (Option (List Bool))) (r : ℕ) →
+        unwrap_or (option_map (λ set. set) (slice_get xs r)) None ≡ Some s → slice_set xs r (Some s) ≡ xs
     same [] r h = refl
     same (x ∷ xs) zero h = ap (λ (o : Option (List Bool)). o ∷ xs) (sym h)
     same (x ∷ xs) (suc r) h = ap (λ (ys : List (Option (List Bool))). x ∷ ys) (same xs r h)
 
-pub is_some_set : (c new : CutSets) (r : ℕ) (s : List Bool) → r < length c.sets → new ≡ with_set c r (Some s) → IsSome (set_of new r)
+pub is_some_set : (c new : CutSets) (r : ℕ) (s : List Bool) → r < length c.sets → new ≡ with_set c r (Some s) →
+    IsSome (set_of new r)
 is_some_set c new r s l e = rw (e, set_of_with c r (Some s) l) refl
 
 -- a node was not reached where its word is 0

@@ -4,8 +4,10 @@ use Rattle.std.proofs.lemmas.Bool.{cases_lt}
 use Rattle.std.proofs.lemmas.Bool.Decides.{nat_tests}
 use Rattle.std.specs.Prelude.{◌==◌, Option, Some, None, is_some, if◌then◌else◌, ◌-◌, unwrap_or, option_map}
 use Rattle.place_sums.specs.Sums.{total, total_where, when}
-use Rattle.place_sums.proofs.Totals.{total_append, total_counted, count_less, count_apart, place_counted, total_same, total_zero, total_pick}
-use Rattle.water_model.specs.Basin.{tail_of, head_of, is_outlet, taking_node, taking_node_of_kind, instream_link, link_of_kind, is_at, takes_at}
+use Rattle.place_sums.proofs.Totals.{total_append, total_counted, count_less, count_apart, place_counted, total_same}
+use Rattle.place_sums.proofs.Totals.{total_zero, total_pick}
+use Rattle.water_model.specs.Basin.{tail_of, head_of, is_outlet, taking_node, taking_node_of_kind, instream_link}
+use Rattle.water_model.specs.Basin.{link_of_kind, is_at, takes_at}
 use Rattle.water_model.specs.Valid.{IsValidBasin, IsValidReservoir, HasValidPlace}
 use Rattle.water_model.specs.declared.types.Basin.{Basin}
 use Rattle.water_model.specs.declared.types.RightKind.{RightKind}
@@ -28,7 +30,8 @@ arcs_total b f =
       total_counted (length b.nodes) (taker_count b) (λ n. is_outlet b n) (λ k. f (length b.links + k)),
     )
 
-pub take_arc_below : (b : Basin) (r : ℕ) → r < length b.rights → takes b r ≡ true → take_arc b r < length b.links + taker_count b
+pub take_arc_below : (b : Basin) (r : ℕ) → r < length b.rights → takes b r ≡ true →
+    take_arc b r < length b.links + taker_count b
 take_arc_below b r l h = omega (arith, count_less r (length b.rights) (λ r. takes b r) l h)
 
 pub out_arc_below : (b : Basin) (n : ℕ) → n < length b.nodes → is_outlet b n ≡ true → out_arc b n < arc_count b
@@ -50,7 +53,8 @@ arc_is b a l = elim (cases_lt a (length b.links)) [
     | inl take ↦ (let c = place_counted (length b.rights) (a - length b.links) (λ r. takes b r) (omega arith) in
         let number = c.number in
         is_take c.place c.below c.passes (omega arith))
-    | inr out ↦ (let c = place_counted (length b.nodes) (a - (length b.links + taker_count b)) (λ n. is_outlet b n) (omega arith) in
+    | inr out ↦ (let c = place_counted (length b.nodes) (a - (length b.links + taker_count b)) (λ n. is_outlet b n)
+        (omega arith) in
         let number = c.number in
         is_out c.place c.below c.passes (omega arith))
   ]
@@ -67,7 +71,8 @@ right_kind b valid r l = of_kind k.kind k.link k.node k.place
     k : KindIs b r
     k = kind_is b valid r l
 
-    of_kind : (kind : RightKind) → instream_link b r ≡ link_of_kind kind → taking_node b r ≡ taking_node_of_kind b kind → HasValidPlace b kind → IsKind b r
+    of_kind : (kind : RightKind) → instream_link b r ≡ link_of_kind kind →
+        taking_node b r ≡ taking_node_of_kind b kind → HasValidPlace b kind → IsKind b r
     of_kind (Diversion node) i t h = at_node node h i t
     of_kind (Instream link) i t h = on_link link h i t
     of_kind (Zone reservoir level) i t h =
@@ -92,9 +97,12 @@ node_inflow b w g v ends l =
       arith,
       ap (λ n. total n f) ends.arcs,
       arcs_total b f,
-      total_same (length b.links) f (λ e. if head_of b e == v then g e else 0) (λ e k. ap (λ n. if n == v then g e else 0) (ends.link_to e k)),
-      total_zero (length b.rights) (λ r. if takes b r then f (take_arc b r) else 0) (λ r k. none (takes b r) (take_arc b r) (ends.take_to r k)),
-      total_zero (length b.nodes) (λ n. if is_outlet b n then f (out_arc b n) else 0) (λ n k. none (is_outlet b n) (out_arc b n) (ends.out_to n k)),
+      total_same (length b.links) f (λ e. if head_of b e == v then g e else 0)
+          (λ e k. ap (λ n. if n == v then g e else 0) (ends.link_to e k)),
+      total_zero (length b.rights) (λ r. if takes b r then f (take_arc b r) else 0)
+          (λ r k. none (takes b r) (take_arc b r) (ends.take_to r k)),
+      total_zero (length b.nodes) (λ n. if is_outlet b n then f (out_arc b n) else 0)
+          (λ n k. none (is_outlet b n) (out_arc b n) (ends.out_to n k)),
     )
   where
     f : ℕ → ℕ
@@ -114,7 +122,8 @@ node_outflow b w g v ends l =
       arith,
       ap (λ n. total n f) ends.arcs,
       arcs_total b f,
-      total_same (length b.links) f (λ e. if tail_of b e == v then g e else 0) (λ e k. ap (λ n. if n == v then g e else 0) (ends.link_from e k)),
+      total_same (length b.links) f (λ e. if tail_of b e == v then g e else 0)
+          (λ e k. ap (λ n. if n == v then g e else 0) (ends.link_from e k)),
       total_same (length b.rights) (λ r. if takes b r then f (take_arc b r) else 0)
           (λ r. if takes_at b r v then (if takes b r then g (take_arc b r) else 0) else 0)
           (λ r k. at_take (taking_node b r) (take_arc b r) (ends.take_from r k)),
@@ -129,7 +138,8 @@ node_outflow b w g v ends l =
     at_take : (o : Option ℕ) (a : ℕ) → (is_some o ≡ true → o ≡ Some (w.from a)) →
         (if is_some o then f a else 0) ≡ (if is_at o v then (if is_some o then g a else 0) else 0)
     at_take None a h = refl
-    at_take (Some u) a h = let e : Some u ≡ Some (w.from a) = h refl in let same : u ≡ w.from a = cc in ap (λ n. if n == v then g a else 0) (sym same)
+    at_take (Some u) a h = let e : Some u ≡ Some (w.from a) = h refl in let same : u ≡ w.from a = cc in
+        ap (λ n. if n == v then g a else 0) (sym same)
 
     differs : (n v : ℕ) → (n ≡ v → ⊥) → n == v ≡ false
     differs n v ne = grind (arith, nat_tests)

@@ -1,5 +1,6 @@
 -- The places of the circulation and the tree, and their words while they are lent.
-use Rattle.std.proofs.Common.{ℕ, ◌≡◌, ◌≢◌, ◌+◌, ◌-◌, ◌^◌, ◌<◌, ◌≤◌, List, ◌++◌, length, take, drop, refl, arith, ap, sym, subst, ◌∙◌}
+use Rattle.std.proofs.Common.{ℕ, ◌≡◌, ◌≢◌, ◌+◌, ◌-◌, ◌^◌, ◌<◌, ◌≤◌, List, ◌++◌, length, take, drop, refl, arith, ap}
+use Rattle.std.proofs.Common.{sym, subst, ◌∙◌}
 use Rattle.std.specs.Prelude.{All}
 use Rattle.std.proofs.lemmas.List.{take_at, take_all, take-take, drop_at, length-append}
 use Rattle.word_region.specs.Words.{Words, words_at, with_words, zeroed}
@@ -13,14 +14,14 @@ use Rattle.circulation.specs.declared.Circulation.{Circulation}
 use Rattle.circulation.specs.declared.Ends.{Ends}
 use Rattle.circulation.specs.Rows.{Rows}
 use Rattle.circulation.specs.Contents.{Contents, network, emptied, empty_contents}
-use Rattle.circulation.specs.Places.{tails, heads, word_count, fixed_count, AreWordsOf, HasWords, Holds}
+use Rattle.circulation.specs.Places.{tails, heads, fixed_count, AreWordsOf, HasWords, Holds}
 use Rattle.circulation.proofs.Lends.{written_place}
 use Rattle.circulation.proofs.Holding.{held_when_taken}
 use Rattle.residual_tree.specs.TreeWords.{tree_words}
 use Rattle.senior_hold.specs.MonthNetwork.{arc_count, takes, HasBasinEnds}
 use Rattle.senior_hold.specs.Arcs.{AreEnds}
 use Rattle.senior_hold.specs.Spilled.{spilled}
-use Rattle.senior_hold.specs.Places.{month_words, HasParts, HasPlaces}
+use Rattle.senior_hold.specs.Places.{HasParts, HasPlaces}
 use Rattle.senior_hold.specs.declared.places.Places.{Places}
 use Rattle.senior_hold.proofs.Laid.{laid_ends, laid_fits, links_apart}
 use Rattle.senior_hold.proofs.MonthArcs.{right_kind}
@@ -125,7 +126,8 @@ places_again b r p fixed moving new tree c h ends w front all size =
     ∙ ap (take p.circ.place.len) (written_place r.words (held ++ tree) (both_of p) whole fits)
     ∙ take_at held tree p.circ.place.len long in
     let one = subst (λ (xs : List ℕ). AreWordsOf p.circ (emptied c) xs new) (sym (take_at fixed new n front)) w in
-    let two = subst (λ (xs : List ℕ). AreWordsOf p.circ (emptied c) (take n held) xs) (sym (drop_at fixed new n front)) one in
+    let two = subst (λ (xs : List ℕ). AreWordsOf p.circ (emptied c) (take n held) xs) (sym (drop_at fixed new n front))
+    one in
     record {
       contents = emptied c;
       held = record {

@@ -9,8 +9,10 @@ use Rattle.water_model.specs.declared.types.Basin.{Basin}
 use Rattle.water_model.specs.declared.types.Plan.{Plan}
 use Rattle.water_model.proofs.Sets.{total_where_same}
 use Rattle.circulation.specs.Network.{Network, IsFlow, inflow, outflow}
-use Rattle.senior_hold.specs.MonthNetwork.{takes, take_arc, out_arc, right_arc, arc_by_link, arc_count, IsMonthNetwork, plan_of, list_of}
-use Rattle.senior_hold.proofs.MonthArcs.{IsKind, on_link, at_node, IsArc, is_link, is_take, is_out, arc_is, take_arc_below, node_inflow, node_outflow}
+use Rattle.senior_hold.specs.MonthNetwork.{takes, take_arc, out_arc, right_arc, arc_by_link, arc_count, IsMonthNetwork}
+use Rattle.senior_hold.specs.MonthNetwork.{plan_of, list_of}
+use Rattle.senior_hold.proofs.MonthArcs.{IsKind, on_link, at_node, IsArc, is_link, is_take, is_out, arc_is}
+use Rattle.senior_hold.proofs.MonthArcs.{take_arc_below, node_inflow, node_outflow}
 use Rattle.water_model.specs.Plans.{IsPlan, delivery, delivery_by_link}
 use Rattle.senior_hold.specs.Solved.{AreWants}
 use Rattle.senior_hold.proofs.Swept.{delivered_by}
@@ -35,10 +37,12 @@ plan_is b month supply want w g net flow = record {
   flow_len = list_len (length b.links) g;
   take_len = list_len (length b.rights) took;
   out_len = list_len (length b.nodes) gone;
-  carries = λ e l. (let at = list_get (length b.links) g e l in let up = net.link_upper e l in let high = flow.high e (link_in e l) in omega arith);
+  carries = λ e l. (let at = list_get (length b.links) g e l in let up = net.link_upper e l in
+      let high = flow.high e (link_in e l) in omega arith);
   wants = λ r l. (let at = list_get (length b.rights) took r l in
       let le = when_le (takes b r) (g (take_arc b r)) (slice_index want r)
-      (λ h. let up = net.take_upper r l h in let high = flow.high (take_arc b r) (take_in r l h) in omega arith) in omega arith);
+      (λ h. let up = net.take_upper r l h in let high = flow.high (take_arc b r) (take_in r l h) in omega arith) in
+      omega arith);
   instream = λ r l h. list_get (length b.rights) took r l ∙ when_off (takes b r) (g (take_arc b r)) (ap is_some h);
   outlets = λ n l h. list_get (length b.nodes) gone n l ∙ when_off (is_outlet b n) (g (out_arc b n)) h;
   balance = λ v l. omega (
@@ -47,9 +51,12 @@ plan_is b month supply want w g net flow = record {
     flow.balanced v (let n = net.ends.nodes in omega arith),
     node_inflow b w g v net.ends l,
     node_outflow b w g v net.ends l,
-    total_where_same (length b.links) (λ e. head_of b e == v) (λ e. slice_index (list_of (length b.links) g) e) g (list_get (length b.links) g),
-    total_where_same (length b.links) (λ e. tail_of b e == v) (λ e. slice_index (list_of (length b.links) g) e) g (list_get (length b.links) g),
-    total_where_same (length b.rights) (λ r. takes_at b r v) (λ r. slice_index (list_of (length b.rights) took) r) took (list_get (length b.rights) took),
+    total_where_same (length b.links) (λ e. head_of b e == v) (λ e. slice_index (list_of (length b.links) g) e) g
+        (list_get (length b.links) g),
+    total_where_same (length b.links) (λ e. tail_of b e == v) (λ e. slice_index (list_of (length b.links) g) e) g
+        (list_get (length b.links) g),
+    total_where_same (length b.rights) (λ r. takes_at b r v) (λ r. slice_index (list_of (length b.rights) took) r) took
+        (list_get (length b.rights) took),
     list_get (length b.nodes) gone v l,
   );
 }
@@ -68,11 +75,13 @@ plan_is b month supply want w g net flow = record {
 
 pub right_arc_in : (b : Basin) (r : ℕ) → r < length b.rights → IsKind b r → right_arc b r < arc_count b
 right_arc_in b r l (on_link e k i t) = let same = ap (arc_by_link b r) i in omega arith
-right_arc_in b r l (at_node v k i t) = let same = ap (arc_by_link b r) i in omega (arith, take_arc_below b r l (ap is_some t))
+right_arc_in b r l (at_node v k i t) = let same = ap (arc_by_link b r) i in
+    omega (arith, take_arc_below b r l (ap is_some t))
 
 -- a right's arc carries what the right wants
-pub want_fits : (b : Basin) (month : Month) (supply want : List ℕ) (w : Network) (r : ℕ) → IsMonthNetwork b month supply want w →
-    AreWants b month want → r < length b.rights → IsKind b r → slice_index want r ≤ w.upper (right_arc b r)
+pub want_fits : (b : Basin) (month : Month) (supply want : List ℕ) (w : Network) (r : ℕ) →
+    IsMonthNetwork b month supply want w → AreWants b month want → r < length b.rights → IsKind b r →
+    slice_index want r ≤ w.upper (right_arc b r)
 want_fits b month supply want w r net fit l (on_link e k i t) =
     let same : w.upper (right_arc b r) ≡ w.upper e = ap (λ o. w.upper (arc_by_link b r o)) i in
     omega (arith, net.link_upper e k, fit.instream r e l i)
@@ -87,15 +96,19 @@ pub delivery_is : (b : Basin) (month : Month) (supply want : List ℕ) (w : Netw
 delivery_is b month supply want w g r net flow l (on_link e k i t) =
     let one : delivery b want (plan_of b g) r ≡ min (slice_index want r) (slice_index (list_of (length b.links) g) e)
     = ap (λ o. delivery_by_link o (slice_index want r) (plan_of b g) r) i in
-    let two : delivered_by b want g r ≡ min (slice_index want r) (g e) = ap (λ o. min (slice_index want r) (g (arc_by_link b r o))) i in
+    let two : delivered_by b want g r ≡ min (slice_index want r) (g e) =
+    ap (λ o. min (slice_index want r) (g (arc_by_link b r o))) i in
     let at = list_get (length b.links) g e k in
     omega arith
 delivery_is b month supply want w g r net flow l (at_node v k i t) =
     let one : delivery b want (plan_of b g) r ≡ slice_index (plan_of b g).take r
     = ap (λ o. delivery_by_link o (slice_index want r) (plan_of b g) r) i in
-    let two : delivered_by b want g r ≡ min (slice_index want r) (g (take_arc b r)) = ap (λ o. min (slice_index want r) (g (arc_by_link b r o))) i in
-    let at : slice_index (plan_of b g).take r ≡ when (takes b r) (g (take_arc b r)) = list_get (length b.rights) (λ r. when (takes b r) (g (take_arc b r))) r l in
-    let taken : when (takes b r) (g (take_arc b r)) ≡ g (take_arc b r) = ap (λ t. when t (g (take_arc b r))) (ap is_some t) in
+    let two : delivered_by b want g r ≡ min (slice_index want r) (g (take_arc b r)) =
+    ap (λ o. min (slice_index want r) (g (arc_by_link b r o))) i in
+    let at : slice_index (plan_of b g).take r ≡ when (takes b r) (g (take_arc b r)) =
+    list_get (length b.rights) (λ r. when (takes b r) (g (take_arc b r))) r l in
+    let taken : when (takes b r) (g (take_arc b r)) ≡ g (take_arc b r) =
+    ap (λ t. when t (g (take_arc b r))) (ap is_some t) in
     let up = net.take_upper r l (ap is_some t) in
     let high = flow.high (take_arc b r) (let n = net.ends.arcs in omega (arith, take_arc_below b r l (ap is_some t))) in
     omega arith
@@ -115,16 +128,17 @@ flow_is b month supply want w p g net plan lowers links rights outs small = reco
   where
     high : (a : ℕ) → IsArc b a → g a ≤ w.upper a
     high a (is_link l) = omega (arith, links a l, net.link_upper a l, plan.carries a l)
-    high a (is_take r l h e) = subst (λ a. g a ≤ w.upper a) e (omega (arith, rights r l h, net.take_upper r l h, plan.wants r l))
+    high a (is_take r l h e) =
+        subst (λ a. g a ≤ w.upper a) e (omega (arith, rights r l h, net.take_upper r l h, plan.wants r l))
     high a (is_out n l h e) = subst (λ a. g a ≤ w.upper a) e (omega (arith, outs n l h, small n l h))
 
-    took : (r : ℕ) (o : Option ℕ) → ((is_some o ≡ true) → g (take_arc b r) ≡ slice_index p.take r) → (o ≡ None → slice_index p.take r ≡ 0) →
-        when (is_some o) (g (take_arc b r)) ≡ slice_index p.take r
+    took : (r : ℕ) (o : Option ℕ) → ((is_some o ≡ true) → g (take_arc b r) ≡ slice_index p.take r) →
+        (o ≡ None → slice_index p.take r ≡ 0) → when (is_some o) (g (take_arc b r)) ≡ slice_index p.take r
     took r None f z = sym (z refl)
     took r (Some v) f z = f refl
 
-    gone : (v : ℕ) (t : Bool) → (t ≡ true → g (out_arc b v) ≡ slice_index p.out v) → (t ≡ false → slice_index p.out v ≡ 0) →
-        when t (g (out_arc b v)) ≡ slice_index p.out v
+    gone : (v : ℕ) (t : Bool) → (t ≡ true → g (out_arc b v) ≡ slice_index p.out v) →
+        (t ≡ false → slice_index p.out v ≡ 0) → when t (g (out_arc b v)) ≡ slice_index p.out v
     gone v true f z = f refl
     gone v false f z = sym (z refl)
 
@@ -137,7 +151,7 @@ flow_is b month supply want w p g net plan lowers links rights outs small = reco
       node_outflow b w g v net.ends l,
       total_where_same (length b.links) (λ e. head_of b e == v) g (λ e. slice_index p.flow e) links,
       total_where_same (length b.links) (λ e. tail_of b e == v) g (λ e. slice_index p.flow e) links,
-      total_where_same (length b.rights) (λ r. takes_at b r v) (λ r. when (takes b r) (g (take_arc b r))) (λ r. slice_index p.take r)
-          (λ r k. took r (taking_node b r) (rights r k) (plan.instream r k)),
+      total_where_same (length b.rights) (λ r. takes_at b r v) (λ r. when (takes b r) (g (take_arc b r)))
+          (λ r. slice_index p.take r) (λ r k. took r (taking_node b r) (rights r k) (plan.instream r k)),
       gone v (is_outlet b v) (outs v l) (plan.outlets v l),
     )

@@ -19,26 +19,33 @@ pub out_arc_more : (b : Basin) (n : ℕ) → out_arc b (n + 1) ≡ out_arc b n +
 out_arc_more b n = omega (arith, total_where_more n (λ n. is_outlet b n) (λ k. 1))
 
 pub take_arc_skip : (b : Basin) (r : ℕ) → takes b r ≡ false → take_arc b r ≡ take_arc b (r + 1)
-take_arc_skip b r h = let t : (if takes b r then 1 else 0) ≡ 0 + 0 = ap (λ t. if t then 1 else 0) h in omega (arith, take_arc_more b r)
+take_arc_skip b r h = let t : (if takes b r then 1 else 0) ≡ 0 + 0 = ap (λ t. if t then 1 else 0) h in
+    omega (arith, take_arc_more b r)
 
 pub take_arc_step : (b : Basin) (r : ℕ) → takes b r ≡ true → take_arc b r + 1 ≡ take_arc b (r + 1)
-take_arc_step b r h = let t : (if takes b r then 1 else 0) ≡ 0 + 1 = ap (λ t. if t then 1 else 0) h in omega (arith, take_arc_more b r)
+take_arc_step b r h = let t : (if takes b r then 1 else 0) ≡ 0 + 1 = ap (λ t. if t then 1 else 0) h in
+    omega (arith, take_arc_more b r)
 
 pub out_arc_skip : (b : Basin) (n : ℕ) → is_outlet b n ≡ false → out_arc b n ≡ out_arc b (n + 1)
-out_arc_skip b n h = let t : (if is_outlet b n then 1 else 0) ≡ 0 + 0 = ap (λ t. if t then 1 else 0) h in omega (arith, out_arc_more b n)
+out_arc_skip b n h = let t : (if is_outlet b n then 1 else 0) ≡ 0 + 0 = ap (λ t. if t then 1 else 0) h in
+    omega (arith, out_arc_more b n)
 
 pub out_arc_step : (b : Basin) (n : ℕ) → is_outlet b n ≡ true → out_arc b n + 1 ≡ out_arc b (n + 1)
-out_arc_step b n h = let t : (if is_outlet b n then 1 else 0) ≡ 0 + 1 = ap (λ t. if t then 1 else 0) h in omega (arith, out_arc_more b n)
+out_arc_step b n h = let t : (if is_outlet b n then 1 else 0) ≡ 0 + 1 = ap (λ t. if t then 1 else 0) h in
+    omega (arith, out_arc_more b n)
 
 -- an instream right has its link as its arc, and takes nothing
 pub record IsOnLink (b : Basin) (r e : ℕ) : Type 0 where
   pub arc : right_arc b r ≡ e
   pub none : takes b r ≡ false
 
-pub instream_arc : (b : Basin) (r e : ℕ) (x : Right) → slice_get b.rights r ≡ Some x → x.kind ≡ Instream e → IsOnLink b r e
+pub instream_arc : (b : Basin) (r e : ℕ) (x : Right) → slice_get b.rights r ≡ Some x → x.kind ≡ Instream e →
+    IsOnLink b r e
 instream_arc b r e x at is = record {
-  arc = ap (arc_by_link b r) (ap (λ o. unwrap_or (option_map (λ x. link_of_kind x.kind) o) None) at ∙ ap link_of_kind is);
-  none = ap is_some (ap (λ o. unwrap_or (option_map (λ x. taking_node_of_kind b x.kind) o) None) at ∙ ap (taking_node_of_kind b) is);
+  arc = ap (arc_by_link b r) (ap (λ o. unwrap_or (option_map (λ x. link_of_kind x.kind) o) None) at
+      ∙ ap link_of_kind is);
+  none = ap is_some (ap (λ o. unwrap_or (option_map (λ x. taking_node_of_kind b x.kind) o) None) at
+      ∙ ap (taking_node_of_kind b) is);
 }
 
 -- any other right has the arc of its take
@@ -46,7 +53,8 @@ pub record IsAtNode (b : Basin) (r : ℕ) : Type 0 where
   pub arc : right_arc b r ≡ take_arc b r
   pub takes_here : takes b r ≡ true
 
-pub taker_arc : (b : Basin) (r : ℕ) (x : Right) → IsValidBasin b → r < length b.rights → slice_get b.rights r ≡ Some x → ((e : ℕ) → x.kind ≡ Instream e → ⊥) → IsAtNode b r
+pub taker_arc : (b : Basin) (r : ℕ) (x : Right) → IsValidBasin b → r < length b.rights → slice_get b.rights r ≡ Some x →
+    ((e : ℕ) → x.kind ≡ Instream e → ⊥) → IsAtNode b r
 taker_arc b r x valid l at not = of_kind (right_kind b valid r l)
   where
     no_link : (k : RightKind) → x.kind ≡ k → link_of_kind k ≡ None
@@ -62,5 +70,8 @@ taker_arc b r x valid l at not = of_kind (right_kind b valid r l)
     of_kind (at_node v k i t) = record { arc = ap (arc_by_link b r) i; takes_here = ap is_some t }
 
 -- seniority by the entries of two rights
-pub senior_is : (b : Basin) (s r : ℕ) (x z : Right) → slice_get b.rights s ≡ Some x → slice_get b.rights r ≡ Some z → is_senior b s r ≡ is_lower (priority x) (priority z)
-senior_is b s r x z h i = ap₂ (λ (o p : Option Right). is_lower (unwrap_or (option_map priority o) []) (unwrap_or (option_map priority p) [])) h i
+pub senior_is : (b : Basin) (s r : ℕ) (x z : Right) → slice_get b.rights s ≡ Some x → slice_get b.rights r ≡ Some z →
+    is_senior b s r ≡ is_lower (priority x) (priority z)
+senior_is b s r x z h i =
+    ap₂ (λ (o p : Option Right). is_lower (unwrap_or (option_map priority o) []) (unwrap_or (option_map priority p) []))
+    h i

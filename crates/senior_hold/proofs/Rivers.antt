@@ -28,13 +28,15 @@ made flow taken out = record { flow = flow; take = taken; out = out }
 
 -- three lists that are written whole
 pub made_whole : (f t o f' t' o' : List ℕ) → length f' ≡ length f → length t' ≡ length t → length o' ≡ length o →
-    made f' t' o' ≡ made (take (length f) (f' ++ drop (length f') f)) (take (length t) (t' ++ drop (length t') t)) (take (length o) (o' ++ drop (length o') o))
+    made f' t' o' ≡ made (take (length f) (f' ++ drop (length f') f)) (take (length t) (t' ++ drop (length t') t))
+    (take (length o) (o' ++ drop (length o') o))
 made_whole f t o f' t' o' a b c =
-    ap₂ (λ (x z : List ℕ). made x z o') (sym (whole_rows f f' a)) (sym (whole_rows t t' b)) ∙ ap (made _ _) (sym (whole_rows o o' c))
+    ap₂ (λ (x z : List ℕ). made x z o') (sym (whole_rows f f' a)) (sym (whole_rows t t' b))
+    ∙ ap (made _ _) (sym (whole_rows o o' c))
 
 -- nothing is taken, and the rest runs by nature
-pub river_is : (b : Basin) (supply f t o : List ℕ) (n : ℕ) → t ≡ replicate n 0 → n ≡ length b.rights → length t ≡ length b.rights →
-    RunsNaturally b.nodes b.links supply f o → IsRunOfRiver b supply (made f t o)
+pub river_is : (b : Basin) (supply f t o : List ℕ) (n : ℕ) → t ≡ replicate n 0 → n ≡ length b.rights →
+    length t ≡ length b.rights → RunsNaturally b.nodes b.links supply f o → IsRunOfRiver b supply (made f t o)
 river_is b supply f t o n none size len run = record {
   run = run;
   take_len = len;
@@ -42,5 +44,6 @@ river_is b supply f t o n none size len run = record {
 }
 
 -- no node lets out more than all have
-pub out_small : (supply out : List ℕ) → total_of out ≡ total_of supply → total_of supply < 10 ^ 15 → (n : ℕ) → n < length out → slice_index out n ≤ 10 ^ 15
+pub out_small : (supply out : List ℕ) → total_of out ≡ total_of supply → total_of supply < 10 ^ 15 → (n : ℕ) →
+    n < length out → slice_index out n ≤ 10 ^ 15
 out_small supply out all few n l = omega (arith, term_le_total (length out) (λ v. slice_index out v) n l)

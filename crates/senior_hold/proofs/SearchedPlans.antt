@@ -1,5 +1,6 @@
 -- A month by searches, over the network with a spill at each node of which only those of outlets carry anything.
-use Rattle.std.proofs.Common.{◌≡◌, ℕ, ◌+◌, ◌<◌, ◌≤◌, ◌^◌, ◌⊎◌, Bool, true, false, refl, sym, ◌∙◌, ap, subst, arith, List, length, inl, inr}
+use Rattle.std.proofs.Common.{◌≡◌, ℕ, ◌+◌, ◌<◌, ◌≤◌, ◌^◌, ◌⊎◌, Bool, true, false, refl, sym, ◌∙◌, ap, subst, arith}
+use Rattle.std.proofs.Common.{List, length, inl, inr}
 use Rattle.std.proofs.lemmas.Bool.{cases_Bool, le-ltb, false≢true}
 use Rattle.std.proofs.lemmas.List.{length-replicate, get_or-replicate}
 use Rattle.std.specs.Prelude.{slice_index, nat_lt}
@@ -22,7 +23,8 @@ use Rattle.augment.specs.Raised.{open_arcs}
 use Rattle.rights_roll.specs.SeniorityOrder.{IsSeniorityOrder}
 use Rattle.senior_hold.specs.Arcs.{AreBounds, AreAmounts}
 use Rattle.senior_hold.specs.Layouts.{IsBegun, OutletsAlone}
-use Rattle.senior_hold.specs.MonthNetwork.{taker_count, out_arc, spill_arc, arc_count, plan_of, HasBasinEnds, IsMonthNetwork}
+use Rattle.senior_hold.specs.MonthNetwork.{taker_count, out_arc, spill_arc, arc_count, plan_of, HasBasinEnds}
+use Rattle.senior_hold.specs.MonthNetwork.{IsMonthNetwork}
 use Rattle.senior_hold.specs.Solved.{FitsPlan, IsGiven, IsSettled, IsSolved}
 use Rattle.senior_hold.specs.Spilled.{spilled}
 use Rattle.senior_hold.proofs.Begins.{begun_net, begun_flow, plan_same}
@@ -50,27 +52,30 @@ plan_up b month supply want p plan = record {
 }
 
 -- what is let out is no more than there may be
-pub outlets_most : (b : Basin) (month : Month) (supply want : List ℕ) (p : Plan) (most : ℕ → ℕ) → IsPlan b month supply want p →
-    ((n : ℕ) → n < length b.nodes → most n ≡ when (is_outlet b n) (10 ^ 15)) →
-    ((n : ℕ) → n < length b.nodes → slice_index p.out n ≤ 10 ^ 15) → (n : ℕ) → n < length b.nodes → slice_index p.out n ≤ most n
+pub outlets_most : (b : Basin) (month : Month) (supply want : List ℕ) (p : Plan) (most : ℕ → ℕ) →
+    IsPlan b month supply want p → ((n : ℕ) → n < length b.nodes → most n ≡ when (is_outlet b n) (10 ^ 15)) →
+    ((n : ℕ) → n < length b.nodes → slice_index p.out n ≤ 10 ^ 15) → (n : ℕ) → n < length b.nodes →
+    slice_index p.out n ≤ most n
 outlets_most b month supply want p most plan is small n l = elim (cases_Bool (is_outlet b n)) [
   | inl let_out ↦ omega (arith, small n l, is n l, ap (λ (t : Bool). when t (10 ^ 15)) let_out)
   | inr shut ↦ omega (arith, plan.outlets n l shut)
 ]
 
 -- a spill carries at most 10^15
-pub outlets_small : (b : Basin) (most : ℕ → ℕ) → ((n : ℕ) → n < length b.nodes → most n ≡ when (is_outlet b n) (10 ^ 15)) →
-    (n : ℕ) → n < length b.nodes → most n ≤ 10 ^ 15
+pub outlets_small : (b : Basin) (most : ℕ → ℕ) →
+    ((n : ℕ) → n < length b.nodes → most n ≡ when (is_outlet b n) (10 ^ 15)) → (n : ℕ) → n < length b.nodes →
+    most n ≤ 10 ^ 15
 outlets_small b most is n l = elim (cases_Bool (is_outlet b n)) [
   | inl let_out ↦ omega (arith, is n l, ap (λ (t : Bool). when t (10 ^ 15)) let_out)
   | inr shut ↦ omega (arith, is n l, ap (λ (t : Bool). when t (10 ^ 15)) shut)
 ]
 
 -- a month begins with the run of the river
-pub begun : (b : Basin) (month : Month) (supply want upper start : List ℕ) (c new : Contents) (p : Plan) (most : ℕ → ℕ) →
-    HasBasinEnds (spilled b) (network c) → AreBounds (spilled b) month want most (λ a. slice_index upper a) →
-    ((n : ℕ) → n < length b.nodes → most n ≡ when (is_outlet b n) (10 ^ 15)) → FitsPlan b p → IsPlan b month supply want p →
-    IsRunOfRiver b supply p → AreAmounts (spilled b) p (λ a. slice_index start a) →
+pub begun : (b : Basin) (month : Month) (supply want upper start : List ℕ) (c new : Contents) (p : Plan)
+    (most : ℕ → ℕ) → HasBasinEnds (spilled b) (network c) →
+    AreBounds (spilled b) month want most (λ a. slice_index upper a) →
+    ((n : ℕ) → n < length b.nodes → most n ≡ when (is_outlet b n) (10 ^ 15)) → FitsPlan b p →
+    IsPlan b month supply want p → IsRunOfRiver b supply p → AreAmounts (spilled b) p (λ a. slice_index start a) →
     ((n : ℕ) → n < length b.nodes → slice_index p.out n ≤ 10 ^ 15) → new ≡ month_contents c supply upper start →
     IsBegun b month supply want new p
 begun b month supply want upper start c new p most ends are is fits plan run laid small made =
@@ -91,8 +96,9 @@ begun b month supply want upper start c new p most ends are is fits plan run lai
     }
 
 -- a month stands so before any right is served
-pub standing_start : (b : Basin) (month : Month) (supply want order : List ℕ) (c : Contents) (cuts : CutSets) (p q : Plan) →
-    IsBegun b month supply want c p → IsGiven b month supply want q cuts → IsStanding (spilled b) month supply want order 0 c cuts
+pub standing_start : (b : Basin) (month : Month) (supply want order : List ℕ) (c : Contents) (cuts : CutSets)
+    (p q : Plan) → IsBegun b month supply want c p → IsGiven b month supply want q cuts →
+    IsStanding (spilled b) month supply want order 0 c cuts
 standing_start b month supply want order c cuts p q start given =
     standing_first (spilled b) month supply want order c cuts start.net start.is_flow start.size start.free
     (record { nodes = given.fits_cuts.nodes ∙ sym (spilled_count b); rights = given.fits_cuts.rights }) given.no_sets
@@ -105,13 +111,22 @@ open_few b c ends outlets =
     let takers = taker_count b in
     let nodes = length b.nodes in
     let f : ℕ → ℕ = λ a. when (nat_lt 0 (slice_index c.upper a)) 1 in
-    let all : open_arcs (network c) ≡ total (links + (takers + nodes)) f = ap (λ n. total n f) (ends.arcs ∙ spilled_arcs b) in
+    let all : open_arcs (network c) ≡ total (links + (takers + nodes)) f =
+    ap (λ n. total n f) (ends.arcs ∙ spilled_arcs b) in
     let first = total_at_most links 1 f (λ k. one (nat_lt 0 (slice_index c.upper k))) in
     let second = total_at_most takers 1 (λ k. f (links + k)) (λ k. one (nat_lt 0 (slice_index c.upper (links + k)))) in
     let third : total nodes (λ n. f (spill_arc b n)) ≤ count_where nodes (λ n. is_outlet b n) =
     total_le nodes (λ n. f (spill_arc b n)) (λ n. when (is_outlet b n) 1)
     (λ n l. outlet (is_outlet b n) (slice_index c.upper (spill_arc b n)) (outlets n l)) in
-    omega (arith, all, first, second, third, total_append links (takers + nodes) f, total_append takers nodes (λ k. f (links + k)))
+    omega (
+      arith,
+      all,
+      first,
+      second,
+      third,
+      total_append links (takers + nodes) f,
+      total_append takers nodes (λ k. f (links + k)),
+    )
   where
     one : (t : Bool) → when t 1 ≤ 1
     one true = omega arith
@@ -122,8 +137,9 @@ open_few b c ends outlets =
     outlet false x h = omega (arith, ap (λ (t : Bool). when t 1) (le-ltb 0 x (omega arith)))
 
 -- the plan of a flow is a plan of the basin
-searched_plan : (b : Basin) (month : Month) (supply want : List ℕ) (c : Contents) → IsMonthNetwork (spilled b) month supply want (network c) →
-    IsFlow (network c) (flow_of c) → OutletsAlone b c → IsPlan b month supply want (plan_of (spilled b) (flow_of c))
+searched_plan : (b : Basin) (month : Month) (supply want : List ℕ) (c : Contents) →
+    IsMonthNetwork (spilled b) month supply want (network c) → IsFlow (network c) (flow_of c) → OutletsAlone b c →
+    IsPlan b month supply want (plan_of (spilled b) (flow_of c))
 searched_plan b month supply want c net flow outlets = record {
   flow_len = before.flow_len;
   take_len = before.take_len;
@@ -132,7 +148,8 @@ searched_plan b month supply want c net flow outlets = record {
   wants = before.wants;
   instream = before.instream;
   outlets = λ v l h.
-      let at = list_get (length (spilled b).nodes) gone v (omega (arith, l, spilled_count b)) ∙ spill_read b (flow_of c) v l in
+      let at = list_get (length (spilled b).nodes) gone v (omega (arith, l, spilled_count b))
+      ∙ spill_read b (flow_of c) v l in
       omega (
         arith,
         at,
@@ -149,9 +166,10 @@ searched_plan b month supply want c net flow outlets = record {
     before = plan_is (spilled b) month supply want (network c) (flow_of c) net flow
 
 -- when all are served the month is solved
-pub searched_solved : (b : Basin) (month : Month) (supply want order : List ℕ) (c first : Contents) (cuts : CutSets) (p q : Plan) →
-    AreKinds b → IsSeniorityOrder b.rights order → IsStanding (spilled b) month supply want order (length b.rights) c cuts →
-    OutletsAlone b c → p ≡ plan_of (spilled b) (flow_of c) → IsBegun b month supply want first q → (length b.rights ≡ 0 → c ≡ first) →
+pub searched_solved : (b : Basin) (month : Month) (supply want order : List ℕ) (c first : Contents) (cuts : CutSets)
+    (p q : Plan) → AreKinds b → IsSeniorityOrder b.rights order →
+    IsStanding (spilled b) month supply want order (length b.rights) c cuts → OutletsAlone b c →
+    p ≡ plan_of (spilled b) (flow_of c) → IsBegun b month supply want first q → (length b.rights ≡ 0 → c ≡ first) →
     IsSolved b month supply want p cuts
 searched_solved b month supply want order c first cuts p q kinds o now outlets is start none = record {
   greatest = cuts_make_plan_greatest b month supply want d p plan
@@ -183,5 +201,6 @@ searched_solved b month supply want order c first cuts p q kinds o now outlets i
     of_settled r (inl met) = inl met.0
     of_settled r (inr short) = inr (short.1.0, short.1.1.1.is_tight)
 
-    same : (delivered : List ℕ) → AreDeliveries b want p delivered → (r : ℕ) → r < length b.rights → slice_index d r ≡ slice_index delivered r
+    same : (delivered : List ℕ) → AreDeliveries b want p delivered → (r : ℕ) → r < length b.rights →
+        slice_index d r ≡ slice_index delivered r
     same delivered are r l = got b want (flow_of c) r l ∙ (sym (delivers r l) ∙ sym (are.each r l))

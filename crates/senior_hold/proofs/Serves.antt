@@ -20,23 +20,28 @@ abbrev held_at : Contents → ℕ → ℕ → Contents
 held_at c arc got = record c { lower = slice_set c.lower arc (max (slice_index c.lower arc) got) }
 
 -- a raise and a hold change flows, scratch words and one lower
-pub held_is : (old raised new : Contents) (arc want got : ℕ) → SameButFlow old raised → new ≡ held_at raised arc got → got ≡ min want (flow_of raised arc) →
-    new ≡ changed old new.flow new.scratch (slice_set old.lower arc (max (slice_index old.lower arc) (min want (flow_of new arc))))
+pub held_is : (old raised new : Contents) (arc want got : ℕ) → SameButFlow old raised → new ≡ held_at raised arc got →
+    got ≡ min want (flow_of raised arc) →
+    new ≡ changed old new.flow new.scratch
+    (slice_set old.lower arc (max (slice_index old.lower arc) (min want (flow_of new arc))))
 held_is old raised new arc want got rest held is =
-    let one : new ≡ changed old raised.flow raised.scratch (slice_set old.lower arc (max (slice_index old.lower arc) got)) =
+    let one : new ≡ changed old raised.flow raised.scratch
+    (slice_set old.lower arc (max (slice_index old.lower arc) got)) =
     held ∙ ap (λ (x : Contents). held_at x arc got) rest in
     let f : raised.flow ≡ new.flow = sym (ap (λ (x : Contents). x.flow) one) in
     let s : raised.scratch ≡ new.scratch = sym (ap (λ (x : Contents). x.scratch) one) in
     let amount : got ≡ min want (flow_of new arc) = is ∙ ap (λ (x : List ℕ). min want (slice_index x arc)) f in
     one ∙ (ap₂ (λ (a c : List ℕ). changed old a c (slice_set old.lower arc (max (slice_index old.lower arc) got))) f s
-    ∙ ap (λ (x : ℕ). changed old new.flow new.scratch (slice_set old.lower arc (max (slice_index old.lower arc) x))) amount)
+    ∙ ap (λ (x : ℕ). changed old new.flow new.scratch (slice_set old.lower arc (max (slice_index old.lower arc) x)))
+    amount)
 
 -- the flow is that of the raise
 pub held_flow : (raised new : Contents) (arc got : ℕ) → new ≡ held_at raised arc got → flow_of new ≡ flow_of raised
 held_flow raised new arc got held = ap (λ (x : Contents). flow_of x) held
 
-pub served_met : (old raised new : Contents) (arc want got : ℕ) (cuts after : CutSets) (right : ℕ) → SameButFlow old raised → new ≡ held_at raised arc got →
-    got ≡ min want (flow_of raised arc) → want ≤ flow_of raised arc → after ≡ cuts → IsServed old new arc want cuts after right
+pub served_met : (old raised new : Contents) (arc want got : ℕ) (cuts after : CutSets) (right : ℕ) →
+    SameButFlow old raised → new ≡ held_at raised arc got → got ≡ min want (flow_of raised arc) →
+    want ≤ flow_of raised arc → after ≡ cuts → IsServed old new arc want cuts after right
 served_met old raised new arc want got cuts after right rest held is met same = record {
   held = held_is old raised new arc want got rest held is;
   outcome = inl (let e = ap (λ (f : ℕ → ℕ). f arc) (held_flow raised new arc got held) in omega arith, same);
@@ -48,8 +53,9 @@ unreached_list c = fun_ext (has_list c.nodes (not_reached c) (λ v l. outside v 
     outside : (v n p : ℕ) → n ≤ v → nat_lt v n && (p == 0) ≡ false
     outside v n p l = grind (arith, nat_tests)
 
-pub served_short : (old raised new : Contents) (arc want got : ℕ) (cuts begun after : CutSets) (right : ℕ) (empty : List Bool) → SameButFlow old raised → new ≡ held_at raised arc got →
-    got ≡ min want (flow_of raised arc) → flow_of raised arc < want → begun ≡ with_set cuts right (Some empty) →
+pub served_short : (old raised new : Contents) (arc want got : ℕ) (cuts begun after : CutSets) (right : ℕ)
+    (empty : List Bool) → SameButFlow old raised → new ≡ held_at raised arc got → got ≡ min want (flow_of raised arc) →
+    flow_of raised arc < want → begun ≡ with_set cuts right (Some empty) →
     after ≡ with_set begun right (Some (list_of raised.nodes (not_reached raised))) →
     IsGreatestCut (network old) (flow_of raised) arc (not_reached raised) → IsServed old new arc want cuts after right
 served_short old raised new arc want got cuts begun after right empty rest held is less begin done greatest = record {
@@ -59,11 +65,14 @@ served_short old raised new arc want got cuts begun after right empty rest held 
     (
       list_of raised.nodes (not_reached raised),
       (
-        done ∙ (ap (λ (d : CutSets). with_set d right (Some (list_of raised.nodes (not_reached raised)))) begin ∙ with_twice cuts right (Some empty) (Some (list_of raised.nodes (not_reached raised)))),
+        done ∙ (ap (λ (d : CutSets). with_set d right (Some (list_of raised.nodes (not_reached raised)))) begin
+            ∙ with_twice cuts right (Some empty) (Some (list_of raised.nodes (not_reached raised)))),
         (
           list_size raised.nodes (not_reached raised) ∙ ap (λ (x : Contents). x.nodes) rest,
-          subst (λ (g : ℕ → ℕ). IsGreatestCut (network old) g arc (has (list_of raised.nodes (not_reached raised)))) (sym (held_flow raised new arc got held))
-              (subst (λ (y : ℕ → Bool). IsGreatestCut (network old) (flow_of raised) arc y) (sym (unreached_list raised)) greatest),
+          subst (λ (g : ℕ → ℕ). IsGreatestCut (network old) g arc (has (list_of raised.nodes (not_reached raised))))
+              (sym (held_flow raised new arc got held))
+              (subst (λ (y : ℕ → Bool). IsGreatestCut (network old) (flow_of raised) arc y)
+              (sym (unreached_list raised)) greatest),
         ),
       ),
     ),
@@ -71,5 +80,11 @@ served_short old raised new arc want got cuts begun after right empty rest held 
 }
 
 -- where a raise did not stop, the arc has what is wanted
-pub raise_met : (before after want : ℕ) → (want ≤ before → after ≡ before) → (before < want → after ≡ want) → want ≤ after
-raise_met before after want idle met = elim (cases_lt before want) [ inl less ↦ (let e = met less in omega arith) | inr more ↦ (let e = idle more in omega arith) ]
+pub raise_met : (before after want : ℕ) → (want ≤ before → after ≡ before) → (before < want → after ≡ want) →
+    want ≤ after
+raise_met before after want idle met =
+    elim (cases_lt before want) [
+      | inl less ↦ (let e = met less in omega arith)
+      | inr more ↦
+          (let e = idle more in omega arith)
+    ]

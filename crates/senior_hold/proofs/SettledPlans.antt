@@ -1,5 +1,6 @@
 -- What is spilled runs down the rivers: the plan that this gives, and what it delivers.
-use Rattle.std.proofs.Common.{◌≡◌, ℕ, zero, suc, ◌+◌, ◌<◌, ◌≤◌, ◌^◌, ◌⊎◌, Bool, true, false, refl, sym, ◌∙◌, ap, subst, arith, List, length, replicate, inl, inr}
+use Rattle.std.proofs.Common.{◌≡◌, ℕ, zero, suc, ◌+◌, ◌<◌, ◌≤◌, ◌^◌, ◌⊎◌, Bool, true, false, refl, sym, ◌∙◌, ap, subst}
+use Rattle.std.proofs.Common.{arith, List, length, replicate, inl, inr}
 use Rattle.std.proofs.lemmas.Bool.{cases_lt}
 use Rattle.std.proofs.lemmas.Bool.Decides.{nat_tests}
 use Rattle.std.proofs.lemmas.List.{length-replicate}
@@ -48,14 +49,17 @@ has_all (suc n) zero l = refl
 has_all (suc n) (suc k) l = has_all n k (omega arith)
 
 -- no more is spilled than is supplied
-pub spills_most : (b : Basin) (month : Month) (supply want : List ℕ) (p : Plan) → IsValidBasin b → IsPlan (spilled b) month supply want p →
-    total (length b.nodes) (λ v. slice_index p.out v) ≤ total (length b.nodes) (λ v. slice_index supply v)
+pub spills_most : (b : Basin) (month : Month) (supply want : List ℕ) (p : Plan) → IsValidBasin b →
+    IsPlan (spilled b) month supply want p → total (length b.nodes) (λ v. slice_index p.out v) ≤ total (length b.nodes)
+    (λ v. slice_index supply v)
 spills_most b month supply want p valid plan =
     let n : ℕ = length b.nodes in
     let all : List Bool = replicate n true in
     let cut = cut_balance (spilled b) month supply want p all plan (length-replicate n true ∙ sym (spilled_count b)) in
-    let supplies = ap (λ k. total_where k (λ v. has all v) (λ v. slice_index supply v)) (spilled_count b) ∙ total_where_all n (λ v. has all v) (λ v. slice_index supply v) (has_all n) in
-    let outs = ap (λ k. total_where k (λ v. has all v) (λ v. slice_index p.out v)) (spilled_count b) ∙ total_where_all n (λ v. has all v) (λ v. slice_index p.out v) (has_all n) in
+    let supplies = ap (λ k. total_where k (λ v. has all v) (λ v. slice_index supply v)) (spilled_count b)
+    ∙ total_where_all n (λ v. has all v) (λ v. slice_index supply v) (has_all n) in
+    let outs = ap (λ k. total_where k (λ v. has all v) (λ v. slice_index p.out v)) (spilled_count b)
+    ∙ total_where_all n (λ v. has all v) (λ v. slice_index p.out v) (has_all n) in
     let ins = total_where_none_pass (length b.links) (λ e. enters b all e) (λ e. slice_index p.flow e) none_enters in
     omega (arith, cut, supplies, outs, ins)
   where
@@ -63,12 +67,14 @@ spills_most b month supply want p valid plan =
     both_in x y h i = grind (arith, nat_tests)
 
     none_enters : (e : ℕ) → e < length b.links → enters b (replicate (length b.nodes) true) e ≡ false
-    none_enters e l = both_in (has (replicate (length b.nodes) true) (head_of b e)) (has (replicate (length b.nodes) true) (tail_of b e))
-        (has_all (length b.nodes) (head_of b e) (ends b valid e l).1) (has_all (length b.nodes) (tail_of b e) (ends b valid e l).0)
+    none_enters e l = both_in (has (replicate (length b.nodes) true) (head_of b e))
+        (has (replicate (length b.nodes) true) (tail_of b e))
+        (has_all (length b.nodes) (head_of b e) (ends b valid e l).1)
+        (has_all (length b.nodes) (tail_of b e) (ends b valid e l).0)
 
 -- no link has more of both flows than all supply
-both_small : (b : Basin) (month : Month) (supply want want' : List ℕ) (p q : Plan) → IsValidBasin b → IsPlan (spilled b) month supply want p →
-    IsPlan b month p.out want' q → (e : ℕ) → e < length b.links →
+both_small : (b : Basin) (month : Month) (supply want want' : List ℕ) (p q : Plan) → IsValidBasin b →
+    IsPlan (spilled b) month supply want p → IsPlan b month p.out want' q → (e : ℕ) → e < length b.links →
     slice_index p.flow e + slice_index q.flow e ≤ total (length b.nodes) (λ v. slice_index supply v)
 both_small b month supply want want' p q valid plan_p plan_q e l =
     let first = cut_balance (spilled b) month supply want p cut plan_p (size ∙ sym (spilled_count b)) in
@@ -79,7 +85,8 @@ both_small b month supply want want' p q valid plan_p plan_q e l =
     let ins2 = total_where_none_pass (length b.links) (λ x. enters b cut x) (λ x. slice_index q.flow x) no_entry in
     let one = term_le_total_where (length b.links) (λ x. leaves b cut x) (λ x. slice_index p.flow x) e l own in
     let two = term_le_total_where (length b.links) (λ x. leaves b cut x) (λ x. slice_index q.flow x) e l own in
-    let some = total_le (length b.nodes) (λ v. if has cut v then slice_index supply v else 0) (λ v. slice_index supply v) (λ v k. at_most (has cut v) (slice_index supply v)) in
+    let some = total_le (length b.nodes) (λ v. if has cut v then slice_index supply v else 0)
+    (λ v. slice_index supply v) (λ v k. at_most (has cut v) (slice_index supply v)) in
     omega (arith, first, second, supplies, outs, ins, ins2, one, two, some)
   where
     rank : ℕ → ℕ
@@ -105,23 +112,27 @@ both_small b month supply want want' p q valid plan_p plan_q e l =
     at_most false x = omega arith
 
     no_entry : (x : ℕ) → x < length b.links → enters b cut x ≡ false
-    no_entry x k = runs_on (has cut (head_of b x)) (has cut (tail_of b x)) (tail_of b x) (head_of b x) (length b.nodes) (rank (tail_of b x)) (rank (head_of b x)) (rank (tail_of b e))
-        (at (head_of b x)) (at (tail_of b x)) ((ranks b valid).forward.runs x k) (ends b valid x k).0
+    no_entry x k = runs_on (has cut (head_of b x)) (has cut (tail_of b x)) (tail_of b x) (head_of b x) (length b.nodes)
+        (rank (tail_of b x)) (rank (head_of b x)) (rank (tail_of b e)) (at (head_of b x)) (at (tail_of b x))
+        ((ranks b valid).forward.runs x k) (ends b valid x k).0
       where
-        runs_on : (p q : Bool) (t h n r s m : ℕ) → p ≡ nat_lt h n && nat_le s m → q ≡ nat_lt t n && nat_le r m → r < s → t < n → p && not q ≡ false
+        runs_on : (p q : Bool) (t h n r s m : ℕ) → p ≡ nat_lt h n && nat_le s m → q ≡ nat_lt t n && nat_le r m → r < s →
+            t < n → p && not q ≡ false
         runs_on p q t h n r s m i j k l = grind (arith, nat_tests)
 
     own : leaves b cut e ≡ true
-    own = goes (has cut (tail_of b e)) (has cut (head_of b e)) (tail_of b e) (head_of b e) (length b.nodes) (rank (tail_of b e)) (rank (head_of b e))
-        (at (tail_of b e)) (at (head_of b e)) ((ranks b valid).forward.runs e l) (ends b valid e l).0
+    own = goes (has cut (tail_of b e)) (has cut (head_of b e)) (tail_of b e) (head_of b e) (length b.nodes)
+        (rank (tail_of b e)) (rank (head_of b e)) (at (tail_of b e)) (at (head_of b e))
+        ((ranks b valid).forward.runs e l) (ends b valid e l).0
       where
-        goes : (p q : Bool) (t h n r s : ℕ) → p ≡ nat_lt t n && nat_le r r → q ≡ nat_lt h n && nat_le s r → r < s → t < n → p && not q ≡ true
+        goes : (p q : Bool) (t h n r s : ℕ) → p ≡ nat_lt t n && nat_le r r → q ≡ nat_lt h n && nat_le s r → r < s →
+            t < n → p && not q ≡ true
         goes p q t h n r s i j k l = grind (arith, nat_tests)
 
 -- it is a plan of the month
-pub settled_plan : (b : Basin) (month : Month) (supply want : List ℕ) (w : Network) (g : ℕ → ℕ) (p : Plan) → IsValidBasin b →
-    IsMonthNetwork (spilled b) month supply want w → IsFlow w g → total (length b.nodes) (λ v. slice_index supply v) ≤ 10 ^ 15 →
-    IsSettledPlan b g p → IsPlan b month supply want p
+pub settled_plan : (b : Basin) (month : Month) (supply want : List ℕ) (w : Network) (g : ℕ → ℕ) (p : Plan) →
+    IsValidBasin b → IsMonthNetwork (spilled b) month supply want w → IsFlow w g →
+    total (length b.nodes) (λ v. slice_index supply v) ≤ 10 ^ 15 → IsSettledPlan b g p → IsPlan b month supply want p
 settled_plan b month supply want w g p valid net flow few s = record {
   flow_len = s.flow_len;
   take_len = ap length s.take ∙ list_len (length b.rights) took;
@@ -134,10 +145,14 @@ settled_plan b month supply want w g p valid net flow few s = record {
     arith,
     before.balance v (omega (arith, l, spilled_count b)),
     river_balance b.nodes b.links (spills_of b g) s.run p.out valid.network s.natural v l,
-    total_where_same (length b.links) (λ e. head_of b e == v) (λ e. slice_index p.flow e) (λ e. slice_index (plan_of (spilled b) g).flow e + slice_index s.run e) parts,
-    total_where_add (length b.links) (λ e. head_of b e == v) (λ e. slice_index (plan_of (spilled b) g).flow e) (λ e. slice_index s.run e),
-    total_where_same (length b.links) (λ e. tail_of b e == v) (λ e. slice_index p.flow e) (λ e. slice_index (plan_of (spilled b) g).flow e + slice_index s.run e) parts,
-    total_where_add (length b.links) (λ e. tail_of b e == v) (λ e. slice_index (plan_of (spilled b) g).flow e) (λ e. slice_index s.run e),
+    total_where_same (length b.links) (λ e. head_of b e == v) (λ e. slice_index p.flow e)
+        (λ e. slice_index (plan_of (spilled b) g).flow e + slice_index s.run e) parts,
+    total_where_add (length b.links) (λ e. head_of b e == v) (λ e. slice_index (plan_of (spilled b) g).flow e)
+        (λ e. slice_index s.run e),
+    total_where_same (length b.links) (λ e. tail_of b e == v) (λ e. slice_index p.flow e)
+        (λ e. slice_index (plan_of (spilled b) g).flow e + slice_index s.run e) parts,
+    total_where_add (length b.links) (λ e. tail_of b e == v) (λ e. slice_index (plan_of (spilled b) g).flow e)
+        (λ e. slice_index s.run e),
     ap (λ (xs : List ℕ). taken xs v) s.take,
   );
 }
@@ -151,17 +166,20 @@ settled_plan b month supply want w g p valid net flow few s = record {
     before : IsPlan (spilled b) month supply want (plan_of (spilled b) g)
     before = plan_is (spilled b) month supply want w g net flow
 
-    parts : (e : ℕ) → e < length b.links → slice_index p.flow e ≡ slice_index (plan_of (spilled b) g).flow e + slice_index s.run e
+    parts : (e : ℕ) → e < length b.links →
+        slice_index p.flow e ≡ slice_index (plan_of (spilled b) g).flow e + slice_index s.run e
     parts e l = s.flow e l ∙ ap (λ x. x + slice_index s.run e) (sym (list_get (length b.links) g e l))
 
     runs : IsRunOfRiver b (spills_of b g) (made s.run (replicate (length b.rights) 0) p.out)
-    runs = river_is b (spills_of b g) s.run (replicate (length b.rights) 0) p.out (length b.rights) refl refl (length-replicate {A = ℕ} (length b.rights) 0) s.natural
+    runs = river_is b (spills_of b g) s.run (replicate (length b.rights) 0) p.out (length b.rights) refl refl
+        (length-replicate {A = ℕ} (length b.rights) 0) s.natural
 
     most : total (length b.nodes) (λ v. slice_index (spills_of b g) v) ≤ 10 ^ 15
     most = let m = spills_most b month supply want (plan_of (spilled b) g) valid before in omega arith
 
     after : IsPlan b month (spills_of b g) want (made s.run (replicate (length b.rights) 0) p.out)
-    after = river_is_plan b month (spills_of b g) want (made s.run (replicate (length b.rights) 0) p.out) valid most runs
+    after = river_is_plan b month (spills_of b g) want (made s.run (replicate (length b.rights) 0) p.out) valid most
+        runs
 
     carried : (e : ℕ) → e < length b.links → slice_index p.flow e ≤ carry_of b month e
     carried e l = elim (cases_lt (carry_of b month e) (slice_index p.flow e)) [
@@ -175,7 +193,8 @@ settled_plan b month supply want w g p valid net flow few s = record {
           arith,
           more,
           parts e l,
-          both_small b month supply want want (plan_of (spilled b) g) (made s.run (replicate (length b.rights) 0) p.out) valid before after e l,
+          both_small b month supply want want (plan_of (spilled b) g) (made s.run (replicate (length b.rights) 0) p.out)
+              valid before after e l,
           river_carry b month e valid l first.river,
         ))),
       ))
@@ -183,34 +202,42 @@ settled_plan b month supply want w g p valid net flow few s = record {
 
 -- the spills are few
 pub spills_few : (b : Basin) (month : Month) (supply want : List ℕ) (w : Network) (g : ℕ → ℕ) → IsValidBasin b →
-    IsMonthNetwork (spilled b) month supply want w → IsFlow w g → total (length b.nodes) (λ v. slice_index supply v) < 10 ^ 15 →
-    total_of (spills_of b g) < 10 ^ 15
+    IsMonthNetwork (spilled b) month supply want w → IsFlow w g → total (length b.nodes)
+    (λ v. slice_index supply v) < 10 ^ 15 → total_of (spills_of b g) < 10 ^ 15
 spills_few b month supply want w g valid net flow few =
-    let count : length (spills_of b g) ≡ length b.nodes = (plan_is (spilled b) month supply want w g net flow).out_len ∙ spilled_count b in
+    let count : length (spills_of b g) ≡ length b.nodes = (plan_is (spilled b) month supply want w g net flow).out_len
+    ∙ spilled_count b in
     omega (
       arith,
       few,
       ap (λ k. total k (λ v. slice_index (spills_of b g) v)) count,
-      spills_most b month supply want (plan_of (spilled b) g) valid (plan_is (spilled b) month supply want w g net flow),
+      spills_most b month supply want (plan_of (spilled b) g) valid
+          (plan_is (spilled b) month supply want w g net flow),
     )
 
 -- cuts and reaches say nothing of outlets
-capacity_is : (b : Basin) (month : Month) (supply : List ℕ) (cut : List Bool) → cut_capacity (spilled b) month supply cut ≡ cut_capacity b month supply cut
-capacity_is b month supply cut = ap (λ k. total_where k (λ n. has cut n) (λ n. slice_index supply n) + total_where (length b.links) (λ e. enters b cut e) (λ e. carry_of b month e)) (spilled_count b)
+capacity_is : (b : Basin) (month : Month) (supply : List ℕ) (cut : List Bool) →
+    cut_capacity (spilled b) month supply cut ≡ cut_capacity b month supply cut
+capacity_is b month supply cut =
+    ap (λ k. total_where k (λ n. has cut n) (λ n. slice_index supply n) + total_where (length b.links)
+    (λ e. enters b cut e) (λ e. carry_of b month e)) (spilled_count b)
 
-tight_down : (b : Basin) (month : Month) (supply d : List ℕ) (r : ℕ) (cut : List Bool) → IsTight (spilled b) month supply d r cut → IsTight b month supply d r cut
+tight_down : (b : Basin) (month : Month) (supply d : List ℕ) (r : ℕ) (cut : List Bool) →
+    IsTight (spilled b) month supply d r cut → IsTight b month supply d r cut
 tight_down b month supply d r cut t = record {
   is_cut = record { one_each = t.is_cut.one_each ∙ spilled_count b; separates = t.is_cut.separates };
   tight = sym (capacity_is b month supply cut) ∙ t.tight;
 }
 
-tight_up : (b : Basin) (month : Month) (supply d : List ℕ) (r : ℕ) (cut : List Bool) → IsTight b month supply d r cut → IsTight (spilled b) month supply d r cut
+tight_up : (b : Basin) (month : Month) (supply d : List ℕ) (r : ℕ) (cut : List Bool) → IsTight b month supply d r cut →
+    IsTight (spilled b) month supply d r cut
 tight_up b month supply d r cut t = record {
   is_cut = record { one_each = t.is_cut.one_each ∙ sym (spilled_count b); separates = t.is_cut.separates };
   tight = capacity_is b month supply cut ∙ t.tight;
 }
 
-pub settled_down : (b : Basin) (month : Month) (supply want d : List ℕ) (cuts : CutSets) (r : ℕ) → IsSettled (spilled b) month supply want d cuts r → IsSettled b month supply want d cuts r
+pub settled_down : (b : Basin) (month : Month) (supply want d : List ℕ) (cuts : CutSets) (r : ℕ) →
+    IsSettled (spilled b) month supply want d cuts r → IsSettled b month supply want d cuts r
 settled_down b month supply want d cuts r (inl met) = inl met
 settled_down b month supply want d cuts r (inr short) = inr (
   short.0,
@@ -226,33 +253,43 @@ settled_down b month supply want d cuts r (inr short) = inr (
   ),
 )
 
--- a plan that takes what a flow takes, and has no less on any link, delivers what the flow delivers, where each right is settled by that
-pub settled_delivers : (b : Basin) (month : Month) (supply want : List ℕ) (g : ℕ → ℕ) (p : Plan) (cuts : CutSets) → AreKinds b → IsPlan b month supply want p → IsSettledPlan b g p →
-    ((r : ℕ) → r < length b.rights → IsSettled b month supply want (deliveries_by b want g) cuts r) →
-    (r : ℕ) → r < length b.rights → delivery b want p r ≡ delivered_by b want g r
-settled_delivers b month supply want g p cuts kinds plan s settled r l = omega (arith, least r l (kinds r l), most (kinds r l) (settled r l))
+-- a plan that takes what a flow takes, and has no less on any link, delivers what the flow delivers, where each right
+-- is settled by that
+pub settled_delivers : (b : Basin) (month : Month) (supply want : List ℕ) (g : ℕ → ℕ) (p : Plan) (cuts : CutSets) →
+    AreKinds b → IsPlan b month supply want p → IsSettledPlan b g p →
+    ((r : ℕ) → r < length b.rights → IsSettled b month supply want (deliveries_by b want g) cuts r) → (r : ℕ) →
+    r < length b.rights → delivery b want p r ≡ delivered_by b want g r
+settled_delivers b month supply want g p cuts kinds plan s settled r l =
+    omega (arith, least r l (kinds r l), most (kinds r l) (settled r l))
   where
     took : (r : ℕ) → r < length b.rights → slice_index p.take r ≡ when (takes b r) (g (take_arc b r))
-    took r l = ap (λ (xs : List ℕ). slice_index xs r) s.take ∙ list_get (length b.rights) (λ r. when (takes b r) (g (take_arc b r))) r l
+    took r l = ap (λ (xs : List ℕ). slice_index xs r) s.take
+        ∙ list_get (length b.rights) (λ r. when (takes b r) (g (take_arc b r))) r l
 
-    link_delivery : (r e : ℕ) → instream_link b r ≡ Some e → delivery b want p r ≡ min (slice_index want r) (slice_index p.flow e)
+    link_delivery : (r e : ℕ) → instream_link b r ≡ Some e → delivery b want p r ≡ min (slice_index want r)
+        (slice_index p.flow e)
     link_delivery r e i = ap (λ o. delivery_by_link o (slice_index want r) p r) i
 
     link_delivered : (r e : ℕ) → instream_link b r ≡ Some e → delivered_by b want g r ≡ min (slice_index want r) (g e)
     link_delivered r e i = ap (λ o. min (slice_index want r) (g (arc_by_link b r o))) i
 
-    node_delivery : (r v : ℕ) → r < length b.rights → instream_link b r ≡ None → taking_node b r ≡ Some v → delivery b want p r ≡ delivered_by b want g r
+    node_delivery : (r v : ℕ) → r < length b.rights → instream_link b r ≡ None → taking_node b r ≡ Some v →
+        delivery b want p r ≡ delivered_by b want g r
     node_delivery r v l i t =
-        let one : delivery b want p r ≡ slice_index p.take r = ap (λ o. delivery_by_link o (slice_index want r) p r) i in
-        let two : delivered_by b want g r ≡ min (slice_index want r) (g (take_arc b r)) = ap (λ o. min (slice_index want r) (g (arc_by_link b r o))) i in
-        let taken : when (takes b r) (g (take_arc b r)) ≡ g (take_arc b r) = ap (λ t. when t (g (take_arc b r))) (ap is_some t) in
+        let one : delivery b want p r ≡ slice_index p.take r =
+        ap (λ o. delivery_by_link o (slice_index want r) p r) i in
+        let two : delivered_by b want g r ≡ min (slice_index want r) (g (take_arc b r)) =
+        ap (λ o. min (slice_index want r) (g (arc_by_link b r o))) i in
+        let taken : when (takes b r) (g (take_arc b r)) ≡ g (take_arc b r) =
+        ap (λ t. when t (g (take_arc b r))) (ap is_some t) in
         omega (arith, one, two, taken, took r l, plan.wants r l)
 
     least : (r : ℕ) → r < length b.rights → IsKind b r → delivered_by b want g r ≤ delivery b want p r
     least r l (on_link e k i t) = omega (arith, link_delivery r e i, link_delivered r e i, s.flow e k)
     least r l (at_node v k i t) = omega (arith, node_delivery r v l i t)
 
-    most : IsKind b r → IsSettled b month supply want (deliveries_by b want g) cuts r → delivery b want p r ≤ delivered_by b want g r
+    most : IsKind b r → IsSettled b month supply want (deliveries_by b want g) cuts r →
+        delivery b want p r ≤ delivered_by b want g r
     most (at_node v k i t) h = omega (arith, node_delivery r v l i t)
     most (on_link e k i t) (inl met) = let m = met.0 in omega (arith, link_delivery r e i, got b want g r l)
     most (on_link e k i t) (inr short) =
@@ -261,20 +298,25 @@ settled_delivers b month supply want g p cuts kinds plan s settled r l = omega (
         omega (
           arith,
           got b want g r l,
-          cut_slack b month supply (deliveries_by b want g) r short.1.0 supply want p l tight.is_cut plan (λ n m e. refl)
-              (λ q m senior. omega (arith, got b want g q m, least q m (kinds q m))),
+          cut_slack b month supply (deliveries_by b want g) r short.1.0 supply want p l tight.is_cut plan
+              (λ n m e. refl) (λ q m senior. omega (arith, got b want g q m, least q m (kinds q m))),
         )
 
 -- when all are served the month is solved
-pub tree_solved : (b : Basin) (month : Month) (supply want order : List ℕ) (c first : Contents) (cuts : CutSets) (p : Plan) → IsValidBasin b → IsSeniorityOrder b.rights order →
-    total (length b.nodes) (λ v. slice_index supply v) ≤ 10 ^ 15 → IsStanding (spilled b) month supply want order (length b.rights) c cuts → IsSettledPlan b (flow_of c) p →
-    IsSpilledStart b month supply want first → (length b.rights ≡ 0 → c ≡ first) → IsSolved b month supply want p cuts
+pub tree_solved : (b : Basin) (month : Month) (supply want order : List ℕ) (c first : Contents) (cuts : CutSets)
+    (p : Plan) → IsValidBasin b → IsSeniorityOrder b.rights order → total (length b.nodes)
+    (λ v. slice_index supply v) ≤ 10 ^ 15 → IsStanding (spilled b) month supply want order (length b.rights) c cuts →
+    IsSettledPlan b (flow_of c) p → IsSpilledStart b month supply want first → (length b.rights ≡ 0 → c ≡ first) →
+    IsSolved b month supply want p cuts
 tree_solved b month supply want order c first cuts p valid o few now s start none = record {
-  greatest = cuts_make_plan_greatest b month supply want d p plan (record { each = λ r l. got b want (flow_of c) r l ∙ sym (delivers r l) }) (λ r l. of_settled r (settled r l));
-  settled = λ delivered are r l. settled_stays b month supply want d delivered cuts cuts r l (same delivered are r l) (λ q m senior. same delivered are q m) refl (settled r l);
+  greatest = cuts_make_plan_greatest b month supply want d p plan
+      (record { each = λ r l. got b want (flow_of c) r l ∙ sym (delivers r l) }) (λ r l. of_settled r (settled r l));
+  settled = λ delivered are r l. settled_stays b month supply want d delivered cuts cuts r l (same delivered are r l)
+      (λ q m senior. same delivered are q m) refl (settled r l);
   river = λ h. record {
     run = subst (λ (xs : List ℕ). RunsNaturally b.nodes b.links xs p.flow p.out) (spilled_all h)
-        (subst (λ (xs : List ℕ). RunsNaturally b.nodes b.links (spills_of b (flow_of c)) xs p.out) (sym (run_is h)) s.natural);
+        (subst (λ (xs : List ℕ). RunsNaturally b.nodes b.links (spills_of b (flow_of c)) xs p.out) (sym (run_is h))
+        s.natural);
     take_len = plan.take_len;
     takes = λ r l. absurd (omega arith);
   };
@@ -300,14 +342,16 @@ tree_solved b month supply want order c first cuts p valid o few now s start non
     of_settled r (inl met) = inl met.0
     of_settled r (inr short) = inr (short.1.0, short.1.1.1.is_tight)
 
-    same : (delivered : List ℕ) → AreDeliveries b want p delivered → (r : ℕ) → r < length b.rights → slice_index d r ≡ slice_index delivered r
+    same : (delivered : List ℕ) → AreDeliveries b want p delivered → (r : ℕ) → r < length b.rights →
+        slice_index d r ≡ slice_index delivered r
     same delivered are r l = got b want (flow_of c) r l ∙ (sym (delivers r l) ∙ sym (are.each r l))
 
     spilled_all : length b.rights ≡ 0 → spills_of b (flow_of c) ≡ supply
     spilled_all h = ap (λ (x : Contents). spills_of b (flow_of x)) (none h) ∙ start.all
 
     run_is : length b.rights ≡ 0 → p.flow ≡ s.run
-    run_is h = same_number_lists p.flow s.run (s.flow_len ∙ sym s.natural.flow_len) (λ e l. still h e (omega (arith, l, s.flow_len)))
+    run_is h = same_number_lists p.flow s.run (s.flow_len ∙ sym s.natural.flow_len)
+        (λ e l. still h e (omega (arith, l, s.flow_len)))
       where
         still : length b.rights ≡ 0 → (e : ℕ) → e < length b.links → slice_index p.flow e ≡ slice_index s.run e
         still h e l = omega (arith, s.flow e l, ap (λ (x : Contents). flow_of x e) (none h), start.still e l)

@@ -1,5 +1,6 @@
 -- Serving one right after another.
-use Rattle.std.proofs.Common.{◌≡◌, ◌≢◌, ℕ, ◌+◌, ◌<◌, ◌≤◌, Bool, true, false, sym, ◌∙◌, ap, subst, arith, List, length, inl, inr, get_or-set_same, get_or-set_other}
+use Rattle.std.proofs.Common.{◌≡◌, ◌≢◌, ℕ, ◌+◌, ◌<◌, ◌≤◌, Bool, true, false, sym, ◌∙◌, ap, subst, arith, List, length}
+use Rattle.std.proofs.Common.{inl, inr, get_or-set_same, get_or-set_other}
 use Rattle.std.proofs.lemmas.Bool.{cases_eq}
 use Rattle.std.proofs.lemmas.Bool.Decides.{nat_tests}
 use Rattle.std.proofs.lemmas.List.{length-set}
@@ -26,7 +27,8 @@ use Rattle.senior_hold.specs.Solved.{IsSettled, FitsCuts}
 use Rattle.senior_hold.proofs.Swept.{delivered_by, deliveries_by, IsSwept}
 
 -- how a month stands after the first k rights
-pub record IsStanding (b : Basin) (month : Month) (supply want order : List ℕ) (k : ℕ) (c : Contents) (cuts : CutSets) : Type 0 where
+pub record IsStanding (b : Basin) (month : Month) (supply want order : List ℕ) (k : ℕ) (c : Contents)
+    (cuts : CutSets) : Type 0 where
   pub net : IsMonthNetwork b month supply want (network c)
   pub size : length c.lower ≡ arc_count b
   pub swept : (o : IsSeniorityOrder b.rights order) → IsSwept b month supply want o.place k (network c) (flow_of c) cuts
@@ -42,17 +44,22 @@ no_second p q h i = grind (arith, nat_tests)
 -- before any right is served no arc is held
 pub standing_first : (b : Basin) (month : Month) (supply want order : List ℕ) (c : Contents) (cuts : CutSets) →
     IsMonthNetwork b month supply want (network c) → IsFlow (network c) (flow_of c) → length c.lower ≡ arc_count b →
-    ((a : ℕ) → a < arc_count b → slice_index c.lower a ≡ 0) → FitsCuts b cuts → ((r : ℕ) → r < length b.rights → set_of cuts r ≡ None) →
-    IsStanding b month supply want order 0 c cuts
+    ((a : ℕ) → a < arc_count b → slice_index c.lower a ≡ 0) → FitsCuts b cuts →
+    ((r : ℕ) → r < length b.rights → set_of cuts r ≡ None) → IsStanding b month supply want order 0 c cuts
 standing_first b month supply want order c cuts net is_flow size free fits_cuts no_sets = record {
   net = net;
   size = size;
   swept = λ o. record {
     flow = is_flow;
     held = record {
-      on_links = λ e l. free e (omega arith) ∙ (let most = greatest_where_le (length b.rights) (λ s. is_on_link b s e && nat_lt (o.place s) 0) (λ s. slice_index (deliveries_by b want (flow_of c)) s) 0
-          (λ s k h. absurd (no_second (is_on_link b s e) (nat_lt (o.place s) 0) (never_below (o.place s)) h)) in zero (greatest_where (length b.rights) (λ s. is_on_link b s e && nat_lt (o.place s) 0) (λ s. slice_index (deliveries_by b want (flow_of c)) s)) most);
-      on_takes = λ r l h. free (take_arc b r) (omega (arith, take_arc_below b r l h)) ∙ sym (ap (λ t. when t (slice_index (deliveries_by b want (flow_of c)) r)) (never_below (o.place r)));
+      on_links = λ e l. free e (omega arith)
+          ∙ (let most = greatest_where_le (length b.rights) (λ s. is_on_link b s e && nat_lt (o.place s) 0)
+          (λ s. slice_index (deliveries_by b want (flow_of c)) s) 0
+          (λ s k h. absurd (no_second (is_on_link b s e) (nat_lt (o.place s) 0) (never_below (o.place s)) h)) in
+          zero (greatest_where (length b.rights) (λ s. is_on_link b s e && nat_lt (o.place s) 0)
+          (λ s. slice_index (deliveries_by b want (flow_of c)) s)) most);
+      on_takes = λ r l h. free (take_arc b r) (omega (arith, take_arc_below b r l h))
+          ∙ sym (ap (λ t. when t (slice_index (deliveries_by b want (flow_of c)) r)) (never_below (o.place r)));
       on_outs = λ n l h. free (out_arc b n) (out_arc_below b n l h);
     };
     settled = λ r l below. absurd (omega arith);
@@ -87,11 +94,13 @@ net_kept b month supply want c f s lower net = record {
 }
 
 -- a flow over raised lowers is a flow over the old ones
-flow_kept : (c : Contents) (f s : List ℕ) (arc x : ℕ) → arc < length c.lower → IsFlow (network (changed c f s (slice_set c.lower arc (max (slice_index c.lower arc) x)))) (λ a. slice_index f a) →
+flow_kept : (c : Contents) (f s : List ℕ) (arc x : ℕ) → arc < length c.lower →
+    IsFlow (network (changed c f s (slice_set c.lower arc (max (slice_index c.lower arc) x)))) (λ a. slice_index f a) →
     IsFlow (network c) (λ a. slice_index f a)
 flow_kept c f s arc x inside flow = record {
   low = λ a l. (let low = flow.low a l in elim (cases_eq a arc) [
-    | inl e ↦ (let p = ap (slice_index (slice_set c.lower arc (max (slice_index c.lower arc) x))) e in let q = ap (slice_index c.lower) e in
+    | inl e ↦ (let p = ap (slice_index (slice_set c.lower arc (max (slice_index c.lower arc) x))) e in
+        let q = ap (slice_index c.lower) e in
         omega (arith, get_or-set_same c.lower arc (max (slice_index c.lower arc) x) 0 inside))
     | inr ne ↦ omega (arith, get_or-set_other c.lower arc a (max (slice_index c.lower arc) x) 0 ne)
   ]);
@@ -100,10 +109,12 @@ flow_kept c f s arc x inside flow = record {
 }
 
 -- the lowers hold what the seniors of the next right are delivered
-holds_seniors : (b : Basin) (order d : List ℕ) (o : IsSeniorityOrder b.rights order) (r k : ℕ) (w : Network) → r < length b.rights → o.place r ≡ k →
-    Holds b d (λ s. nat_lt (o.place s) k) w → Holds b d (λ s. is_senior b s r) w
+holds_seniors : (b : Basin) (order d : List ℕ) (o : IsSeniorityOrder b.rights order) (r k : ℕ) (w : Network) →
+    r < length b.rights → o.place r ≡ k → Holds b d (λ s. nat_lt (o.place s) k) w → Holds b d (λ s. is_senior b s r) w
 holds_seniors b order d o r k w l at held = record {
-  on_links = λ e m. held.on_links e m ∙ greatest_same_tests (length b.rights) (λ s. is_on_link b s e && nat_lt (o.place s) k) (λ s. is_on_link b s e && is_senior b s r) (λ s. slice_index d s)
+  on_links = λ e m. held.on_links e m
+      ∙ greatest_same_tests (length b.rights) (λ s. is_on_link b s e && nat_lt (o.place s) k)
+      (λ s. is_on_link b s e && is_senior b s r) (λ s. slice_index d s)
       (λ s n. ap (λ t. is_on_link b s e && t) (test s n));
   on_takes = λ s n h. held.on_takes s n h ∙ ap (λ t. when t (slice_index d s)) (test s n);
   on_outs = held.on_outs;
@@ -112,20 +123,32 @@ holds_seniors b order d o r k w l at held = record {
     test : (s : ℕ) → s < length b.rights → nat_lt (o.place s) k ≡ is_senior b s r
     test s n = sym (o.senior s r n l ∙ ap (nat_lt (o.place s)) at)
 
-served_next : (b : Basin) (month : Month) (supply want order : List ℕ) (k r arc amount : ℕ) (c : Contents) (f s : List ℕ) (cuts after : CutSets) → AreKinds b →
-    k < length b.rights → r ≡ slice_index order k → IsSeniorityOrder b.rights order → IsStanding b month supply want order k c cuts → arc ≡ right_arc b r → amount ≡ slice_index want r →
-    IsFlow (network (changed c f s (slice_set c.lower arc (max (slice_index c.lower arc) (min amount (slice_index f arc)))))) (λ a. slice_index f a) →
+served_next : (b : Basin) (month : Month) (supply want order : List ℕ) (k r arc amount : ℕ) (c : Contents)
+    (f s : List ℕ) (cuts after : CutSets) → AreKinds b → k < length b.rights → r ≡ slice_index order k →
+    IsSeniorityOrder b.rights order → IsStanding b month supply want order k c cuts → arc ≡ right_arc b r →
+    amount ≡ slice_index want r →
+    IsFlow (network (changed c f s
+    (slice_set c.lower arc (max (slice_index c.lower arc) (min amount (slice_index f arc))))))
+    (λ a. slice_index f a) →
     (((amount ≤ slice_index f arc) × (after ≡ cuts))
-    ⊎ ((slice_index f arc < amount) × ((cut : List Bool) × ((after ≡ with_set cuts r (Some cut)) × ((length cut ≡ c.nodes) × IsGreatestCut (network c) (λ a. slice_index f a) arc (has cut)))))) →
-    IsStanding b month supply want order (k + 1) (changed c f s (slice_set c.lower arc (max (slice_index c.lower arc) (min amount (slice_index f arc))))) after
-served_next b month supply want order k r arc amount c f s cuts after kinds l at order_is now arc_is amount_is flow outcome = record {
-  net = net_kept b month supply want c f s (slice_set c.lower arc (max (slice_index c.lower arc) (min amount (slice_index f arc)))) now.net;
-  size = length-set c.lower arc (max (slice_index c.lower arc) (min amount (slice_index f arc))) ∙ now.size;
-  swept = λ o. swept_next b month supply want order o k r (min amount (slice_index f arc)) (network c) (network (changed c f s (slice_set c.lower arc (max (slice_index c.lower arc) (min amount (slice_index f arc))))))
-      (λ a. slice_index f a) cuts after kinds l at (before o) is_amount flow raised rest (others outcome) (settled o outcome);
-  cut_nodes = nodes outcome;
-  cut_rights = rights outcome;
-}
+    ⊎ ((slice_index f arc < amount)
+    × ((cut : List Bool) × ((after ≡ with_set cuts r (Some cut))
+    × ((length cut ≡ c.nodes) × IsGreatestCut (network c) (λ a. slice_index f a) arc (has cut)))))) →
+    IsStanding b month supply want order (k + 1)
+    (changed c f s (slice_set c.lower arc (max (slice_index c.lower arc) (min amount (slice_index f arc))))) after
+served_next b month supply want order k r arc amount c f s cuts after kinds l at order_is now arc_is amount_is flow
+    outcome = record {
+      net = net_kept b month supply want c f s
+          (slice_set c.lower arc (max (slice_index c.lower arc) (min amount (slice_index f arc)))) now.net;
+      size = length-set c.lower arc (max (slice_index c.lower arc) (min amount (slice_index f arc))) ∙ now.size;
+      swept = λ o. swept_next b month supply want order o k r (min amount (slice_index f arc)) (network c)
+          (network (changed c f s (slice_set c.lower arc
+          (max (slice_index c.lower arc) (min amount (slice_index f arc))))))
+          (λ a. slice_index f a) cuts after kinds l at (before o) is_amount flow raised rest (others outcome)
+          (settled o outcome);
+      cut_nodes = nodes outcome;
+      cut_rights = rights outcome;
+    }
   where
     g : ℕ → ℕ
     g a = slice_index f a
@@ -139,67 +162,92 @@ served_next b month supply want order k r arc amount c f s cuts after kinds l at
     inside : arc < length c.lower
     inside = let n = now.size in omega (arith, arc_is, right_arc_in b r (r_in order_is) (kinds r (r_in order_is)))
 
-    before : (o : IsSeniorityOrder b.rights order) → IsSwept b month supply want o.place k (network c) (λ a. slice_index f a) cuts
-    before o = swept_same b month supply want order o k (network c) (flow_of c) (λ a. slice_index f a) cuts kinds now.net (now.swept o)
-        (flow_kept c f s arc (min amount (slice_index f arc)) inside flow)
+    before : (o : IsSeniorityOrder b.rights order) → IsSwept b month supply want o.place k (network c)
+        (λ a. slice_index f a) cuts
+    before o = swept_same b month supply want order o k (network c) (flow_of c) (λ a. slice_index f a) cuts kinds
+        now.net (now.swept o) (flow_kept c f s arc (min amount (slice_index f arc)) inside flow)
 
     is_amount : min amount (slice_index f arc) ≡ delivered_by b want (λ a. slice_index f a) r
-    is_amount = ap (λ x. min x (slice_index f arc)) amount_is ∙ ap (λ a. min (slice_index want r) (slice_index f a)) arc_is
+    is_amount = ap (λ x. min x (slice_index f arc)) amount_is
+        ∙ ap (λ a. min (slice_index want r) (slice_index f a)) arc_is
 
-    raised : slice_index (slice_set c.lower arc (max (slice_index c.lower arc) (min amount (slice_index f arc)))) (right_arc b r) ≡ max (slice_index c.lower (right_arc b r)) (min amount (slice_index f arc))
-    raised = subst (λ a. slice_index (slice_set c.lower arc (max (slice_index c.lower arc) (min amount (slice_index f arc)))) a ≡ max (slice_index c.lower a) (min amount (slice_index f arc))) arc_is
+    raised : slice_index (slice_set c.lower arc (max (slice_index c.lower arc) (min amount (slice_index f arc))))
+        (right_arc b r) ≡ max (slice_index c.lower (right_arc b r)) (min amount (slice_index f arc))
+    raised = subst (λ a. slice_index
+        (slice_set c.lower arc (max (slice_index c.lower arc) (min amount (slice_index f arc)))) a
+        ≡ max (slice_index c.lower a) (min amount (slice_index f arc))) arc_is
         (get_or-set_same c.lower arc (max (slice_index c.lower arc) (min amount (slice_index f arc))) 0 inside)
 
-    rest : (a : ℕ) → a < arc_count b → a ≢ right_arc b r → slice_index (slice_set c.lower arc (max (slice_index c.lower arc) (min amount (slice_index f arc)))) a ≡ slice_index c.lower a
-    rest a m ne = get_or-set_other c.lower arc a (max (slice_index c.lower arc) (min amount (slice_index f arc))) 0 (λ e. ne (e ∙ arc_is))
+    rest : (a : ℕ) → a < arc_count b → a ≢ right_arc b r →
+        slice_index (slice_set c.lower arc (max (slice_index c.lower arc) (min amount (slice_index f arc)))) a
+        ≡ slice_index c.lower a
+    rest a m ne = get_or-set_other c.lower arc a (max (slice_index c.lower arc) (min amount (slice_index f arc))) 0
+        (λ e. ne (e ∙ arc_is))
 
     others : ((amount ≤ slice_index f arc) × (after ≡ cuts))
-        ⊎ ((slice_index f arc < amount) × ((cut : List Bool) × ((after ≡ with_set cuts r (Some cut)) × ((length cut ≡ c.nodes) × IsGreatestCut (network c) (λ a. slice_index f a) arc (has cut))))) →
+        ⊎ ((slice_index f arc < amount)
+        × ((cut : List Bool) × ((after ≡ with_set cuts r (Some cut))
+        × ((length cut ≡ c.nodes) × IsGreatestCut (network c) (λ a. slice_index f a) arc (has cut))))) →
         (q : ℕ) → q < length b.rights → q ≢ r → set_of after q ≡ set_of cuts q
     others (inl met) q m ne = ap (λ (d : CutSets). set_of d q) met.1
     others (inr short) q m ne = ap (λ (d : CutSets). set_of d q) short.1.1.0 ∙ set_of_other cuts r q (Some short.1.0) ne
 
     nodes : ((amount ≤ slice_index f arc) × (after ≡ cuts))
-        ⊎ ((slice_index f arc < amount) × ((cut : List Bool) × ((after ≡ with_set cuts r (Some cut)) × ((length cut ≡ c.nodes) × IsGreatestCut (network c) (λ a. slice_index f a) arc (has cut))))) →
+        ⊎ ((slice_index f arc < amount)
+        × ((cut : List Bool) × ((after ≡ with_set cuts r (Some cut))
+        × ((length cut ≡ c.nodes) × IsGreatestCut (network c) (λ a. slice_index f a) arc (has cut))))) →
         after.nodes ≡ length b.nodes
     nodes (inl met) = ap (λ (d : CutSets). d.nodes) met.1 ∙ now.cut_nodes
     nodes (inr short) = ap (λ (d : CutSets). d.nodes) short.1.1.0 ∙ now.cut_nodes
 
     rights : ((amount ≤ slice_index f arc) × (after ≡ cuts))
-        ⊎ ((slice_index f arc < amount) × ((cut : List Bool) × ((after ≡ with_set cuts r (Some cut)) × ((length cut ≡ c.nodes) × IsGreatestCut (network c) (λ a. slice_index f a) arc (has cut))))) →
+        ⊎ ((slice_index f arc < amount)
+        × ((cut : List Bool) × ((after ≡ with_set cuts r (Some cut))
+        × ((length cut ≡ c.nodes) × IsGreatestCut (network c) (λ a. slice_index f a) arc (has cut))))) →
         length after.sets ≡ length b.rights
     rights (inl met) = ap (λ (d : CutSets). length d.sets) met.1 ∙ now.cut_rights
-    rights (inr short) = ap (λ (d : CutSets). length d.sets) short.1.1.0 ∙ (length-set cuts.sets r (Some short.1.0) ∙ now.cut_rights)
+    rights (inr short) = ap (λ (d : CutSets). length d.sets) short.1.1.0
+        ∙ (length-set cuts.sets r (Some short.1.0) ∙ now.cut_rights)
 
-    settled : (o : IsSeniorityOrder b.rights order) → ((amount ≤ slice_index f arc) × (after ≡ cuts))
-        ⊎ ((slice_index f arc < amount) × ((cut : List Bool) × ((after ≡ with_set cuts r (Some cut)) × ((length cut ≡ c.nodes) × IsGreatestCut (network c) (λ a. slice_index f a) arc (has cut))))) →
+    settled : (o : IsSeniorityOrder b.rights order) →
+        ((amount ≤ slice_index f arc) × (after ≡ cuts))
+        ⊎ ((slice_index f arc < amount)
+        × ((cut : List Bool) × ((after ≡ with_set cuts r (Some cut))
+        × ((length cut ≡ c.nodes) × IsGreatestCut (network c) (λ a. slice_index f a) arc (has cut))))) →
         IsSettled b month supply want (deliveries_by b want (λ a. slice_index f a)) after r
     settled o (inl met) = inl (
       let d = got b want g r (r_in o) in let m = met.0 in omega (arith, d, is_amount, amount_is),
       ap (λ (d : CutSets). set_of d r) met.1 ∙ (before o).others r (r_in o) (omega (arith, place_is o)),
     )
     settled o (inr short) =
-        let d : slice_index (deliveries_by b want g) r ≡ slice_index f arc = got b want g r (r_in o) ∙ (let m = short.0 in omega (arith, is_amount)) in
+        let d : slice_index (deliveries_by b want g) r ≡ slice_index f arc = got b want g r (r_in o)
+        ∙ (let m = short.0 in omega (arith, is_amount)) in
         inr (
           let m = short.0 in omega (arith, d, amount_is),
           (
             short.1.0,
             (
-              ap (λ (d : CutSets). set_of d r) short.1.1.0 ∙ set_of_with cuts r (Some short.1.0) (let n = now.cut_rights in omega (arith, r_in o)),
+              ap (λ (d : CutSets). set_of d r) short.1.1.0
+                  ∙ set_of_with cuts r (Some short.1.0) (let n = now.cut_rights in omega (arith, r_in o)),
               greatest_reach b month supply want (deliveries_by b want g) (network c) g r short.1.0 now.net
-                  (holds_seniors b order (deliveries_by b want g) o r k (network c) (r_in o) (place_is o) (before o).held) (r_in o) (kinds r (r_in o))
+                  (holds_seniors b order (deliveries_by b want g) o r k (network c) (r_in o) (place_is o)
+                  (before o).held) (r_in o) (kinds r (r_in o))
                   (ap (slice_index f) (sym arc_is) ∙ sym d) (short.1.1.1.0 ∙ now.net.ends.nodes)
                   (subst (λ a. IsGreatestCut (network c) g a (has short.1.0)) arc_is short.1.1.1.1),
             ),
           ),
         )
 
-pub standing_next : (b : Basin) (month : Month) (supply want order : List ℕ) (k r arc amount : ℕ) (c new : Contents) (cuts after : CutSets) → AreKinds b →
-    k < length b.rights → r ≡ slice_index order k → IsSeniorityOrder b.rights order → IsStanding b month supply want order k c cuts → arc ≡ right_arc b r → amount ≡ slice_index want r →
-    IsServed c new arc amount cuts after r → IsCirculation new → IsStanding b month supply want order (k + 1) new after
-standing_next b month supply want order k r arc amount c new cuts after kinds l at order_is now arc_is amount_is served kept =
+pub standing_next : (b : Basin) (month : Month) (supply want order : List ℕ) (k r arc amount : ℕ) (c new : Contents)
+    (cuts after : CutSets) → AreKinds b → k < length b.rights → r ≡ slice_index order k →
+    IsSeniorityOrder b.rights order → IsStanding b month supply want order k c cuts → arc ≡ right_arc b r →
+    amount ≡ slice_index want r → IsServed c new arc amount cuts after r → IsCirculation new →
+    IsStanding b month supply want order (k + 1) new after
+standing_next b month supply want order k r arc amount c new cuts after kinds l at order_is now arc_is amount_is served
+    kept =
     subst (λ (x : Contents). IsStanding b month supply want order (k + 1) x after) (sym served.held)
-    (served_next b month supply want order k r arc amount c new.flow new.scratch cuts after kinds l at order_is now arc_is amount_is
+    (served_next b month supply want order k r arc amount c new.flow new.scratch cuts after kinds l at order_is now
+    arc_is amount_is
     (subst (λ (x : Contents). IsFlow (network x) (flow_of new)) served.held kept.flow) served.outcome)
 
 -- the ends are as before
@@ -209,7 +257,8 @@ ends_kept b c d same ends = record {
   arcs = ap length same.from ∙ ends.arcs;
   link_from = λ e l. ap (λ (xs : List ℕ). slice_index xs e) same.from ∙ ends.link_from e l;
   link_to = λ e l. ap (λ (xs : List ℕ). slice_index xs e) same.to ∙ ends.link_to e l;
-  take_from = λ r l h. ends.take_from r l h ∙ ap (λ (xs : List ℕ). Some (slice_index xs (take_arc b r))) (sym same.from);
+  take_from = λ r l h. ends.take_from r l h
+      ∙ ap (λ (xs : List ℕ). Some (slice_index xs (take_arc b r))) (sym same.from);
   take_to = λ r l h. ap (λ (xs : List ℕ). slice_index xs (take_arc b r)) same.to ∙ ends.take_to r l h;
   out_from = λ n l h. ap (λ (xs : List ℕ). slice_index xs (out_arc b n)) same.from ∙ ends.out_from n l h;
   out_to = λ n l h. ap (λ (xs : List ℕ). slice_index xs (out_arc b n)) same.to ∙ ends.out_to n l h;

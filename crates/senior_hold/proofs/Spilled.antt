@@ -1,5 +1,6 @@
 -- A basin with an outlet at each node.
-use Rattle.std.proofs.Common.{◌≡◌, ℕ, zero, suc, ◌+◌, ◌<◌, ◌≤◌, Bool, true, false, refl, sym, ◌∙◌, ap, subst, arith, List, [], ◌∷◌, length, map, replicate, ◌^◌}
+use Rattle.std.proofs.Common.{◌≡◌, ℕ, zero, suc, ◌+◌, ◌<◌, ◌≤◌, Bool, true, false, refl, sym, ◌∙◌, ap, subst, arith}
+use Rattle.std.proofs.Common.{List, [], ◌∷◌, length, map, replicate, ◌^◌}
 use Rattle.std.proofs.lemmas.List.{length-map, length-replicate, get_or-replicate}
 use Rattle.std.proofs.lemmas.Bool.{false≢true}
 use Rattle.std.specs.Prelude.{◌==◌, slice_index, Option, Some, None, if◌then◌else◌}
@@ -29,11 +30,13 @@ use Rattle.circulation.specs.declared.Ends.{Ends}
 use Rattle.senior_hold.proofs.SpilledArcs.{spilled_count, spilled_outlet, spill_is, spilled_arcs}
 
 -- the spills of a circulation
-pub has_spills : (b : Basin) (c : Contents) (first : ℕ) → first ≡ spill_arc b 0 → HasBasinEnds (spilled b) (network c) → HasSpills c first
+pub has_spills : (b : Basin) (c : Contents) (first : ℕ) → first ≡ spill_arc b 0 → HasBasinEnds (spilled b) (network c) →
+    HasSpills c first
 has_spills b c first is ends = record {
   arc = λ n l. omega (arith, is, inside n l, spilled_arcs b, ends.arcs);
   from = λ n l. ap (slice_index c.from) (place n l) ∙ ends.out_from n (below n l) (spilled_outlet b n (inside n l));
-  to = λ n l. ap (slice_index c.to) (place n l) ∙ (ends.out_to n (below n l) (spilled_outlet b n (inside n l)) ∙ sym ends.nodes);
+  to = λ n l. ap (slice_index c.to) (place n l)
+      ∙ (ends.out_to n (below n l) (spilled_outlet b n (inside n l)) ∙ sym ends.nodes);
 }
   where
     below : (n : ℕ) → n < c.nodes → n < length (spilled b).nodes
@@ -49,7 +52,12 @@ has_spills b c first is ends = record {
 pub spilled_ends : (b : Basin) (es : List Ends) → AreEndsOf b es (length b.links) (length b.rights) 0 →
     AreEndsOf (spilled b) es (length b.links) (length b.rights) 0
 spilled_ends b es laid = record {
-  count = omega (arith, laid.count, total_where_start (λ n. is_outlet b n) (λ k. 1), total_where_start (λ n. is_outlet (spilled b) n) (λ k. 1));
+  count = omega (
+    arith,
+    laid.count,
+    total_where_start (λ n. is_outlet b n) (λ k. 1),
+    total_where_start (λ n. is_outlet (spilled b) n) (λ k. 1),
+  );
   link = laid.link;
   take = λ r v l h. laid.take r v l h ∙ ap (λ n. Some (end_at v n)) (sym (spilled_count b));
   out = λ n l h. absurd (omega arith);
@@ -57,16 +65,19 @@ spilled_ends b es laid = record {
 
 pub spilled_amounts : (b : Basin) (p : Plan) (g : ℕ → ℕ) → AreAmountsOf b p g (length b.links) (length b.rights) 0 →
     AreAmountsOf (spilled b) p g (length b.links) (length b.rights) 0
-spilled_amounts b p g laid = record { on_links = laid.on_links; on_takes = laid.on_takes; on_outs = λ n l h. absurd (omega arith) }
+spilled_amounts b p g laid =
+    record { on_links = laid.on_links; on_takes = laid.on_takes; on_outs = λ n l h. absurd (omega arith) }
 
 -- what a node spills
 pub spill_read : (b : Basin) (g : ℕ → ℕ) (n : ℕ) → n < length b.nodes →
     when (is_outlet (spilled b) n) (g (out_arc (spilled b) n)) ≡ g (spill_arc b n)
-spill_read b g n l = ap (λ t. when t (g (out_arc (spilled b) n))) (spilled_outlet b n l) ∙ ap g (spill_is b n (omega arith))
+spill_read b g n l = ap (λ t. when t (g (out_arc (spilled b) n))) (spilled_outlet b n l)
+    ∙ ap g (spill_is b n (omega arith))
 
 -- all supply may be spilled where it comes in
-pub spilled_plan : (b : Basin) (month : Month) (supply want f t o : List ℕ) (n m : ℕ) → f ≡ replicate n 0 → n ≡ length b.links →
-    t ≡ replicate m 0 → m ≡ length b.rights → o ≡ supply → length supply ≡ length b.nodes → IsPlan (spilled b) month supply want (made f t o)
+pub spilled_plan : (b : Basin) (month : Month) (supply want f t o : List ℕ) (n m : ℕ) → f ≡ replicate n 0 →
+    n ≡ length b.links → t ≡ replicate m 0 → m ≡ length b.rights → o ≡ supply → length supply ≡ length b.nodes →
+    IsPlan (spilled b) month supply want (made f t o)
 spilled_plan b month supply want f t o n m fs fn ts tn os count = record {
   flow_len = ap length fs ∙ (length-replicate {A = ℕ} n 0 ∙ fn);
   take_len = ap length ts ∙ (length-replicate {A = ℕ} m 0 ∙ tn);
@@ -78,9 +89,12 @@ spilled_plan b month supply want f t o n m fs fn ts tn os count = record {
   balance = λ v l. omega (
     arith,
     ap (λ (xs : List ℕ). slice_index xs v) os,
-    total_zero (length b.links) (λ e. if head_of b e == v then slice_index f e else 0) (λ e k. none (head_of b e == v) (slice_index f e) (no_flow e k)),
-    total_zero (length b.links) (λ e. if tail_of b e == v then slice_index f e else 0) (λ e k. none (tail_of b e == v) (slice_index f e) (no_flow e k)),
-    total_zero (length b.rights) (λ r. if takes_at b r v then slice_index t r else 0) (λ r k. none (takes_at b r v) (slice_index t r) (no_take r k)),
+    total_zero (length b.links) (λ e. if head_of b e == v then slice_index f e else 0)
+        (λ e k. none (head_of b e == v) (slice_index f e) (no_flow e k)),
+    total_zero (length b.links) (λ e. if tail_of b e == v then slice_index f e else 0)
+        (λ e k. none (tail_of b e == v) (slice_index f e) (no_flow e k)),
+    total_zero (length b.rights) (λ r. if takes_at b r v then slice_index t r else 0)
+        (λ r k. none (takes_at b r v) (slice_index t r) (no_take r k)),
   );
 }
   where
@@ -95,20 +109,28 @@ spilled_plan b month supply want f t o n m fs fn ts tn os count = record {
     none false x h = refl
 
 -- the wants are wants of it as well
-pub spilled_wants : (b : Basin) (month : Month) (want : List ℕ) → AreWants b month want → AreWants (spilled b) month want
+pub spilled_wants : (b : Basin) (month : Month) (want : List ℕ) → AreWants b month want →
+    AreWants (spilled b) month want
 spilled_wants b month want w = record { count = w.count; small = w.small; instream = w.instream }
 
 -- a month that begins with all supply spilled
-pub spilled_start : (b : Basin) (month : Month) (supply want upper start : List ℕ) (c new : Contents) (p : Plan) (most : ℕ → ℕ) → HasBasinEnds (spilled b) (network c) →
+pub spilled_start : (b : Basin) (month : Month) (supply want upper start : List ℕ) (c new : Contents) (p : Plan)
+    (most : ℕ → ℕ) → HasBasinEnds (spilled b) (network c) →
     AreBounds (spilled b) month want most (λ a. slice_index upper a) →
     ((n : ℕ) → n < length b.nodes → most n ≡ 10 ^ 15) → FitsPlan b p → IsPlan (spilled b) month supply want p →
-    AreAmounts (spilled b) p (λ a. slice_index start a) → ((n : ℕ) → n < length b.nodes → slice_index p.out n ≤ 10 ^ 15) →
-    ((e : ℕ) → e < length b.links → slice_index p.flow e ≡ 0) → p.out ≡ supply → new ≡ month_contents c supply upper start →
-    IsSpilledStart b month supply want new
+    AreAmounts (spilled b) p (λ a. slice_index start a) →
+    ((n : ℕ) → n < length b.nodes → slice_index p.out n ≤ 10 ^ 15) →
+    ((e : ℕ) → e < length b.links → slice_index p.flow e ≡ 0) → p.out ≡ supply →
+    new ≡ month_contents c supply upper start → IsSpilledStart b month supply want new
 spilled_start b month supply want upper start c new p most ends are mosts fits plan laid small still all is =
     subst (λ (x : Contents). IsSpilledStart b month supply want x) (sym is) record {
       net = begun_net (spilled b) month supply want upper start c ends are;
-      is_flow = begun_flow (spilled b) month supply want upper start c p ends are plan laid (λ n l. omega (arith, small n (omega (arith, l, spilled_count b)), mosts n (omega (arith, l, spilled_count b))));
+      is_flow = begun_flow (spilled b) month supply want upper start c p ends are plan laid
+          (λ n l. omega (
+            arith,
+            small n (omega (arith, l, spilled_count b)),
+            mosts n (omega (arith, l, spilled_count b)),
+          ));
       size = length-replicate {A = ℕ} (length c.from) 0 ∙ ends.arcs;
       free = λ a l. get_or-replicate {A = ℕ} (length c.from) a 0 0 (let n = ends.arcs in omega arith);
       still = λ e l. laid.on_links e l ∙ still e l;
@@ -119,19 +141,22 @@ spilled_start b month supply want upper start c new p most ends are mosts fits p
     }
 
 -- a turn is one of it as well
-pub spilled_turn : (b : Basin) (order : List ℕ) (k r arc : ℕ) → IsTurn b order k r arc → IsTurn (spilled b) order k r arc
+pub spilled_turn : (b : Basin) (order : List ℕ) (k r arc : ℕ) → IsTurn b order k r arc →
+    IsTurn (spilled b) order k r arc
 spilled_turn b order k r arc t = record { below = t.below; is = t.is; in_range = t.in_range; arc_is = t.arc_is }
 
 -- a month stands so before any right is served
-pub spilled_standing : (b : Basin) (month : Month) (supply want order : List ℕ) (c : Contents) (p : Plan) (cuts : CutSets) → IsSpilledStart b month supply want c →
-    IsGiven b month supply want p cuts → IsStanding (spilled b) month supply want order 0 c cuts
+pub spilled_standing : (b : Basin) (month : Month) (supply want order : List ℕ) (c : Contents) (p : Plan)
+    (cuts : CutSets) → IsSpilledStart b month supply want c → IsGiven b month supply want p cuts →
+    IsStanding (spilled b) month supply want order 0 c cuts
 spilled_standing b month supply want order c p cuts start given =
     standing_first (spilled b) month supply want order c cuts start.net start.is_flow start.size start.free
     (record { nodes = given.fits_cuts.nodes ∙ sym (spilled_count b); rights = given.fits_cuts.rights }) given.no_sets
 
 -- a month may be given again after a sweep gave up, once its sets are given up
-pub given_again : (b : Basin) (month : Month) (supply want : List ℕ) (p q : Plan) (cuts swept cleared : CutSets) → IsGiven b month supply want p cuts →
-    FitsPlan b q → FitsCuts b swept → cleared ≡ without_sets swept → IsGiven b month supply want q cleared
+pub given_again : (b : Basin) (month : Month) (supply want : List ℕ) (p q : Plan) (cuts swept cleared : CutSets) →
+    IsGiven b month supply want p cuts → FitsPlan b q → FitsCuts b swept → cleared ≡ without_sets swept →
+    IsGiven b month supply want q cleared
 given_again b month supply want p q cuts swept cleared given fits_plan fits_cuts is = record {
   supplies = given.supplies;
   wants = given.wants;

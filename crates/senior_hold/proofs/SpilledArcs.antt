@@ -27,7 +27,8 @@ spilled_outlet b n l = each b.nodes n l
 pub spilled_before : (b : Basin) (n : ℕ) → n ≤ length b.nodes → count_where n (λ v. is_outlet (spilled b) v) ≡ n
 spilled_before b zero l = total_where_start (λ v. is_outlet (spilled b) v) (λ k. 1)
 spilled_before b (suc n) l =
-    let one : (if is_outlet (spilled b) n then 1 else 0) ≡ 0 + 1 = ap (λ t. if t then 1 else 0) (spilled_outlet b n (omega arith)) in
+    let one : (if is_outlet (spilled b) n then 1 else 0) ≡ 0 + 1 =
+    ap (λ t. if t then 1 else 0) (spilled_outlet b n (omega arith)) in
     omega (arith, count_more n (λ v. is_outlet (spilled b) v), spilled_before b n (omega arith), one)
 
 -- the arc of a node's spill
@@ -35,7 +36,8 @@ pub spill_is : (b : Basin) (n : ℕ) → n ≤ length b.nodes → out_arc (spill
 spill_is b n l = ap (λ k. length b.links + (taker_count b + k)) (spilled_before b n l)
 
 pub spilled_arcs : (b : Basin) → arc_count (spilled b) ≡ spill_arc b (length b.nodes)
-spilled_arcs b = ap (λ k. length b.links + (taker_count b + count_where k (λ v. is_outlet (spilled b) v))) (spilled_count b) ∙ spill_is b (length b.nodes) (omega arith)
+spilled_arcs b = ap (λ k. length b.links + (taker_count b + count_where k (λ v. is_outlet (spilled b) v)))
+    (spilled_count b) ∙ spill_is b (length b.nodes) (omega arith)
 
 pub spilled_kinds : (b : Basin) → AreKinds b → AreKinds (spilled b)
 spilled_kinds b kinds r l = of_kind (kinds r l)

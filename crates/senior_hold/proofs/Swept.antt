@@ -15,8 +15,10 @@ abbrev pub deliveries_by : Basin → List ℕ → (ℕ → ℕ) → List ℕ
 deliveries_by b want g = list_of (length b.rights) (delivered_by b want g)
 
 -- the first k rights of the order are held and settled, and no other has a set
-pub record IsSwept (b : Basin) (month : Month) (supply want : List ℕ) (place : ℕ → ℕ) (k : ℕ) (w : Network) (g : ℕ → ℕ) (cuts : CutSets) : Type 0 where
+pub record IsSwept (b : Basin) (month : Month) (supply want : List ℕ) (place : ℕ → ℕ) (k : ℕ) (w : Network) (g : ℕ → ℕ)
+    (cuts : CutSets) : Type 0 where
   pub flow : IsFlow w g
   pub held : Holds b (deliveries_by b want g) (λ s. nat_lt (place s) k) w
-  pub settled : (r : ℕ) → r < length b.rights → place r < k → IsSettled b month supply want (deliveries_by b want g) cuts r
+  pub settled : (r : ℕ) → r < length b.rights → place r < k →
+      IsSettled b month supply want (deliveries_by b want g) cuts r
   pub others : (r : ℕ) → r < length b.rights → k ≤ place r → set_of cuts r ≡ None

@@ -1,5 +1,6 @@
 -- What a turn by the residual tree leaves.
-use Rattle.std.proofs.Common.{◌≡◌, ◌≢◌, ℕ, ◌+◌, ◌<◌, ◌≤◌, Bool, false, refl, sym, ◌∙◌, ap, subst, arith, List, length, inl, inr, get_or-set_same, get_or-set_other}
+use Rattle.std.proofs.Common.{◌≡◌, ◌≢◌, ℕ, ◌+◌, ◌<◌, ◌≤◌, Bool, false, refl, sym, ◌∙◌, ap, subst, arith, List, length}
+use Rattle.std.proofs.Common.{inl, inr, get_or-set_same, get_or-set_other}
 use Rattle.std.proofs.lemmas.Bool.{cases_eq}
 use Rattle.std.proofs.lemmas.Bool.Decides.{nat_tests}
 use Rattle.std.proofs.lemmas.List.{length-set}
@@ -28,7 +29,8 @@ with_lower w lower = record w { lower = lower }
 cut_out_moved : (w : Network) (lower : ℕ → ℕ) (r : ℕ) (y : ℕ → Bool) → ((a : ℕ) → a ≢ r → lower a ≡ w.lower a) →
     cut_out (with_lower w lower) r y ≡ cut_out w r y
 cut_out_moved w lower r y same =
-    total_same w.arcs (λ a. if leaves w y a && not (a == r) then lower a else 0) (λ a. if leaves w y a && not (a == r) then w.lower a else 0)
+    total_same w.arcs (λ a. if leaves w y a && not (a == r) then lower a else 0)
+    (λ a. if leaves w y a && not (a == r) then w.lower a else 0)
     (λ a l. elim (cases_eq a r) [
       | inl e ↦ own (leaves w y a) a r (lower a) (w.lower a) e
       | inr ne ↦ ap (λ x. if leaves w y a && not (a == r) then x else 0) (same a ne)
@@ -37,15 +39,15 @@ cut_out_moved w lower r y same =
     own : (t : Bool) (a r x z : ℕ) → a ≡ r → (if t && not (a == r) then x else 0) ≡ (if t && not (a == r) then z else 0)
     own t a r x z e = grind (arith, nat_tests)
 
-tight_moved : (w : Network) (lower : ℕ → ℕ) (g : ℕ → ℕ) (r : ℕ) (y : ℕ → Bool) → ((a : ℕ) → a ≢ r → lower a ≡ w.lower a) →
-    IsTight (with_lower w lower) g r y → IsTight w g r y
+tight_moved : (w : Network) (lower : ℕ → ℕ) (g : ℕ → ℕ) (r : ℕ) (y : ℕ → Bool) →
+    ((a : ℕ) → a ≢ r → lower a ≡ w.lower a) → IsTight (with_lower w lower) g r y → IsTight w g r y
 tight_moved w lower g r y same tight = record {
   cut = record { basin = tight.cut.basin; tail = tight.cut.tail; head = tight.cut.head };
   equal = (let e = tight.equal in e ∙ ap (λ x. g r + x) (cut_out_moved w lower r y same));
 }
 
-tight_back : (w : Network) (lower : ℕ → ℕ) (g : ℕ → ℕ) (r : ℕ) (y : ℕ → Bool) → ((a : ℕ) → a ≢ r → lower a ≡ w.lower a) →
-    IsTight w g r y → IsTight (with_lower w lower) g r y
+tight_back : (w : Network) (lower : ℕ → ℕ) (g : ℕ → ℕ) (r : ℕ) (y : ℕ → Bool) →
+    ((a : ℕ) → a ≢ r → lower a ≡ w.lower a) → IsTight w g r y → IsTight (with_lower w lower) g r y
 tight_back w lower g r y same tight = record {
   cut = record { basin = tight.cut.basin; tail = tight.cut.tail; head = tight.cut.head };
   equal = (let e = tight.equal in e ∙ sym (ap (λ x. g r + x) (cut_out_moved w lower r y same)));
@@ -66,12 +68,16 @@ raised_cut old mid g r y raised greatest =
     (subst (λ (x : Contents). IsGreatestCut (network x) g r y) raised.rest greatest)
 
 -- a raise holds what the arc has then
-pub raised_lower : (old mid : Contents) (arc want : ℕ) → IsCirculation old → IsCirculation mid → IsRaisedOver old mid arc → arc < arcs old →
-    flow_of mid arc ≡ slice_index mid.lower arc → flow_of old arc ≤ flow_of mid arc → flow_of mid arc ≤ want →
+pub raised_lower : (old mid : Contents) (arc want : ℕ) → IsCirculation old → IsCirculation mid →
+    IsRaisedOver old mid arc → arc < arcs old → flow_of mid arc ≡ slice_index mid.lower arc →
+    flow_of old arc ≤ flow_of mid arc → flow_of mid arc ≤ want →
     mid.lower ≡ slice_set old.lower arc (max (slice_index old.lower arc) (min want (flow_of mid arc)))
 raised_lower old mid arc want kept_old kept_mid raised l held rises limit =
-    same_number_lists mid.lower (slice_set old.lower arc x) (size ∙ sym (length-set old.lower arc x)) (λ a m. elim (cases_eq a arc) [
-      | inl e ↦ ap (slice_index mid.lower) e ∙ (here ∙ (sym (get_or-set_same old.lower arc x 0 inside) ∙ sym (ap (slice_index (slice_set old.lower arc x)) e)))
+    same_number_lists mid.lower (slice_set old.lower arc x) (size ∙ sym (length-set old.lower arc x))
+    (λ a m. elim (cases_eq a arc) [
+      | inl e ↦ ap (slice_index mid.lower) e
+          ∙ (here ∙ (sym (get_or-set_same old.lower arc x 0 inside)
+          ∙ sym (ap (slice_index (slice_set old.lower arc x)) e)))
       | inr ne ↦ raised.lowers a ne ∙ sym (get_or-set_other old.lower arc a x 0 ne)
     ])
   where
@@ -88,20 +94,24 @@ raised_lower old mid arc want kept_old kept_mid raised l held rises limit =
     here = let low = kept_old.flow.low arc l in omega arith
 
 -- the contents after a raise, and after scratch words changed
-pub raised_held : (old mid new : Contents) (arc want : ℕ) → IsCirculation old → IsCirculation mid → IsRaisedOver old mid arc → arc < arcs old →
-    flow_of mid arc ≡ slice_index mid.lower arc → flow_of old arc ≤ flow_of mid arc → flow_of mid arc ≤ want → SameButScratch mid new →
-    new ≡ changed old new.flow new.scratch (slice_set old.lower arc (max (slice_index old.lower arc) (min want (flow_of new arc))))
+pub raised_held : (old mid new : Contents) (arc want : ℕ) → IsCirculation old → IsCirculation mid →
+    IsRaisedOver old mid arc → arc < arcs old → flow_of mid arc ≡ slice_index mid.lower arc →
+    flow_of old arc ≤ flow_of mid arc → flow_of mid arc ≤ want → SameButScratch mid new →
+    new ≡ changed old new.flow new.scratch
+    (slice_set old.lower arc (max (slice_index old.lower arc) (min want (flow_of new arc))))
 raised_held old mid new arc want kept_old kept_mid raised l held rises limit scratch =
     scratch ∙ (ap (λ (x : Contents). let y : Contents = record x { scratch = new.scratch } in y) raised.rest
-    ∙ (ap (λ (xs : List ℕ). changed old mid.flow new.scratch xs) (raised_lower old mid arc want kept_old kept_mid raised l held rises limit)
-    ∙ ap (λ (f : List ℕ). changed old f new.scratch (slice_set old.lower arc (max (slice_index old.lower arc) (min want (slice_index f arc))))) flow))
+    ∙ (ap (λ (xs : List ℕ). changed old mid.flow new.scratch xs)
+    (raised_lower old mid arc want kept_old kept_mid raised l held rises limit)
+    ∙ ap (λ (f : List ℕ). changed old f new.scratch
+    (slice_set old.lower arc (max (slice_index old.lower arc) (min want (slice_index f arc))))) flow))
   where
     flow : mid.flow ≡ new.flow
     flow = sym (ap (λ (x : Contents). x.flow) scratch)
 
-pub served_full : (old mid : Contents) (arc want : ℕ) (cuts : CutSets) (right : ℕ) → IsCirculation old → IsCirculation mid → IsRaisedOver old mid arc → arc < arcs old →
-    flow_of mid arc ≡ slice_index mid.lower arc → flow_of old arc ≤ flow_of mid arc → flow_of mid arc ≡ want →
-    IsServed old mid arc want cuts cuts right
+pub served_full : (old mid : Contents) (arc want : ℕ) (cuts : CutSets) (right : ℕ) → IsCirculation old →
+    IsCirculation mid → IsRaisedOver old mid arc → arc < arcs old → flow_of mid arc ≡ slice_index mid.lower arc →
+    flow_of old arc ≤ flow_of mid arc → flow_of mid arc ≡ want → IsServed old mid arc want cuts cuts right
 served_full old mid arc want cuts right kept_old kept_mid raised l held rises met = record {
   held = raised_held old mid mid arc want kept_old kept_mid raised l held rises (omega arith) refl;
   outcome = inl (omega arith, refl);
@@ -113,28 +123,31 @@ dry_list c way = fun_ext (has_list c.nodes (dry c way) (λ v l. outside v c.node
     outside : (v n p : ℕ) → n ≤ v → nat_lt v n && (p == 0) ≡ false
     outside v n p l = grind (arith, nat_tests)
 
-pub served_dry : (old mid new : Contents) (way : List ℕ) (arc want : ℕ) (cuts after : CutSets) (right : ℕ) → IsCirculation old → IsCirculation mid →
-    IsRaisedOver old mid arc → arc < arcs old → flow_of mid arc ≡ slice_index mid.lower arc → flow_of old arc ≤ flow_of mid arc → flow_of mid arc ≤ want →
+pub served_dry : (old mid new : Contents) (way : List ℕ) (arc want : ℕ) (cuts after : CutSets) (right : ℕ) →
+    IsCirculation old → IsCirculation mid → IsRaisedOver old mid arc → arc < arcs old →
+    flow_of mid arc ≡ slice_index mid.lower arc → flow_of old arc ≤ flow_of mid arc → flow_of mid arc ≤ want →
     flow_of mid arc ≢ want → SameButScratch mid new → IsGreatestCut (network mid) (flow_of mid) arc (dry mid way) →
-    after ≡ with_set cuts right (Some (list_of mid.nodes (dry mid way))) →
-    IsServed old new arc want cuts after right
-served_dry old mid new way arc want cuts after right kept_old kept_mid raised l held rises limit short scratch greatest done = record {
-  held = raised_held old mid new arc want kept_old kept_mid raised l held rises limit scratch;
-  outcome = inr (
-    let e = ap (λ (f : ℕ → ℕ). f arc) flow in omega arith,
-    (
-      list_of mid.nodes (dry mid way),
-      (
-        done,
+    after ≡ with_set cuts right (Some (list_of mid.nodes (dry mid way))) → IsServed old new arc want cuts after right
+served_dry old mid new way arc want cuts after right kept_old kept_mid raised l held rises limit short scratch greatest
+    done = record {
+      held = raised_held old mid new arc want kept_old kept_mid raised l held rises limit scratch;
+      outcome = inr (
+        let e = ap (λ (f : ℕ → ℕ). f arc) flow in omega arith,
         (
-          list_size mid.nodes (dry mid way) ∙ ap (λ (x : Contents). x.nodes) raised.rest,
-          subst (λ (g : ℕ → ℕ). IsGreatestCut (network old) g arc (has (list_of mid.nodes (dry mid way)))) (sym flow)
-              (subst (λ (y : ℕ → Bool). IsGreatestCut (network old) (flow_of mid) arc y) (sym (dry_list mid way)) (raised_cut old mid (flow_of mid) arc (dry mid way) raised greatest)),
+          list_of mid.nodes (dry mid way),
+          (
+            done,
+            (
+              list_size mid.nodes (dry mid way) ∙ ap (λ (x : Contents). x.nodes) raised.rest,
+              subst (λ (g : ℕ → ℕ). IsGreatestCut (network old) g arc (has (list_of mid.nodes (dry mid way))))
+                  (sym flow)
+                  (subst (λ (y : ℕ → Bool). IsGreatestCut (network old) (flow_of mid) arc y) (sym (dry_list mid way))
+                  (raised_cut old mid (flow_of mid) arc (dry mid way) raised greatest)),
+            ),
+          ),
         ),
-      ),
-    ),
-  );
-}
+      );
+    }
   where
     flow : flow_of new ≡ flow_of mid
     flow = ap (λ (x : Contents). flow_of x) scratch

@@ -1,5 +1,6 @@
 -- A month's network: the links, then the takes, then the outflows, both to the outside node.
-use Rattle.std.specs.Prelude.{◌≡◌, ℕ, ◌+◌, ◌*◌, ◌<◌, ◌&&◌, Bool, true, List, map, length, slice_index, Option, Some, None, is_some}
+use Rattle.std.specs.Prelude.{◌≡◌, ℕ, ◌+◌, ◌*◌, ◌<◌, ◌&&◌, Bool, true, List, map, length, slice_index, Option, Some}
+use Rattle.std.specs.Prelude.{None, is_some}
 use Rattle.std.specs.List.{range_with_len}
 use Rattle.place_sums.specs.Sums.{when, count_where, greatest_where}
 use Rattle.water_model.specs.Basin.{tail_of, head_of, is_outlet, taking_node, instream_link, is_on_link}

@@ -6,7 +6,8 @@ ghost use Rattle.water_model.specs.Basin.{is_outlet};
 ghost use Rattle.water_model.specs.Plans.{carry_of};
 ghost use Rattle.water_model.specs.Valid.{IsValidBasin};
 ghost use Rattle.circulation.specs.Contents.{network, flow_of, arcs};
-ghost use Rattle.senior_hold.specs.MonthNetwork.{arc_count, taker_count, take_arc, spill_arc, takes, list_of, plan_of, HasBasinEnds};
+ghost use Rattle.senior_hold.specs.MonthNetwork.{arc_count, taker_count, take_arc, spill_arc, takes, list_of};
+ghost use Rattle.senior_hold.specs.MonthNetwork.{plan_of, HasBasinEnds};
 ghost use Rattle.senior_hold.specs.Arcs.{AreArcs, AreAmounts, AreAmountsOf, AreBounds};
 ghost use Rattle.senior_hold.specs.Solved.{FitsPlan};
 ghost use Rattle.senior_hold.specs.Spilled.{spilled, spills_of};
@@ -38,7 +39,8 @@ fn lay_takes(basin: &Basin, arcs: &Arcs, plan: &Plan, into: &mut [u64])
     requires plan { FitsPlan basin.now plan.now }
     requires into { length basin.now.links + taker_count basin.now ≤ length into.old }
     requires flows { AreAmountsOf basin.now plan.now (slice_index into.old) (length basin.now.links) 0 0 }
-    ensures { AreAmountsOf basin.now plan.now (slice_index into.new) (length basin.now.links) (length basin.now.rights) 0 }
+    ensures { AreAmountsOf basin.now plan.now (slice_index into.new)
+        (length basin.now.links) (length basin.now.rights) 0 }
 {
     for right in 0..basin.rights.len() {
         if taking_node(basin, right as u32).is_some() {
@@ -53,7 +55,8 @@ fn lay_spills(basin: &Basin, arcs: &Arcs, plan: &Plan, into: &mut [u64])
     requires arcs { AreArcs basin.now arcs.now }
     requires plan { FitsPlan basin.now plan.now }
     requires into { length into.old ≡ arc_count (spilled basin.now) }
-    requires takes { AreAmountsOf basin.now plan.now (slice_index into.old) (length basin.now.links) (length basin.now.rights) 0 }
+    requires takes { AreAmountsOf basin.now plan.now (slice_index into.old)
+        (length basin.now.links) (length basin.now.rights) 0 }
     ensures { AreAmounts (spilled basin.now) plan.now (slice_index into.new) }
 {
     for node in 0..basin.nodes.len() {

@@ -48,7 +48,8 @@ pub fn words_of(basin: &Basin, arcs: usize) -> usize
     words(nodes, arcs as u32) + tree_words(nodes)
 }
 
-/// Lays the circulation of a basin, and a place for the tree, into a region that is free and has exactly the words for both.
+/// Lays the circulation of a basin, and a place for the tree, into a region that is free and has exactly the words for
+/// both.
 pub fn open_places(basin: &Basin, ends: &[Ends], region: &mut Region) -> Places
     requires valid { IsValidBasin basin.now }
     requires ends { AreEnds (spilled basin.now) ends.now }

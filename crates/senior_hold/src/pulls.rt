@@ -15,8 +15,8 @@ use std::sync::ledger::Ledger;
 use steps::Steps;
 use water_model::cut_list::CutList;
 
-/// At most one push over an arc: along the tree, or within the dry nodes where both its ends are dry. Unfinished says that
-/// there may be more to push; it comes after a push, or where the exit is full.
+/// At most one push over an arc: along the tree, or within the dry nodes where both its ends are dry. Unfinished says
+/// that there may be more to push; it comes after a push, or where the exit is full.
 fn pull_once<L: Ledger>(
     circ: &mut Lent<'_>,
     tree: &mut ResidualTree<'_>,
@@ -58,8 +58,9 @@ fn pull_once<L: Ledger>(
     }
 }
 
-/// Raises the flow on an arc to its want, or as far as it can be, by at most `left` pushes, and takes from `left` what it
-/// used, with one for the end. Unfinished says that they were used up: as many pushes were made, unless the exit got full.
+/// Raises the flow on an arc to its want, or as far as it can be, by at most `left` pushes, and takes from `left` what
+/// it used, with one for the end. Unfinished says that they were used up: as many pushes were made, unless the exit got
+/// full.
 fn pull_up<L: Ledger>(
     circ: &mut Lent<'_>,
     tree: &mut ResidualTree<'_>,
@@ -112,9 +113,9 @@ pub enum Turn {
     GaveUp,
 }
 
-/// Serves a right as `serve` does, by at most `left` pushes, and takes from `left` what it used: at most one more than it
-/// pushed. It gives up after `left` pushes. Both are so unless the exit got full on the way. `exit` is an arc from the
-/// head of the right's arc to the outside, unless the head is the outside.
+/// Serves a right as `serve` does, by at most `left` pushes, and takes from `left` what it used: at most one more than
+/// it pushed. It gives up after `left` pushes. Both are so unless the exit got full on the way. `exit` is an arc from
+/// the head of the right's arc to the outside, unless the head is the outside.
 pub fn serve_by_tree<L: Ledger>(
     circ: &mut Lent<'_>,
     tree: &mut ResidualTree<'_>,

@@ -1,9 +1,9 @@
 //! The solver of a basin's months.
 //!
 //! There are two ways. By the residual tree a month costs what changes in it, but a push can be small, and there can be
-//! many. So that way has a budget of 30 pushes for each right, for the month as a whole. By searches a month has a bound
-//! on its pushes, whatever its amounts. Where the budget gives out, the month is solved from its beginning by searches.
-//! Both ways go over one network.
+//! many. So that way has a budget of 30 pushes for each right, for the month as a whole. By searches a month has a
+//! bound on its pushes, whatever its amounts. Where the budget gives out, the month is solved from its beginning by
+//! searches. Both ways go over one network.
 ghost use Rattle.std.specs.Prelude.{◌≡◌, ℕ, ◌+◌, ◌*◌, ◌<◌, ◌≤◌, length, IfOk};
 ghost use Rattle.water_text.specs.Months.{IsMonth};
 ghost use Rattle.water_model.specs.Valid.{IsValidBasin};
@@ -120,8 +120,9 @@ impl<'b> Solver<'b> {
         })
     }
 
-    /// Solves a month as `solve_month` does, by the residual tree, with at most 30 pushes for each right on average. GaveUp
-    /// comes only after more than 29 for each were made, and then the plan and the sets say nothing of the month.
+    /// Solves a month as `solve_month` does, by the residual tree, with at most 30 pushes for each right on average.
+    /// GaveUp comes only after more than 29 for each were made, and then the plan and the sets say nothing of the
+    /// month.
     pub fn sweep_by_tree<L: Ledger>(
         &mut self,
         month: Month,
@@ -190,10 +191,10 @@ impl<'b> Solver<'b> {
         );
     }
 
-    /// Writes the plan of a month that serves seniors first, and gives each right that is short its reach as its set. The
-    /// supply is indexed by node, the want by right, both in units of 1,000 cubic metres. Without rights the plan is the
-    /// run of the river. Each search that finds a walk, and each push along the tree, ticks `searches` once. It refuses
-    /// nothing and takes no memory.
+    /// Writes the plan of a month that serves seniors first, and gives each right that is short its reach as its set.
+    /// The supply is indexed by node, the want by right, both in units of 1,000 cubic metres. Without rights the plan
+    /// is the run of the river. Each search that finds a walk, and each push along the tree, ticks `searches` once. It
+    /// refuses nothing and takes no memory.
     pub fn solve_month<L: Ledger>(
         &mut self,
         month: Month,

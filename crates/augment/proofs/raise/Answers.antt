@@ -9,13 +9,22 @@ returns-then-flow-want-clause-greatest g c = λ _ h flow.
     let less = c.if-flow-want.true in
     let seen = c.flow.ensures.amount in
     let cut = c.run_phases.ensures.cut (omega (arith, less, seen)) in
-    tight-greatest (network c.args.circ.now) c.args.arc _ (flow_of c.run_phases.new.circ) h c.requires.arc cut.tight flow
+    tight-greatest (network c.args.circ.now) c.args.arc _ (flow_of c.run_phases.new.circ) h c.requires.arc cut.tight
+    flow
 
 pub returns-then-flow-want-clause-exact : goal.returns-then-flow-want-clause-exact
 returns-then-flow-want-clause-exact g c = λ _.
     let less = c.if-flow-want.true in
-    let seen = c.flow.ensures.amount in
-    (λ e. absurd (cc), λ h. absurd (omega (arith, returns-then-flow-want-clause-greatest g c refl h.0 h.1.0, h.1.1, less, seen)))
+    let seen = c.flow.ensures.amount in (
+      λ e. absurd (cc),
+      λ h. absurd (omega (
+        arith,
+        returns-then-flow-want-clause-greatest g c refl h.0 h.1.0,
+        h.1.1,
+        less,
+        seen,
+      )),
+    )
 
 pub returns-else-flow-want-clause-exact : goal.returns-else-flow-want-clause-exact
 returns-else-flow-want-clause-exact g c = λ _.

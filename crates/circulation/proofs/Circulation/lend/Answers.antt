@@ -1,6 +1,5 @@
-use Rattle.std.proofs.Common.{ℕ, ◌≡◌, ◌^◌, ◌<◌, map, slice_index, sym, subst}
+use Rattle.std.proofs.Common.{ℕ, ◌^◌, ◌<◌, slice_index, sym, subst}
 use Rattle.circulation.specs.Contents.{Contents, IsCirculation}
-use Rattle.circulation.specs.Places.{AreWordsOf}
 use Rattle.circulation.proofs.Lends.{lent_is}
 use Rattle.circulation.proofs.Circulation.lend.Goals as goal
 

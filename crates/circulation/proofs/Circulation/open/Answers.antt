@@ -28,8 +28,10 @@ returns-clause-held c =
       record {
         used = omega (arith, from, ap (λ (p : Place). p.len) at, used);
         size = len;
-        words = subst (HasWords circ (empty_contents c.args.nodes (tails c.args.ends.now) (heads c.args.ends.now) has.0))
-            (sym (written_place c.take.new.self.words c.lay.new.words place (c.lay.ensures.count ∙ sym len) fits)) has.1;
+        words = subst (HasWords circ
+            (empty_contents c.args.nodes (tails c.args.ends.now) (heads c.args.ends.now) has.0))
+            (sym (written_place c.take.new.self.words c.lay.new.words place (c.lay.ensures.count ∙ sym len) fits))
+            has.1;
       },
     )
 
@@ -45,4 +47,5 @@ returns-clause-others c = λ other before.
     written_other c.take.new.self.words c.lay.new.words place.from other
     (omega (arith, from, count, size, c.in_ok-place.ensures.fitted)) (omega (arith, from, before))
     ∙ ap (λ (r : Words). words_at r.words other) c.in_ok-place.ensures.taken
-    ∙ zeroed_other c.args.region.now.words c.args.region.now.used c.words.result other c.in_ok-place.ensures.fitted before
+    ∙ zeroed_other c.args.region.now.words c.args.region.now.used c.words.result other c.in_ok-place.ensures.fitted
+    before

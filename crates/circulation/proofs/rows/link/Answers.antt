@@ -1,4 +1,4 @@
-use Rattle.std.proofs.Common.{ℕ, ◌≡◌, ◌-◌, ◌*◌, length, slice_index, arith, subst}
+use Rattle.std.proofs.Common.{ℕ, ◌≡◌, ◌-◌, slice_index, arith, subst}
 use Rattle.circulation.specs.Chains.{IsNext, keys_of}
 use Rattle.circulation.proofs.Links.{link_start, link_next, turns_are}
 use Rattle.circulation.proofs.rows.link.Goals as goal

@@ -1,16 +1,23 @@
-use Rattle.std.proofs.Common.{ℕ, ◌-◌, ◌+◌, ◌*◌, ◌<◌, length, slice_index, refl, arith, ap, subst, ◌∙◌}
+use Rattle.std.proofs.Common.{ℕ, ◌-◌, ◌+◌, ◌*◌, ◌<◌, length, slice_index, refl, arith, subst, ◌∙◌}
 use Rattle.std.proofs.lemmas.List.{length-map}
 use Rattle.circulation.specs.Places.{tail_of, head_of}
 use Rattle.circulation.specs.Chains.{IsNext, keys_of}
 use Rattle.circulation.proofs.Links.{turns_are}
-use Rattle.circulation.proofs.RowLists.{next_step, next_start, next_is_new, next_has_room, part_start, part_next, part_end, apart_weak, apart_more, apart_stays, same_stays, small_stays}
+use Rattle.circulation.proofs.RowLists.{next_step, next_start, next_is_new, next_has_room, part_start, part_next}
+use Rattle.circulation.proofs.RowLists.{part_end, apart_weak, apart_more, apart_stays, same_stays, small_stays}
 use Rattle.circulation.proofs.rows.write_row.Goals as goal
 
 pub loop-turn-init : goal.loop-turn-init
 loop-turn-init c =
     let chains = c.requires.chains.1 in
     record {
-      written = (0, (part_start _ _ _ _ _ _, chains.starts c.args.node (omega (arith, chains.firsts, c.requires.node))));
+      written = (
+        0,
+        (
+          part_start _ _ _ _ _ _,
+          chains.starts c.args.node (omega (arith, chains.firsts, c.requires.node)),
+        ),
+      );
       before = c.requires.apart;
       apart = apart_weak _ _ _ _ _ c.requires.apart;
       same = record { same_steps = λ p b. refl; same_ends = λ p b. refl };
@@ -49,7 +56,8 @@ loop-turn-preserved c =
     let order = part.0.order in
     let here = next_start _ _ _ _ _ _ step in
     let follows = subst (λ (v : ℕ). IsNext (keys_of c.args.pairs.now) v (c.loop-turn.turn + 1)
-    (slice_index c.args.next.now c.loop-turn.turn)) (part.1.here step.short) (chains.follows c.loop-turn.turn step.short) in
+    (slice_index c.args.next.now c.loop-turn.turn)) (part.1.here step.short)
+    (chains.follows c.loop-turn.turn step.short) in
     record {
       written = (
         c.loop-turn.turn + 1,
@@ -72,7 +80,8 @@ pub loop-turn-smaller : goal.loop-turn-smaller
 loop-turn-smaller c =
     let chains = c.requires.chains.1 in
     let next = chains.follows c.loop-turn.turn (omega (arith, turns_are c.args.pairs.now, c.loop-turn-test.true)) in
-    let less : 2 * length c.args.pairs.now - slice_index c.args.next.now c.loop-turn.turn < 2 * length c.args.pairs.now - c.loop-turn.turn =
+    let less : 2 * length c.args.pairs.now - slice_index c.args.next.now c.loop-turn.turn
+    < 2 * length c.args.pairs.now - c.loop-turn.turn =
     omega (arith, next.after, c.loop-turn-test.true) in
     less
 
@@ -80,5 +89,6 @@ pub returns-clause-row : goal.returns-clause-row
 returns-clause-row c =
     let part = c.loop-turn.invariant.written.1 in
     let count = length-map c.args.pairs.now tail_of in
-    part_end _ _ _ _ _ _ _ _ _ _ (length-map c.args.pairs.now head_of ∙ (omega (arith, count))) (omega (arith, count)) part.0 part.1
+    part_end _ _ _ _ _ _ _ _ _ _ (length-map c.args.pairs.now head_of ∙ (omega (arith, count))) (omega (arith, count))
+    part.0 part.1
     c.loop-turn-test.false

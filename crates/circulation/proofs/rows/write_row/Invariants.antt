@@ -1,4 +1,4 @@
-use Rattle.std.proofs.Common.{ℕ, ◌≡◌, ◌+◌, ◌-◌, ◌*◌, ◌≤◌, ◌++◌, length}
+use Rattle.std.proofs.Common.{ℕ, ◌+◌, ◌-◌, ◌*◌, ◌≤◌, length}
 use Rattle.circulation.specs.Chains.{IsNext, tails_of, heads_of, keys_of, IsPartRow, AreApart, AreSameBelow, AreSmall}
 use Rattle.circulation.proofs.rows.write_row.Given as goal
 

@@ -2,7 +2,7 @@ use Rattle.std.proofs.Common.{List, ℕ, ◌≡◌, ◌≢◌, ◌+◌, ◌≤�
 use Rattle.circulation.specs.Contents.{Contents, network}
 use Rattle.circulation.specs.Residual.{end_of}
 use Rattle.residual_tree.specs.Tree.{word_of}
-use Rattle.residual_tree.proofs.Scans.{scan_at, scan_next, scan_end}
+use Rattle.circulation.proofs.Scans.{scan_at, scan_next, scan_end}
 use Rattle.residual_tree.proofs.Frees.{IsOrphaning, freeing_room, orphaning_next, orphaning_end, freed_at, kept_at}
 use Rattle.residual_tree.proofs.freeing.free_children.Goals as goal
 

@@ -2,7 +2,7 @@ use Rattle.std.proofs.Common.{ℕ, ◌≢◌, ◌+◌}
 use Rattle.circulation.specs.Contents.{network}
 use Rattle.circulation.specs.Residual.{end_of}
 use Rattle.residual_tree.specs.Tree.{word_of}
-use Rattle.residual_tree.proofs.Scans.{IsScan}
+use Rattle.circulation.proofs.Scans.{IsScan}
 use Rattle.residual_tree.proofs.Frees.{IsOrphaning}
 use Rattle.residual_tree.proofs.freeing.free_children.Given as goal
 

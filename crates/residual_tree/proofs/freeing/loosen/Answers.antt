@@ -12,6 +12,8 @@ pub loop-at-preserved : goal.loop-at-preserved
 loop-at-preserved c =
     let arc = c.requires.arcs c.loop-at.at c.loop-at.auto.at c.loop-at-test.true in
     let e = c.free_worn-size.ensures in
-    loosen_next c.args.circ.now c.loop-at.way c.loop-at.freed c.free_worn-size.new.way c.free_worn-size.new.freed c.loop-at.at
+    loosen_next c.args.circ.now c.loop-at.way c.loop-at.freed c.free_worn-size.new.way c.free_worn-size.new.freed
+    c.loop-at.at
     c.args.last c.loop-at.size c.free_worn-size.result c.scratch_get-step.result c.requires.kept
-    (omega (arith, c.scratch_get-step.ensures, arc)) c.scratch_get-step.ensures c.loop-at.invariant e.worn e.other e.firm
+    (omega (arith, c.scratch_get-step.ensures, arc)) c.scratch_get-step.ensures c.loop-at.invariant e.worn e.other
+    e.firm

@@ -1,5 +1,5 @@
 use Rattle.residual_tree.specs.Growth.{IsShut}
-use Rattle.residual_tree.proofs.Scans.{IsScan}
+use Rattle.circulation.proofs.Scans.{IsScan}
 use Rattle.residual_tree.proofs.growing.find_way.Given as goal
 
 abbrev pub invariant-loop-place : goal.invariant-loop-place

@@ -5,24 +5,30 @@ use Rattle.residual_tree.proofs.growing.lend_over.Goals as goal
 
 pub spread-requires : goal.spread-requires
 spread-requires c =
-    let l = lending c.args.circ.now c.args.way.now c.args.queue.now c.attach-size.new.way c.attach-size.new.queue c.args.exit
-    c.ends-node.result.from (2 * c.from.result + 1) c.attach-size.result c.requires.kept c.requires.tree c.requires.places
+    let l = lending c.args.circ.now c.args.way.now c.args.queue.now c.attach-size.new.way c.attach-size.new.queue
+    c.args.exit
+    c.ends-node.result.from (2 * c.from.result + 1) c.attach-size.result c.requires.kept c.requires.tree
+    c.requires.places
     c.requires.exit c.requires.out c.requires.dry c.ends-node.ensures.from (ap (λ (a : ℕ). 2 * a + 1) c.from.ensures)
     c.attach-size.ensures.way c.attach-size.ensures.queue c.attach-size.ensures.count in
     (l.grows, c.requires.kept)
 
 pub returns-clause-tree : goal.returns-clause-tree
 returns-clause-tree c =
-    let l = lending c.args.circ.now c.args.way.now c.args.queue.now c.attach-size.new.way c.attach-size.new.queue c.args.exit
-    c.ends-node.result.from (2 * c.from.result + 1) c.attach-size.result c.requires.kept c.requires.tree c.requires.places
+    let l = lending c.args.circ.now c.args.way.now c.args.queue.now c.attach-size.new.way c.attach-size.new.queue
+    c.args.exit
+    c.ends-node.result.from (2 * c.from.result + 1) c.attach-size.result c.requires.kept c.requires.tree
+    c.requires.places
     c.requires.exit c.requires.out c.requires.dry c.ends-node.ensures.from (ap (λ (a : ℕ). 2 * a + 1) c.from.ensures)
     c.attach-size.ensures.way c.attach-size.ensures.queue c.attach-size.ensures.count in
     subst (λ (n : ℕ). IsLentTree c.args.circ.now c.spread.new.way n) l.lent c.spread.ensures.tree
 
 pub returns-clause-head : goal.returns-clause-head
 returns-clause-head c =
-    let l = lending c.args.circ.now c.args.way.now c.args.queue.now c.attach-size.new.way c.attach-size.new.queue c.args.exit
-    c.ends-node.result.from (2 * c.from.result + 1) c.attach-size.result c.requires.kept c.requires.tree c.requires.places
+    let l = lending c.args.circ.now c.args.way.now c.args.queue.now c.attach-size.new.way c.attach-size.new.queue
+    c.args.exit
+    c.ends-node.result.from (2 * c.from.result + 1) c.attach-size.result c.requires.kept c.requires.tree
+    c.requires.places
     c.requires.exit c.requires.out c.requires.dry c.ends-node.ensures.from (ap (λ (a : ℕ). 2 * a + 1) c.from.ensures)
     c.attach-size.ensures.way c.attach-size.ensures.queue c.attach-size.ensures.count in
     c.spread.ensures.more _ l.reached

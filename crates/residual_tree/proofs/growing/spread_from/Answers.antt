@@ -1,8 +1,9 @@
 use Rattle.std.proofs.Common.{List, ℕ, ◌≤◌, [], arith}
 use Rattle.circulation.specs.Contents.{Contents, network}
 use Rattle.circulation.specs.Residual.{end_of}
-use Rattle.residual_tree.proofs.Scans.{scan_at, scan_next, scan_end}
-use Rattle.residual_tree.proofs.Grows.{IsSpreading, IsTried, queue_short, growing_room, inner_end, spreading_next, spreading_end}
+use Rattle.circulation.proofs.Scans.{scan_at, scan_next, scan_end}
+use Rattle.residual_tree.proofs.Grows.{IsSpreading, IsTried, queue_short, growing_room, inner_end, spreading_next}
+use Rattle.residual_tree.proofs.Grows.{spreading_end}
 use Rattle.residual_tree.proofs.growing.spread_from.Goals as goal
 
 -- the node is a basin node

@@ -1,6 +1,6 @@
 use Rattle.std.proofs.Common.{ℕ}
 use Rattle.residual_tree.specs.Tree.{IsReached}
-use Rattle.residual_tree.proofs.Scans.{IsScan}
+use Rattle.circulation.proofs.Scans.{IsScan}
 use Rattle.residual_tree.proofs.Grows.{IsSpreading, IsTried}
 use Rattle.residual_tree.proofs.growing.spread_from.Given as goal
 

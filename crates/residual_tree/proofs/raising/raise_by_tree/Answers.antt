@@ -9,18 +9,22 @@ use Rattle.residual_tree.proofs.raising.raise_by_tree.Goals as goal
 pub returns-then-word-eq0-clause-cut : goal.returns-then-word-eq0-clause-cut
 returns-then-word-eq0-clause-cut g c = λ _ head.
     let kept = c.ends-tail.ensures.kept in
-    let hold = hold_is c.args.circ.now c.hold.new.circ c.args.arc c.flow-start.result c.flow-start.ensures.kept c.requires.arc
+    let hold = hold_is c.args.circ.now c.hold.new.circ c.args.arc c.flow-start.result c.flow-start.ensures.kept
+    c.requires.arc
     c.flow-start.ensures.amount c.hold.ensures.held in
     let all = raised_more c.args.circ.now c.hold.new.circ c.pull.new.circ c.args.arc hold.rest c.pull.ensures.rest in
     let to = ap (λ (x : Contents). slice_index x.to c.args.arc) all.rest in
     let arcs = ap (λ (x : Contents). length x.from) all.rest in
-    dry_cut c.pull.new.circ c.pull.new.tree c.args.arc kept (residual_lent c.pull.new.circ c.pull.new.tree c.args.arc c.pull.ensures.tree) (omega (arith, arcs, c.requires.arc))
+    dry_cut c.pull.new.circ c.pull.new.tree c.args.arc kept
+    (residual_lent c.pull.new.circ c.pull.new.tree c.args.arc c.pull.ensures.tree)
+    (omega (arith, arcs, c.requires.arc))
     (ap (word_of c.pull.new.tree) (sym c.ends-tail.ensures.from) ∙ sym c.word.ensures ∙ c.if-word-eq0.true)
     (subst (λ (v : ℕ). IsReached c.pull.new.tree v) (sym to) head)
 
 pub returns-else-word-eq0-clause-rest : goal.returns-else-word-eq0-clause-rest
 returns-else-word-eq0-clause-rest g c =
-    let hold = hold_is c.args.circ.now c.hold.new.circ c.args.arc c.flow-start.result c.flow-start.ensures.kept c.requires.arc
+    let hold = hold_is c.args.circ.now c.hold.new.circ c.args.arc c.flow-start.result c.flow-start.ensures.kept
+    c.requires.arc
     c.flow-start.ensures.amount c.hold.ensures.held in
     raised_more c.args.circ.now c.hold.new.circ c.pull.new.circ c.args.arc hold.rest c.pull.ensures.rest
 

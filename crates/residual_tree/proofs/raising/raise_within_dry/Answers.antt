@@ -21,13 +21,15 @@ returns-then-word-eq0-clause-cut g c = λ _.
       tree = c.lend.ensures.tree;
     }
     (omega (arith, arcs, c.requires.arc))
-    (ap (word_of c.lend.new.self) (from ∙ sym c.ends-ends.ensures.from) ∙ sym c.word-in-loop-pushes.ensures ∙ c.if-word-eq0.true)
+    (ap (word_of c.lend.new.self) (from ∙ sym c.ends-ends.ensures.from) ∙ sym c.word-in-loop-pushes.ensures
+    ∙ c.if-word-eq0.true)
     (subst (λ (v : ℕ). IsReached c.lend.new.self v) head c.lend.ensures.head)
 
 pub settle-requires-clause-tree : goal.settle-requires-clause-tree
 settle-requires-clause-tree g c =
     let stopped = c.round.ensures.stopped c.if-not-round.true in
-    stopped_lent c.loop-pushes.circ c.round.new.circ c.lend.new.self c.round.new.tree _ c.lend.ensures.tree stopped.0 stopped.1
+    stopped_lent c.loop-pushes.circ c.round.new.circ c.lend.new.self c.round.new.tree _ c.lend.ensures.tree stopped.0
+    stopped.1
 
 pub returns-then-not-round-clause-rest : goal.returns-then-not-round-clause-rest
 returns-then-not-round-clause-rest g c =

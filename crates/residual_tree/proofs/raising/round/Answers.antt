@@ -5,7 +5,8 @@ use Rattle.residual_tree.proofs.Rounds.{round_worn, round_is, round_written}
 use Rattle.residual_tree.proofs.raising.round.Goals as goal
 
 pub trace-walk-requires-clause-tree : goal.trace-walk-requires-clause-tree
-trace-walk-requires-clause-tree g c = record { step = c.args.lent; enters = c.requires.lent_end; tree = c.requires.tree }
+trace-walk-requires-clause-tree g c =
+    record { step = c.args.lent; enters = c.requires.lent_end; tree = c.requires.tree }
 
 pub push-requires-clause-walk : goal.push-requires-clause-walk
 push-requires-clause-walk g c =
@@ -26,34 +27,42 @@ pub repair-requires-clause-arcs : goal.repair-requires-clause-arcs
 repair-requires-clause-arcs g c =
     let t = c.trace-walk.ensures.traced in
     let nodes = ap (λ (x : Contents). x.nodes) t.rest in
-    (round_worn c.args.circ.now c.trace-walk.new.circ c.push.new.self c.hold.new.self c.write_step-first.new.circ c.args.tree.now
-    c.args.arc c.args.most c.trace-walk.result.first c.write_step-first.result _ _ c.trace-walk.result.amount c.flow-flow.result
+    (round_worn c.args.circ.now c.trace-walk.new.circ c.push.new.self c.hold.new.self c.write_step-first.new.circ
+    c.args.tree.now
+    c.args.arc c.args.most c.trace-walk.result.first c.write_step-first.result _ _ c.trace-walk.result.amount
+    c.flow-flow.result
     c.trace-walk.ensures.kept
     record { step = c.args.lent; enters = c.requires.lent_end; tree = c.requires.tree } c.requires.lent_arc
     c.requires.held t (omega (arith, c.if-walk-eq0.false)) c.push.ensures.rest
-    (omega (arith, nodes, c.nodes.ensures.number, t.some)) c.push.ensures.pushed c.hold.ensures.held c.write_step-first.ensures.first
+    (omega (arith, nodes, c.nodes.ensures.number, t.some)) c.push.ensures.pushed c.hold.ensures.held
+    c.write_step-first.ensures.first
     c.write_step-first.ensures.written (omega (arith, c.write_step-first.ensures.first))).arcs
 
 pub repair-requires-clause-worn : goal.repair-requires-clause-worn
 repair-requires-clause-worn g c =
     let t = c.trace-walk.ensures.traced in
     let nodes = ap (λ (x : Contents). x.nodes) t.rest in
-    (round_worn c.args.circ.now c.trace-walk.new.circ c.push.new.self c.hold.new.self c.write_step-first.new.circ c.args.tree.now
-    c.args.arc c.args.most c.trace-walk.result.first c.write_step-first.result _ _ c.trace-walk.result.amount c.flow-flow.result
+    (round_worn c.args.circ.now c.trace-walk.new.circ c.push.new.self c.hold.new.self c.write_step-first.new.circ
+    c.args.tree.now
+    c.args.arc c.args.most c.trace-walk.result.first c.write_step-first.result _ _ c.trace-walk.result.amount
+    c.flow-flow.result
     c.trace-walk.ensures.kept
     record { step = c.args.lent; enters = c.requires.lent_end; tree = c.requires.tree } c.requires.lent_arc
     c.requires.held t (omega (arith, c.if-walk-eq0.false)) c.push.ensures.rest
-    (omega (arith, nodes, c.nodes.ensures.number, t.some)) c.push.ensures.pushed c.hold.ensures.held c.write_step-first.ensures.first
+    (omega (arith, nodes, c.nodes.ensures.number, t.some)) c.push.ensures.pushed c.hold.ensures.held
+    c.write_step-first.ensures.first
     c.write_step-first.ensures.written (omega (arith, c.write_step-first.ensures.first))).worn
 
 pub returns-clause-pushed : goal.returns-clause-pushed
 returns-clause-pushed g c = λ _.
     let t = c.trace-walk.ensures.traced in
     let nodes = ap (λ (x : Contents). x.nodes) t.rest in
-    let round = round_is c.args.circ.now c.trace-walk.new.circ c.push.new.self c.hold.new.self c.args.tree.now c.args.arc
+    let round = round_is c.args.circ.now c.trace-walk.new.circ c.push.new.self c.hold.new.self c.args.tree.now
+    c.args.arc
     c.args.most c.trace-walk.result.first _ c.trace-walk.result.amount c.flow-flow.result c.trace-walk.ensures.kept
     c.requires.arc c.requires.held t (omega (arith, c.if-walk-eq0.false)) c.push.ensures.rest
-    (omega (arith, nodes, c.nodes.ensures.number, t.some)) c.push.ensures.pushed c.flow-flow.ensures.amount c.hold.ensures.held in
+    (omega (arith, nodes, c.nodes.ensures.number, t.some)) c.push.ensures.pushed c.flow-flow.ensures.amount
+    c.hold.ensures.held in
     let done = round_written _ _ c.write_step-first.new.circ _ _ _ round c.write_step-first.ensures.written in
     let limit = t.limit in (
       omega (arith, done.raised, c.if-walk-eq0.false),

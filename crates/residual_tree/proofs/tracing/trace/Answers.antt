@@ -1,23 +1,27 @@
 use Rattle.std.proofs.Common.{ℕ, min, length, ◌≡◌, ◌-◌, ◌*◌, slice_index, arith, ap, sym, ◌∙◌}
 use Rattle.circulation.specs.Contents.{Contents, network, flow_of}
 use Rattle.circulation.specs.Residual.{room_of}
-use Rattle.residual_tree.proofs.Traces.{tracing_start, tracing_space, tracing_back, tracing_next, tracing_head, tracing_exit}
+use Rattle.residual_tree.proofs.Traces.{tracing_start, tracing_space, tracing_back, tracing_next, tracing_head}
+use Rattle.residual_tree.proofs.Traces.{tracing_exit}
 use Rattle.residual_tree.proofs.tracing.trace.Goals as goal
 
 pub loop-node-init : goal.loop-node-init
 loop-node-init c =
     rw (c.nodes-nodes.ensures.number, c.ends-ends.ensures.from)
-    (tracing_start c.args.circ.now c.args.tree.now c.args.arc c.args.most c.requires.kept c.requires.arc c.requires.positive
+    (tracing_start c.args.circ.now c.args.tree.now c.args.arc c.args.most c.requires.kept c.requires.arc
+    c.requires.positive
     c.requires.reached)
 
 pub loop-node-preserved : goal.loop-node-preserved
 loop-node-preserved c =
     let ne = λ (e : c.loop-node.node ≡ slice_index c.args.circ.now.to c.args.arc). c.loop-node-test.true
     (e ∙ sym c.ends-ends.ensures.to) in
-    let basin = λ (e : c.loop-node.node ≡ c.args.circ.now.nodes). c.if-node-nodes.false (e ∙ sym c.nodes-nodes.ensures.number) in
+    let basin = λ (e : c.loop-node.node ≡ c.args.circ.now.nodes).
+    c.if-node-nodes.false (e ∙ sym c.nodes-nodes.ensures.number) in
     let step = ap (λ (n : ℕ). n - 1) c.word-step.ensures in
     let w = c.write_step-first-in-loop-node in
-    tracing_next c.args.circ.now c.loop-node.circ w.new.circ c.args.tree.now c.args.arc c.args.most c.loop-node.first w.result
+    tracing_next c.args.circ.now c.loop-node.circ w.new.circ c.args.tree.now c.args.arc c.args.most c.loop-node.first
+    w.result
     c.loop-node.node c.start-node.result c.loop-node.amount c.min-amount-in-loop-node.result (c.word-step.result - 1)
     c.requires.kept c.loop-node.invariant c.requires.tree c.requires.held ne basin step c.start-node.ensures
     (c.min-amount-in-loop-node.ensures ∙ ap (min c.loop-node.amount) c.room-in-loop-node.ensures) w.ensures.first
@@ -29,31 +33,41 @@ returns-then-node-nodes-clause-traced c =
     (e ∙ sym c.ends-ends.ensures.to) in
     let x = c.write_step-first in
     let w = c.write_step-first-then-node-nodes in
-    tracing_exit c.args.circ.now c.loop-node.circ x.new.circ w.new.circ c.args.tree.now c.args.arc c.args.exit c.args.most
+    tracing_exit c.args.circ.now c.loop-node.circ x.new.circ w.new.circ c.args.tree.now c.args.arc c.args.exit
+    c.args.most
     c.loop-node.first x.result w.result c.loop-node.node c.loop-node.amount c.min-amount.result (2 * c.from-out.result)
-    (2 * c.from.result) c.requires.kept c.requires.arc c.requires.positive c.loop-node.invariant c.requires.tree c.requires.most
+    (2 * c.from.result) c.requires.kept c.requires.arc c.requires.positive c.loop-node.invariant c.requires.tree
+    c.requires.most
     c.requires.reached c.requires.exit ne (c.if-node-nodes.true ∙ c.nodes-nodes.ensures.number)
     (ap (λ (a : ℕ). 2 * a) c.from-out.ensures) (ap (λ (a : ℕ). 2 * a) c.from.ensures)
-    (c.min-amount.ensures ∙ ap (min c.loop-node.amount) c.room.ensures) x.ensures.first w.ensures.first x.ensures.written
+    (c.min-amount.ensures ∙ ap (min c.loop-node.amount) c.room.ensures) x.ensures.first w.ensures.first
+    x.ensures.written
     x.ensures.kept w.ensures.written
 
 pub returns-clause-traced : goal.returns-clause-traced
 returns-clause-traced c =
     let w = c.write_step-first-2 in
-    tracing_head c.args.circ.now c.loop-node.circ w.new.circ c.args.tree.now c.args.arc c.args.most c.loop-node.first w.result
+    tracing_head c.args.circ.now c.loop-node.circ w.new.circ c.args.tree.now c.args.arc c.args.most c.loop-node.first
+    w.result
     c.loop-node.node c.loop-node.amount _ c.requires.kept c.requires.arc c.loop-node.invariant c.requires.tree
-    c.requires.most (c.loop-node-test.false ∙ c.ends-ends.ensures.to) (ap (λ (a : ℕ). 2 * a) c.from-2.ensures) w.ensures.first
+    c.requires.most (c.loop-node-test.false ∙ c.ends-ends.ensures.to) (ap (λ (a : ℕ). 2 * a) c.from-2.ensures)
+    w.ensures.first
     w.ensures.written
 
 pub write_step-first-requires-clause-some : goal.write_step-first-requires-clause-some
-write_step-first-requires-clause-some c = omega (arith, (tracing_space _ _ _ _ _ _ _ _ c.loop-node.invariant c.requires.tree).0)
+write_step-first-requires-clause-some c =
+    omega (arith, (tracing_space _ _ _ _ _ _ _ _ c.loop-node.invariant c.requires.tree).0)
 
 pub write_step-first-requires-clause-fits : goal.write_step-first-requires-clause-fits
 write_step-first-requires-clause-fits c = (tracing_space _ _ _ _ _ _ _ _ c.loop-node.invariant c.requires.tree).1
 
 pub write_step-first-requires-then-node-nodes-clause-some : goal.write_step-first-requires-then-node-nodes-clause-some
 write_step-first-requires-then-node-nodes-clause-some c =
-    omega (arith, (tracing_space _ _ _ _ _ _ _ _ c.loop-node.invariant c.requires.tree).0, c.write_step-first.ensures.first)
+    omega (
+      arith,
+      (tracing_space _ _ _ _ _ _ _ _ c.loop-node.invariant c.requires.tree).0,
+      c.write_step-first.ensures.first,
+    )
 
 pub write_step-first-requires-then-node-nodes-clause-fits : goal.write_step-first-requires-then-node-nodes-clause-fits
 write_step-first-requires-then-node-nodes-clause-fits c =
@@ -68,7 +82,8 @@ pub room-requires-in-loop-node-clause-arc : goal.room-requires-in-loop-node-clau
 room-requires-in-loop-node-clause-arc c =
     let ne = λ (e : c.loop-node.node ≡ slice_index c.args.circ.now.to c.args.arc). c.loop-node-test.true
     (e ∙ sym c.ends-ends.ensures.to) in
-    let basin = λ (e : c.loop-node.node ≡ c.args.circ.now.nodes). c.if-node-nodes.false (e ∙ sym c.nodes-nodes.ensures.number) in
+    let basin = λ (e : c.loop-node.node ≡ c.args.circ.now.nodes).
+    c.if-node-nodes.false (e ∙ sym c.nodes-nodes.ensures.number) in
     let back = tracing_back c.args.circ.now c.loop-node.circ c.args.tree.now c.args.arc c.args.most c.loop-node.first
     c.loop-node.node c.loop-node.amount (c.word-step.result - 1) c.requires.kept c.loop-node.invariant c.requires.tree
     c.requires.held ne basin (ap (λ (n : ℕ). n - 1) c.word-step.ensures) in
@@ -83,7 +98,8 @@ write_step-first-requires-in-loop-node-clause-fits c =
     (tracing_space _ _ _ _ _ _ _ _ c.loop-node.invariant c.requires.tree).1
 
 pub write_step-first-requires-2-clause-some : goal.write_step-first-requires-2-clause-some
-write_step-first-requires-2-clause-some c = omega (arith, (tracing_space _ _ _ _ _ _ _ _ c.loop-node.invariant c.requires.tree).0)
+write_step-first-requires-2-clause-some c =
+    omega (arith, (tracing_space _ _ _ _ _ _ _ _ c.loop-node.invariant c.requires.tree).0)
 
 pub write_step-first-requires-2-clause-fits : goal.write_step-first-requires-2-clause-fits
 write_step-first-requires-2-clause-fits c = (tracing_space _ _ _ _ _ _ _ _ c.loop-node.invariant c.requires.tree).1
@@ -91,7 +107,8 @@ write_step-first-requires-2-clause-fits c = (tracing_space _ _ _ _ _ _ _ _ c.loo
 pub returns-then-node-nodes-clause-blocked : goal.returns-then-node-nodes-clause-blocked
 returns-then-node-nodes-clause-blocked c = λ empty.
     let positive = (c.loop-node.invariant.trail c.requires.tree).positive in
-    let is = c.room.ensures ∙ ap (λ (x : Contents). room_of (network x) (flow_of x) (2 * c.from-out.result)) c.loop-node.invariant.rest
+    let is = c.room.ensures ∙ ap (λ (x : Contents). room_of (network x) (flow_of x) (2 * c.from-out.result))
+    c.loop-node.invariant.rest
     ∙ ap (λ (a : ℕ). room_of (network c.args.circ.now) (flow_of c.args.circ.now) (2 * a)) c.from-out.ensures in (
       λ e. c.loop-node-test.true
           (c.if-node-nodes.true ∙ c.nodes-nodes.ensures.number ∙ sym e ∙ sym c.ends-ends.ensures.to),
@@ -99,4 +116,5 @@ returns-then-node-nodes-clause-blocked c = λ empty.
     )
 
 pub returns-clause-blocked : goal.returns-clause-blocked
-returns-clause-blocked c = λ empty. absurd (omega (arith, (c.loop-node.invariant.trail c.requires.tree).positive, empty))
+returns-clause-blocked c =
+    λ empty. absurd (omega (arith, (c.loop-node.invariant.trail c.requires.tree).positive, empty))

@@ -8,21 +8,58 @@ use Rattle.senior_hold.proofs.SpilledArcs.{spilled_arcs, spilled_outlet, spilled
 use Rattle.senior_hold.proofs.amounts.lay_spills.Goals as goal
 
 pub overflow_add-into : goal.overflow_add-into
-overflow_add-into c = omega (arith, c.requires.arcs.spill, c.requires.valid.few.links, c.requires.valid.few.rights, count_at_most (length c.args.basin.now.rights) (λ r. takes c.args.basin.now r), c.loop-node-test.true, c.len-node-end.ensures, c.requires.valid.few.nodes)
+overflow_add-into c = omega (
+  arith,
+  c.requires.arcs.spill,
+  c.requires.valid.few.links,
+  c.requires.valid.few.rights,
+  count_at_most (length c.args.basin.now.rights) (λ r. takes c.args.basin.now r),
+  c.loop-node-test.true,
+  c.len-node-end.ensures,
+  c.requires.valid.few.nodes,
+)
 
 pub offset_bounds-into-arcs : goal.offset_bounds-into-arcs
-offset_bounds-into-arcs c = omega (arith, c.requires.arcs.spill, c.requires.valid.few.links, c.requires.valid.few.rights, count_at_most (length c.args.basin.now.rights) (λ r. takes c.args.basin.now r), c.loop-node-test.true, c.len-node-end.ensures, c.requires.valid.few.nodes)
+offset_bounds-into-arcs c =
+    omega (
+      arith,
+      c.requires.arcs.spill,
+      c.requires.valid.few.links,
+      c.requires.valid.few.rights,
+      count_at_most (length c.args.basin.now.rights) (λ r. takes c.args.basin.now r),
+      c.loop-node-test.true,
+      c.len-node-end.ensures,
+      c.requires.valid.few.nodes,
+    )
 
 pub bounds-into-arcs : goal.bounds-into-arcs
 bounds-into-arcs c =
-    omega (arith, c.requires.arcs.spill, c.requires.into, c.loop-node.auto.into, spilled_arcs c.args.basin.now, c.loop-node-test.true, c.len-node-end.ensures)
+    omega (
+      arith,
+      c.requires.arcs.spill,
+      c.requires.into,
+      c.loop-node.auto.into,
+      spilled_arcs c.args.basin.now,
+      c.loop-node-test.true,
+      c.len-node-end.ensures,
+    )
 
 pub loop-node-preserved : goal.loop-node-preserved
 loop-node-preserved c =
-    let inside : c.loop-node.node < length c.args.basin.now.nodes = omega (arith, c.loop-node-test.true, c.len-node-end.ensures) in
+    let inside : c.loop-node.node < length c.args.basin.now.nodes =
+    omega (arith, c.loop-node-test.true, c.len-node-end.ensures) in
     let place : c.args.arcs.now.spill + c.loop-node.node ≡ out_arc (spilled c.args.basin.now) c.loop-node.node =
     omega (arith, c.requires.arcs.spill, spill_is c.args.basin.now c.loop-node.node (omega arith)) in
-    numbers_out (spilled c.args.basin.now) c.args.plan.now c.loop-node.into _ c.loop-node.node c.index.result.now (c.args.arcs.now.spill + c.loop-node.node)
-    (omega (arith, inside, spilled_count c.args.basin.now)) (spilled_outlet c.args.basin.now c.loop-node.node inside) place
-    (omega (arith, c.requires.arcs.spill, c.requires.into, c.loop-node.auto.into, spilled_arcs c.args.basin.now, inside))
+    numbers_out (spilled c.args.basin.now) c.args.plan.now c.loop-node.into _ c.loop-node.node c.index.result.now
+    (c.args.arcs.now.spill + c.loop-node.node)
+    (omega (arith, inside, spilled_count c.args.basin.now)) (spilled_outlet c.args.basin.now c.loop-node.node inside)
+    place
+    (omega (
+      arith,
+      c.requires.arcs.spill,
+      c.requires.into,
+      c.loop-node.auto.into,
+      spilled_arcs c.args.basin.now,
+      inside,
+    ))
     refl (sym (get_or_from_slice_get c.args.plan.now.out c.loop-node.node _ 0 c.index.ensures)) c.loop-node.invariant

@@ -9,20 +9,45 @@ use Rattle.senior_hold.proofs.amounts.lay_takes.Goals.{then-is_some, else-is_som
 
 pub bounds-into-index : goal.bounds-into-index
 bounds-into-index c =
-    let inside : c.loop-right.right < length c.args.basin.now.rights = omega (arith, c.loop-right-test.true, c.len-right-end.ensures) in
-    let t : takes c.args.basin.now c.loop-right.right ≡ true = ap is_some (sym c.taking_node.ensures.value) ∙ sym c.is_some.ensures ∙ c.if-is_some.true in
-    omega (arith, takes_arc_in c.args.basin.now c.loop-right.right _ c.requires.valid inside t (right_arc_read c.args.basin.now c.args.arcs.now c.loop-right.right _ c.requires.arcs inside c.index-then-is_some.ensures), c.requires.into, c.loop-right.auto.into)
+    let inside : c.loop-right.right < length c.args.basin.now.rights =
+    omega (arith, c.loop-right-test.true, c.len-right-end.ensures) in
+    let t : takes c.args.basin.now c.loop-right.right ≡ true = ap is_some (sym c.taking_node.ensures.value)
+    ∙ sym c.is_some.ensures ∙ c.if-is_some.true in
+    omega (
+      arith,
+      takes_arc_in c.args.basin.now c.loop-right.right _ c.requires.valid inside t
+          (right_arc_read c.args.basin.now c.args.arcs.now c.loop-right.right _ c.requires.arcs inside
+          c.index-then-is_some.ensures),
+      c.requires.into,
+      c.loop-right.auto.into,
+    )
 
 pub loop-right-preserved : goal.loop-right-preserved
 loop-right-preserved c = elim c.if-is_some.branch [
-  | then-is_some w ↦ (let inside : c.loop-right.right < length c.args.basin.now.rights = omega (arith, c.loop-right-test.true, c.len-right-end.ensures) in
-      let t : takes c.args.basin.now c.loop-right.right ≡ true = ap is_some (sym c.taking_node.ensures.value) ∙ sym c.is_some.ensures ∙ w.if-is_some.true in
-      let arc = right_arc_read c.args.basin.now c.args.arcs.now c.loop-right.right _ c.requires.arcs inside w.index-then-is_some.ensures in
-      numbers_take c.args.basin.now c.args.plan.now c.loop-right.into c.if-is_some.into c.loop-right.right w.index.result.now _ inside t
+  | then-is_some w ↦ (let inside : c.loop-right.right < length c.args.basin.now.rights = omega (
+    arith,
+    c.loop-right-test.true,
+    c.len-right-end.ensures,
+  ) in
+      let t : takes c.args.basin.now c.loop-right.right ≡ true = ap is_some (sym c.taking_node.ensures.value)
+      ∙ sym c.is_some.ensures ∙ w.if-is_some.true in
+      let arc = right_arc_read c.args.basin.now c.args.arcs.now c.loop-right.right _ c.requires.arcs inside
+      w.index-then-is_some.ensures in
+      numbers_take c.args.basin.now c.args.plan.now c.loop-right.into c.if-is_some.into c.loop-right.right
+      w.index.result.now _ inside t
       (arc ∙ takes_arc c.args.basin.now c.loop-right.right c.requires.valid inside t)
-      (omega (arith, takes_arc_in c.args.basin.now c.loop-right.right _ c.requires.valid inside t arc, c.requires.into, c.loop-right.auto.into))
-      w.into-is (sym (get_or_from_slice_get c.args.plan.now.take c.loop-right.right _ 0 w.index.ensures)) c.loop-right.invariant)
-  | else-is_some w ↦ (let t : takes c.args.basin.now c.loop-right.right ≡ false = ap is_some (sym c.taking_node.ensures.value) ∙ sym c.is_some.ensures ∙ w.if-is_some.false in
-      subst (λ (xs : List ℕ). AreAmountsOf c.args.basin.now c.args.plan.now (λ a. slice_index xs a) (length c.args.basin.now.links) (c.loop-right.right + 1) 0) (sym w.into-is)
-      (numbers_skip c.args.basin.now c.args.plan.now (λ a. slice_index c.loop-right.into a) c.loop-right.right t c.loop-right.invariant))
+      (omega (
+        arith,
+        takes_arc_in c.args.basin.now c.loop-right.right _ c.requires.valid inside t arc,
+        c.requires.into,
+        c.loop-right.auto.into,
+      ))
+      w.into-is (sym (get_or_from_slice_get c.args.plan.now.take c.loop-right.right _ 0 w.index.ensures))
+      c.loop-right.invariant)
+  | else-is_some w ↦ (let t : takes c.args.basin.now c.loop-right.right ≡ false = ap is_some (sym
+      c.taking_node.ensures.value) ∙ sym c.is_some.ensures ∙ w.if-is_some.false in
+      subst (λ (xs : List ℕ). AreAmountsOf c.args.basin.now c.args.plan.now (λ a. slice_index xs a)
+      (length c.args.basin.now.links) (c.loop-right.right + 1) 0) (sym w.into-is)
+      (numbers_skip c.args.basin.now c.args.plan.now (λ a. slice_index c.loop-right.into a) c.loop-right.right t
+      c.loop-right.invariant))
 ]

@@ -6,9 +6,17 @@ use Rattle.senior_hold.proofs.amounts.read_takes.Goals as goal
 
 pub flow-requires : goal.flow-requires
 flow-requires c =
-    let inside : c.loop-right.right < length c.args.basin.now.rights = omega (arith, c.loop-right-test.true, c.len-right-end.ensures) in
-    let t : takes c.args.basin.now c.loop-right.right ≡ true = ap is_some (sym c.taking_node.ensures.value ∙ c.in-Some.is) in
-    omega (arith, takes_arc_in c.args.basin.now c.loop-right.right _ c.requires.valid inside t (right_arc_read c.args.basin.now c.args.arcs.now c.loop-right.right _ c.requires.arcs inside c.index.ensures), c.requires.inside)
+    let inside : c.loop-right.right < length c.args.basin.now.rights =
+    omega (arith, c.loop-right-test.true, c.len-right-end.ensures) in
+    let t : takes c.args.basin.now c.loop-right.right ≡ true =
+    ap is_some (sym c.taking_node.ensures.value ∙ c.in-Some.is) in
+    omega (
+      arith,
+      takes_arc_in c.args.basin.now c.loop-right.right _ c.requires.valid inside t
+          (right_arc_read c.args.basin.now c.args.arcs.now c.loop-right.right _ c.requires.arcs inside c.index.ensures),
+      c.requires.inside,
+    )
 
 pub returns : goal.returns
-returns c = list_is _ c.loop-right.right _ c.loop-right.into (c.loop-right.auto.into ∙ c.requires.into) (omega (arith, c.loop-right-test.false, c.len-right-end.ensures)) c.loop-right.invariant
+returns c = list_is _ c.loop-right.right _ c.loop-right.into (c.loop-right.auto.into
+    ∙ c.requires.into) (omega (arith, c.loop-right-test.false, c.len-right-end.ensures)) c.loop-right.invariant

@@ -10,6 +10,8 @@ loop-from-init c = spilled_ends c.args.basin.now c.args.ends.now.items c.require
 
 pub loop-from-preserved : goal.loop-from-preserved
 loop-from-preserved c =
-    let inside : c.loop-from.from < length c.args.basin.now.nodes = omega (arith, c.loop-from-test.true, c.len-outside.ensures) in
+    let inside : c.loop-from.from < length c.args.basin.now.nodes =
+    omega (arith, c.loop-from-test.true, c.len-outside.ensures) in
     laid_out (spilled c.args.basin.now) c.loop-from.ends.items _ c.loop-from.from c.loop-from.from c.len-outside.result
-    (spilled_outlet c.args.basin.now c.loop-from.from inside) refl (c.len-outside.ensures ∙ sym (spilled_count c.args.basin.now)) c.in_ok-push.ensures.items c.loop-from.invariant
+    (spilled_outlet c.args.basin.now c.loop-from.from inside) refl (c.len-outside.ensures
+    ∙ sym (spilled_count c.args.basin.now)) c.in_ok-push.ensures.items c.loop-from.invariant

@@ -8,5 +8,6 @@ loop-place-init c = laid_start c.args.basin.now _ c.new-ends.ensures.items
 
 pub loop-place-preserved : goal.loop-place-preserved
 loop-place-preserved c = laid_link c.args.basin.now c.loop-place.ends.items _ c.loop-place.place _ _
-    (ap (λ o. unwrap_or (option_map (λ x. x.from) o) 0) (sym c.index-link.ensures)) (ap (λ o. unwrap_or (option_map (λ x. x.to) o) 0) (sym c.index-link.ensures))
+    (ap (λ o. unwrap_or (option_map (λ x. x.from) o) 0) (sym c.index-link.ensures))
+    (ap (λ o. unwrap_or (option_map (λ x. x.to) o) 0) (sym c.index-link.ensures))
     c.in_ok-push.ensures.items c.loop-place.invariant

@@ -1,5 +1,4 @@
 use Rattle.std.proofs.Common.{slice_index}
-use Rattle.water_model.specs.Hydrology.{run_month}
 use Rattle.water_model.proofs.Wants.{want_most, want_carried}
 use Rattle.senior_hold.specs.Laws.{WantsAreWithin}
 use Rattle.senior_hold.proofs.laws.wants_are_within.Goals as goal

@@ -4,7 +4,6 @@ use Rattle.word_region.specs.declared.Place.{Place}
 use Rattle.circulation.specs.declared.Circulation.{Circulation}
 use Rattle.residual_tree.specs.TreeWords.{tree_words}
 use Rattle.senior_hold.specs.Places.{HasPlaces}
-use Rattle.senior_hold.specs.declared.places.Places.{Places}
 use Rattle.senior_hold.proofs.Placing.{few_arcs, ends_fit, places_opened}
 use Rattle.senior_hold.proofs.places.open_places.Goals as goal
 
@@ -12,7 +11,8 @@ pub open-requires-clause-few : goal.open-requires-clause-few
 open-requires-clause-few c = omega (arith, few_arcs c.args.basin.now c.requires.valid, c.requires.ends.count)
 
 pub open-requires-clause-ends : goal.open-requires-clause-ends
-open-requires-clause-ends c = ends_fit c.args.basin.now c.args.ends.now _ c.requires.valid c.len-nodes.ensures c.requires.ends
+open-requires-clause-ends c =
+    ends_fit c.args.basin.now c.args.ends.now _ c.requires.valid c.len-nodes.ensures c.requires.ends
 
 pub returns-clause-places : goal.returns-clause-places
 returns-clause-places c =
@@ -32,7 +32,8 @@ returns-clause-places c =
       words = zeroed before.words before.used (tree_words nodes);
       used = before.used + tree_words nodes;
     } = c.in-Ok-take.ensures.taken ∙ ap words_with count in
-    subst (λ (r : Words). HasPlaces c.args.basin.now r (record { circ = c.in-Ok.circ; tree = c.in-Ok-take.tree })) (sym taken)
+    subst (λ (r : Words). HasPlaces c.args.basin.now r (record { circ = c.in-Ok.circ; tree = c.in-Ok-take.tree }))
+    (sym taken)
     (places_opened c.args.basin.now c.args.ends.now before c.in-Ok.circ c.in-Ok-take.tree nodes held.0 c.requires.ends
     c.len-nodes.ensures held.1 fits at next)
   where

@@ -1,10 +1,11 @@
-use Rattle.std.proofs.Common.{ℕ, List, ◌≡◌, ◌+◌, length, take, drop, arith, ap, ◌∙◌}
-use Rattle.senior_hold.proofs.Placing.{AreLent, parts_lent, places_again}
+use Rattle.std.proofs.Common.{ℕ, take, drop, arith, ap, ◌∙◌}
+use Rattle.senior_hold.proofs.Placing.{parts_lent, places_again}
 use Rattle.senior_hold.proofs.places.sweep.Goals as goal
 
 pub sweep_lent-answer-requires-clause-parts : goal.sweep_lent-answer-requires-clause-parts
 sweep_lent-answer-requires-clause-parts g c = parts_lent c.args.basin.now c.args.region.now c.args.places.now
-    c.split_at_mut-fixed.result.0.now c.split_at_mut-fixed.result.1.now c.split_at_mut-held.result.1.now c.requires.places
+    c.split_at_mut-fixed.result.0.now c.split_at_mut-fixed.result.1.now c.split_at_mut-held.result.1.now
+    c.requires.places
     record {
       held = c.split_at_mut-held.result.0.now;
       words = c.words_mut-words.result.now;
@@ -12,14 +13,17 @@ sweep_lent-answer-requires-clause-parts g c = parts_lent c.args.basin.now c.args
       count = c.words_mut-words.ensures.count;
       front = c.split_at_mut-held.ensures.front;
       back = c.split_at_mut-held.ensures.back_len;
-      first = c.split_at_mut-fixed.ensures.front ∙ ap (λ (n : ℕ). take n c.split_at_mut-held.result.0.now) c.fixed.ensures;
-      rest = c.split_at_mut-fixed.ensures.back ∙ ap (λ (n : ℕ). drop n c.split_at_mut-held.result.0.now) c.fixed.ensures;
+      first = c.split_at_mut-fixed.ensures.front
+          ∙ ap (λ (n : ℕ). take n c.split_at_mut-held.result.0.now) c.fixed.ensures;
+      rest = c.split_at_mut-fixed.ensures.back
+          ∙ ap (λ (n : ℕ). drop n c.split_at_mut-held.result.0.now) c.fixed.ensures;
     }
 
 pub give_back-requires : goal.give_back-requires
 give_back-requires g c =
     let parts = parts_lent c.args.basin.now c.args.region.now c.args.places.now
-    c.split_at_mut-fixed.result.0.now c.split_at_mut-fixed.result.1.now c.split_at_mut-held.result.1.now c.requires.places
+    c.split_at_mut-fixed.result.0.now c.split_at_mut-fixed.result.1.now c.split_at_mut-held.result.1.now
+    c.requires.places
     record {
       held = c.split_at_mut-held.result.0.now;
       words = c.words_mut-words.result.now;
@@ -27,15 +31,18 @@ give_back-requires g c =
       count = c.words_mut-words.ensures.count;
       front = c.split_at_mut-held.ensures.front;
       back = c.split_at_mut-held.ensures.back_len;
-      first = c.split_at_mut-fixed.ensures.front ∙ ap (λ (n : ℕ). take n c.split_at_mut-held.result.0.now) c.fixed.ensures;
-      rest = c.split_at_mut-fixed.ensures.back ∙ ap (λ (n : ℕ). drop n c.split_at_mut-held.result.0.now) c.fixed.ensures;
+      first = c.split_at_mut-fixed.ensures.front
+          ∙ ap (λ (n : ℕ). take n c.split_at_mut-held.result.0.now) c.fixed.ensures;
+      rest = c.split_at_mut-fixed.ensures.back
+          ∙ ap (λ (n : ℕ). drop n c.split_at_mut-held.result.0.now) c.fixed.ensures;
     } in
     (parts.contents, (c.split_at_mut-fixed.result.1.now, (parts.words, c.sweep_lent-answer.auto.moving)))
 
 pub returns-clause-places : goal.returns-clause-places
 returns-clause-places g c =
     let parts = parts_lent c.args.basin.now c.args.region.now c.args.places.now
-    c.split_at_mut-fixed.result.0.now c.split_at_mut-fixed.result.1.now c.split_at_mut-held.result.1.now c.requires.places
+    c.split_at_mut-fixed.result.0.now c.split_at_mut-fixed.result.1.now c.split_at_mut-held.result.1.now
+    c.requires.places
     record {
       held = c.split_at_mut-held.result.0.now;
       words = c.words_mut-words.result.now;
@@ -43,8 +50,10 @@ returns-clause-places g c =
       count = c.words_mut-words.ensures.count;
       front = c.split_at_mut-held.ensures.front;
       back = c.split_at_mut-held.ensures.back_len;
-      first = c.split_at_mut-fixed.ensures.front ∙ ap (λ (n : ℕ). take n c.split_at_mut-held.result.0.now) c.fixed.ensures;
-      rest = c.split_at_mut-fixed.ensures.back ∙ ap (λ (n : ℕ). drop n c.split_at_mut-held.result.0.now) c.fixed.ensures;
+      first = c.split_at_mut-fixed.ensures.front
+          ∙ ap (λ (n : ℕ). take n c.split_at_mut-held.result.0.now) c.fixed.ensures;
+      rest = c.split_at_mut-fixed.ensures.back
+          ∙ ap (λ (n : ℕ). drop n c.split_at_mut-held.result.0.now) c.fixed.ensures;
     } in
     let moved = c.sweep_lent-answer.auto.moving in
     let cleared = c.give_back.auto.moving in
@@ -53,7 +62,8 @@ returns-clause-places g c =
     let back = c.split_at_mut-fixed.ensures.back_len in
     places_again c.args.basin.now c.args.region.now c.args.places.now c.split_at_mut-fixed.result.0.now
     c.split_at_mut-fixed.result.1.now c.give_back.new.moving c.sweep_lent-answer.new.tree parts.contents
-    c.requires.places parts.ends (c.give_back.ensures parts.contents c.split_at_mut-fixed.result.1.now parts.words moved)
+    c.requires.places parts.ends
+    (c.give_back.ensures parts.contents c.split_at_mut-fixed.result.1.now parts.words moved)
     (front ∙ c.fixed.ensures) (omega (arith, moved, cleared, long, front, back))
     (omega (
       arith,

@@ -1,7 +1,8 @@
 use Rattle.std.proofs.lemmas.Bool.Decides.{nat_tests}
 use Rattle.std.specs.Prelude.{IsTrue, ◌↔◌}
 use Rattle.std.proofs.lemmas.Bool.{cases_eq}
-use Rattle.std.proofs.Common.{ℕ, Bool, ◌<◌, ◌≤◌, ◌≡◌, ◌≢◌, ◌*◌, ◌+◌, ◌∙◌, true, false, refl, sym, subst, arith, inl, inr}
+use Rattle.std.proofs.Common.{ℕ, Bool, ◌<◌, ◌≤◌, ◌≡◌, ◌≢◌, ◌*◌, ◌+◌, ◌∙◌, true, false, refl, sym, subst, arith, inl}
+use Rattle.std.proofs.Common.{inr}
 use denote.Enum.Bare.{sameb}
 use Rattle.residual_tree.specs.Tree.{word_of, IsReached}
 use Rattle.residual_tree.specs.declared.raising.Pulled.{Pulled}
@@ -9,7 +10,8 @@ use Rattle.residual_tree.specs.contracts.Pulled.{the_type}
 use Rattle.residual_tree.proofs.Grows.{lent_some}
 use Rattle.residual_tree.proofs.Reaches.{same_reached}
 use Rattle.senior_hold.proofs.pulls.pull_once.Goals as goal
-use Rattle.senior_hold.proofs.pulls.pull_once.Goals.{else-is_dry-via-then-is_dry+else-is_dry-2, else-is_dry-via-else-is_dry}
+use Rattle.senior_hold.proofs.pulls.pull_once.Goals.{else-is_dry-via-then-is_dry+else-is_dry-2}
+use Rattle.senior_hold.proofs.pulls.pull_once.Goals.{else-is_dry-via-else-is_dry}
 use Rattle.senior_hold.proofs.pulls.pull_once.Goals.{else-eq-via-then-eq+else-is_dry-3, else-eq-via-else-eq}
 
 not_dry : (r : Pulled) → sameb the_type r Pulled.Dry ≡ false → r ≢ Pulled.Dry
@@ -29,12 +31,16 @@ wet : (t : Bool) (p : ℕ) → (IsTrue t ↔ (p ≡ 0)) → t ≡ false → 0 < 
 wet t p both h = grind (arith, nat_tests)
 
 pub returns-else-eq-clause-lent : goal.returns-else-eq-clause-lent
-returns-else-eq-clause-lent g c = λ is. lent_some c.raise_by_tree-pulled.new.circ c.raise_by_tree-pulled.new.tree (2 * c.args.exit + 1) c.raise_by_tree-pulled.ensures.tree
+returns-else-eq-clause-lent g c =
+    λ is. lent_some c.raise_by_tree-pulled.new.circ c.raise_by_tree-pulled.new.tree (2 * c.args.exit + 1)
+    c.raise_by_tree-pulled.ensures.tree
 
 pub returns-else-eq-clause-cut : goal.returns-else-eq-clause-cut
 returns-else-eq-clause-cut g c = λ is. c.raise_by_tree-pulled.ensures.cut is (elim c.else-eq.branch [
-  | else-eq-via-then-eq+else-is_dry-3 w ↦ subst (λ (v : ℕ). IsReached c.raise_by_tree-pulled.new.tree v) c.ends-ends.ensures.to
-      (wet w.is_dry-then-eq.result (word_of c.raise_by_tree-pulled.new.tree c.ends-ends.result.to) w.is_dry-then-eq.ensures w.if-is_dry-3.false)
+  | else-eq-via-then-eq+else-is_dry-3 w ↦
+      subst (λ (v : ℕ). IsReached c.raise_by_tree-pulled.new.tree v) c.ends-ends.ensures.to
+      (wet w.is_dry-then-eq.result (word_of c.raise_by_tree-pulled.new.tree c.ends-ends.result.to)
+      w.is_dry-then-eq.ensures w.if-is_dry-3.false)
   | else-eq-via-else-eq w ↦ absurd (not_dry c.raise_by_tree-pulled.result (sym c.eq.ensures ∙ w.if-eq.false) is)
 ])
 
@@ -60,7 +66,8 @@ returns-then-is_dry-3-clause-unfinished g c = λ _.
                 let inside = kept.ends.to_in c.args.arc c.requires.arc in
                 omega (arith, stay ends.result.to (omega (arith, ends.ensures.to, inside)) was, head)
             | else-is_dry-via-else-is_dry w ↦
-                let was = wet c.is_dry.result (word_of c.args.tree.now ends.result.from) c.is_dry.ensures w.if-is_dry.false in
+                let was = wet c.is_dry.result (word_of c.args.tree.now ends.result.from) c.is_dry.ensures
+                w.if-is_dry.false in
                 let inside = kept.ends.from_in c.args.arc c.requires.arc in
                 let now = stay ends.result.from (omega (arith, ends.ensures.from, inside)) was in
                 omega (arith, subst (λ (v : ℕ). IsReached r.new.tree v) ends.ensures.from now, tail)

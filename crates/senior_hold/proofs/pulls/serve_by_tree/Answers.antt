@@ -19,8 +19,10 @@ ended_met r e = λ f. let both : Pulled.Met ≡ Pulled.Unfinished = sym e ∙ f 
 
 pub returns-in-Met-clause-served : goal.returns-in-Met-clause-served
 returns-in-Met-clause-served g c = λ _.
-    served_full c.args.circ.now c.pull_up.new.circ c.args.arc c.args.want c.args.cuts.now c.args.right c.flow.ensures.kept c.pull_up.ensures.kept c.pull_up.ensures.rest
-    c.requires.arc c.pull_up.ensures.held c.pull_up.ensures.rises ((c.pull_up.ensures.met (ended_met c.pull_up.result c.in-Met.is)).0 c.in-Met.is)
+    served_full c.args.circ.now c.pull_up.new.circ c.args.arc c.args.want c.args.cuts.now c.args.right
+    c.flow.ensures.kept c.pull_up.ensures.kept c.pull_up.ensures.rest
+    c.requires.arc c.pull_up.ensures.held c.pull_up.ensures.rises
+    ((c.pull_up.ensures.met (ended_met c.pull_up.result c.in-Met.is)).0 c.in-Met.is)
 
 pub begin_with-requires-clause-words : goal.begin_with-requires-clause-words
 begin_with-requires-clause-words g c =

@@ -10,36 +10,55 @@ use Rattle.senior_hold.proofs.search_sweep.begin_river.Goals as goal
 
 pub begin_month-requires : goal.begin_month-requires
 begin_month-requires c =
-    let size : length c.write_bounds.new.upper ≡ length c.args.room.now.upper.items = c.write_bounds.auto.upper ∙ ap length c.deref_mut.ensures.value in
-    let is : c.deref.result.now ≡ c.write_bounds.new.upper = c.deref.ensures.value ∙ with_items_is c.args.room.now.upper c.write_bounds.new.upper (omega (arith, size, c.args.room.now.upper.ok.0)) in
-    let size2 : length c.lay.new.into ≡ length c.args.room.now.start.items = c.lay.auto.into ∙ ap length c.deref_mut-2.ensures.value in
-    let is2 : c.deref-2.result.now ≡ c.lay.new.into = c.deref-2.ensures.value ∙ with_items_is c.args.room.now.start c.lay.new.into (omega (arith, size2, c.args.room.now.start.ok.0)) in
+    let size : length c.write_bounds.new.upper ≡ length c.args.room.now.upper.items = c.write_bounds.auto.upper
+    ∙ ap length c.deref_mut.ensures.value in
+    let is : c.deref.result.now ≡ c.write_bounds.new.upper = c.deref.ensures.value
+    ∙ with_items_is c.args.room.now.upper c.write_bounds.new.upper
+    (omega (arith, size, c.args.room.now.upper.ok.0)) in
+    let size2 : length c.lay.new.into ≡ length c.args.room.now.start.items = c.lay.auto.into
+    ∙ ap length c.deref_mut-2.ensures.value in
+    let is2 : c.deref-2.result.now ≡ c.lay.new.into = c.deref-2.ensures.value
+    ∙ with_items_is c.args.room.now.start c.lay.new.into (omega (arith, size2, c.args.room.now.start.ok.0)) in
     let count = spilled_count c.args.basin.now in
     let wide = c.write_outlets.auto.into ∙ ap length c.as_mut_slice.ensures.value in
-    let most = λ (n : ℕ) (l : n < length c.args.basin.now.nodes). ap (λ (xs : List ℕ). slice_index xs n) (whole_rows _ _ wide) ∙ c.write_outlets.ensures n l in
-    let plan = river_plan c.args.basin.now c.args.month c.args.supply.now c.args.want.now c.run_river.new.plan c.requires.valid c.requires.supply c.run_river.ensures.run in
-    start_is (spilled c.args.basin.now) c.args.month c.args.supply.now c.args.want.now c.deref.result.now c.deref-2.result.now c.args.circ.now c.run_river.new.plan
+    let most = λ (n : ℕ) (l : n < length c.args.basin.now.nodes).
+    ap (λ (xs : List ℕ). slice_index xs n) (whole_rows _ _ wide) ∙ c.write_outlets.ensures n l in
+    let plan = river_plan c.args.basin.now c.args.month c.args.supply.now c.args.want.now c.run_river.new.plan
+    c.requires.valid c.requires.supply c.run_river.ensures.run in
+    start_is (spilled c.args.basin.now) c.args.month c.args.supply.now c.args.want.now c.deref.result.now
+    c.deref-2.result.now c.args.circ.now c.run_river.new.plan
     (λ e l. carry_most c.args.basin.now c.args.month e c.requires.month c.requires.valid l)
-    c.requires.ends (c.requires.supply.count ∙ sym count) (spilled_wants c.args.basin.now c.args.month c.args.want.now c.requires.want)
+    c.requires.ends (c.requires.supply.count
+    ∙ sym count) (spilled_wants c.args.basin.now c.args.month c.args.want.now c.requires.want)
     (ap length is ∙ (size ∙ c.requires.room.uppers)) (ap length is2 ∙ (size2 ∙ c.requires.room.starts))
     (bounds_over (spilled c.args.basin.now) c.args.month c.args.want.now _ _ _ is c.write_bounds.ensures.upper)
     (amounts_over (spilled c.args.basin.now) c.run_river.new.plan _ _ is2 c.lay.ensures)
     (plan_up c.args.basin.now c.args.month c.args.supply.now c.args.want.now c.run_river.new.plan plan)
     (λ n l. outlets_small c.args.basin.now _ most n (omega (arith, l, count)))
-    (λ n l. outlets_most c.args.basin.now c.args.month c.args.supply.now c.args.want.now c.run_river.new.plan _ plan most c.run_river.ensures.small n (omega (arith, l, count)))
+    (λ n l. outlets_most c.args.basin.now c.args.month c.args.supply.now c.args.want.now c.run_river.new.plan _ plan
+    most c.run_river.ensures.small n (omega (arith, l, count)))
 
 pub returns-clause-begun : goal.returns-clause-begun
 returns-clause-begun c =
-    let size : length c.write_bounds.new.upper ≡ length c.args.room.now.upper.items = c.write_bounds.auto.upper ∙ ap length c.deref_mut.ensures.value in
-    let is : c.deref.result.now ≡ c.write_bounds.new.upper = c.deref.ensures.value ∙ with_items_is c.args.room.now.upper c.write_bounds.new.upper (omega (arith, size, c.args.room.now.upper.ok.0)) in
-    let size2 : length c.lay.new.into ≡ length c.args.room.now.start.items = c.lay.auto.into ∙ ap length c.deref_mut-2.ensures.value in
-    let is2 : c.deref-2.result.now ≡ c.lay.new.into = c.deref-2.ensures.value ∙ with_items_is c.args.room.now.start c.lay.new.into (omega (arith, size2, c.args.room.now.start.ok.0)) in
+    let size : length c.write_bounds.new.upper ≡ length c.args.room.now.upper.items = c.write_bounds.auto.upper
+    ∙ ap length c.deref_mut.ensures.value in
+    let is : c.deref.result.now ≡ c.write_bounds.new.upper = c.deref.ensures.value
+    ∙ with_items_is c.args.room.now.upper c.write_bounds.new.upper
+    (omega (arith, size, c.args.room.now.upper.ok.0)) in
+    let size2 : length c.lay.new.into ≡ length c.args.room.now.start.items = c.lay.auto.into
+    ∙ ap length c.deref_mut-2.ensures.value in
+    let is2 : c.deref-2.result.now ≡ c.lay.new.into = c.deref-2.ensures.value
+    ∙ with_items_is c.args.room.now.start c.lay.new.into (omega (arith, size2, c.args.room.now.start.ok.0)) in
     let count = spilled_count c.args.basin.now in
     let wide = c.write_outlets.auto.into ∙ ap length c.as_mut_slice.ensures.value in
-    let most = λ (n : ℕ) (l : n < length c.args.basin.now.nodes). ap (λ (xs : List ℕ). slice_index xs n) (whole_rows _ _ wide) ∙ c.write_outlets.ensures n l in
-    let plan = river_plan c.args.basin.now c.args.month c.args.supply.now c.args.want.now c.run_river.new.plan c.requires.valid c.requires.supply c.run_river.ensures.run in
-    begun c.args.basin.now c.args.month c.args.supply.now c.args.want.now c.deref.result.now c.deref-2.result.now c.args.circ.now c.begin_month.new.self c.run_river.new.plan _
-    c.requires.ends (bounds_over (spilled c.args.basin.now) c.args.month c.args.want.now _ _ _ is c.write_bounds.ensures.upper)
+    let most = λ (n : ℕ) (l : n < length c.args.basin.now.nodes).
+    ap (λ (xs : List ℕ). slice_index xs n) (whole_rows _ _ wide) ∙ c.write_outlets.ensures n l in
+    let plan = river_plan c.args.basin.now c.args.month c.args.supply.now c.args.want.now c.run_river.new.plan
+    c.requires.valid c.requires.supply c.run_river.ensures.run in
+    begun c.args.basin.now c.args.month c.args.supply.now c.args.want.now c.deref.result.now c.deref-2.result.now
+    c.args.circ.now c.begin_month.new.self c.run_river.new.plan _
+    c.requires.ends (bounds_over (spilled c.args.basin.now) c.args.month c.args.want.now _ _ _ is
+    c.write_bounds.ensures.upper)
     most c.run_river.ensures.fits plan c.run_river.ensures.run
     (amounts_over (spilled c.args.basin.now) c.run_river.new.plan _ _ is2 c.lay.ensures)
     c.run_river.ensures.small c.begin_month.ensures.month

@@ -17,12 +17,15 @@ returns-clause-run c =
     let ol = c.natural.auto.out ∙ ap length c.as_mut_slice-3.ensures.value in
     subst (IsRunOfRiver c.args.basin.now c.args.supply.now) (made_whole _ _ _ _ _ _ fl tl ol)
     (river_is c.args.basin.now c.args.supply.now c.natural.new.flow c.fill.new.self c.natural.new.out _
-    (c.fill.ensures.after (λ y h. h)) (ap length c.as_mut_slice.ensures.value ∙ c.requires.plan.take) (tl ∙ c.requires.plan.take)
+    (c.fill.ensures.after (λ y h. h)) (ap length c.as_mut_slice.ensures.value ∙ c.requires.plan.take) (tl
+    ∙ c.requires.plan.take)
     (c.natural.ensures.run c.args.basin.now.nodes c.args.basin.now.links c.requires.net c.requires.valid.network))
 
 pub returns-clause-small : goal.returns-clause-small
 returns-clause-small c =
     let ol = c.natural.auto.out ∙ ap length c.as_mut_slice-3.ensures.value in
-    subst (λ (xs : List ℕ). (n : ℕ) → n < length c.args.basin.now.nodes → slice_index xs n ≤ 10 ^ 15) (sym (whole_rows _ _ ol))
-    (λ n l. out_small c.args.supply.now c.natural.new.out c.natural.ensures.all (supply_small c.args.basin.now c.args.supply.now c.requires.supply) n
+    subst (λ (xs : List ℕ). (n : ℕ) → n < length c.args.basin.now.nodes → slice_index xs n ≤ 10 ^ 15)
+    (sym (whole_rows _ _ ol))
+    (λ n l. out_small c.args.supply.now c.natural.new.out c.natural.ensures.all
+    (supply_small c.args.basin.now c.args.supply.now c.requires.supply) n
     (omega (arith, ol, c.requires.plan.out)))

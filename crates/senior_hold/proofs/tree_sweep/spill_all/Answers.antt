@@ -13,14 +13,21 @@ returns-clause-plan c =
     let fl = c.fill.ensures.len ∙ ap length c.as_mut_slice.ensures.value in
     let tl = c.fill-2.ensures.len ∙ ap length c.as_mut_slice-2.ensures.value in
     let ol = c.copy_from_slice.ensures.len ∙ ap length c.as_mut_slice-3.ensures.value in
-    λ month want. subst (λ (p : Plan). IsPlan (spilled c.args.basin.now) month c.args.supply.now want p) (made_whole _ _ _ _ _ _ fl tl ol)
-    (spilled_plan c.args.basin.now month c.args.supply.now want c.fill.new.self c.fill-2.new.self c.copy_from_slice.new.self _ _
+    λ month want. subst (λ (p : Plan). IsPlan (spilled c.args.basin.now) month c.args.supply.now want p)
+    (made_whole _ _ _ _ _ _ fl tl ol)
+    (spilled_plan c.args.basin.now month c.args.supply.now want c.fill.new.self c.fill-2.new.self
+    c.copy_from_slice.new.self _ _
     (c.fill.ensures.after (λ y h. h)) (ap length c.as_mut_slice.ensures.value ∙ c.requires.plan.flow)
-    (c.fill-2.ensures.after (λ y h. h)) (ap length c.as_mut_slice-2.ensures.value ∙ c.requires.plan.take) c.copy_from_slice.ensures.after c.requires.supply.count)
+    (c.fill-2.ensures.after (λ y h. h)) (ap length c.as_mut_slice-2.ensures.value ∙ c.requires.plan.take)
+    c.copy_from_slice.ensures.after c.requires.supply.count)
 
 pub returns-clause-small : goal.returns-clause-small
 returns-clause-small c =
     let ol = c.copy_from_slice.ensures.len ∙ ap length c.as_mut_slice-3.ensures.value in
     subst (λ (xs : List ℕ). (n : ℕ) → n < length c.args.basin.now.nodes → slice_index xs n ≤ 10 ^ 15)
     (sym (whole_rows _ _ ol ∙ c.copy_from_slice.ensures.after))
-    (λ n l. omega (arith, term_le_total (length c.args.basin.now.nodes) (λ n. slice_index c.args.supply.now n) n l, c.requires.supply.small))
+    (λ n l. omega (
+      arith,
+      term_le_total (length c.args.basin.now.nodes) (λ n. slice_index c.args.supply.now n) n l,
+      c.requires.supply.small,
+    ))
