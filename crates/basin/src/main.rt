@@ -58,7 +58,8 @@ fn serve<S: Shelf, K: Sink, E: Sink, L: Ledger>(
         (E.taken err.old) (E.taken err.new) (E.faults err.old) (E.faults err.new)
         × Completes (command_of (map string_bytes words.now)) status (S.told shelf.old)
         (Rose (S.faults shelf.old) (S.faults shelf.new)) (Rose (K.faults out.old) (K.faults out.new))
-        × WritesFor (command_of (map string_bytes words.now)) status (S.told shelf.old) (K.taken out.old) (K.taken out.new) searches.old searches.new
+        × WritesFor (command_of (map string_bytes words.now)) status (S.told shelf.old) (K.taken out.old)
+        (K.taken out.new) searches.old searches.new
         × (IsQuiet status → K.handed out.new ≡ K.taken out.new) }
 {
     let status = basin_main(alloc, words, shelf, out, err, searches);

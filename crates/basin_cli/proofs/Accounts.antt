@@ -1,5 +1,6 @@
 -- Behind the files of `why`: the cause of how it ends, what it leaves on out, and its pushes.
-use Rattle.std.proofs.Common.{◌≡◌, ℕ, ◌+◌, ◌*◌, ◌≤◌, refl, sym, ◌∙◌, subst, arith, List, [], ◌∷◌, Option, Some, None, length-append}
+use Rattle.std.proofs.Common.{◌≡◌, ℕ, ◌+◌, ◌*◌, ◌≤◌, refl, sym, ◌∙◌, subst, arith, List, [], ◌∷◌, Option, Some, None}
+use Rattle.std.proofs.Common.{length-append}
 use Rattle.std.specs.Prelude.{IfSome, slice_index}
 use Rattle.basin_file.specs.BasinFaults.{Spells}
 use Rattle.edit_script.specs.declared.refused.ScriptFault.TheVariants as script
@@ -29,14 +30,17 @@ use Rattle.basin_cli.proofs.Judged.{good_series, spelled_by}
 use Rattle.basin_cli.proofs.OneSeries.{one_basin, one_series, same_partial}
 
 -- the record of the month with an index is about the month
-about_last : (b : Basin) (series : Inflows) (month : Month) (name : List ℕ) (index right : ℕ) (m : MonthRecord) → IsMonthAt b month index → IsRightNamed b name right →
+about_last : (b : Basin) (series : Inflows) (month : Month) (name : List ℕ) (index right : ℕ) (m : MonthRecord) →
+    IsMonthAt b month index → IsRightNamed b name right →
     IsRecordOf b series (run_month b index) m → IsAbout b series month name right m
 about_last b series month name index right m at named of_month =
     record { named = named; of_month = subst (λ (k : Month). IsRecordOf b series k m) at.is of_month }
 
 -- the answer about the month of an index and a right answers the month and the name that have them
-pub asked_answer : (b : Basin) (series : Inflows) (month : Month) (name : List ℕ) (index right : ℕ) (how : Ending) (write : Type 0) (old new : Option (List ℕ)) →
-    IsMonthAt b month index → IsRightNamed b name right → AnswersAt b series index right how write old new → IsAnswered b series month name how old new
+pub asked_answer : (b : Basin) (series : Inflows) (month : Month) (name : List ℕ) (index right : ℕ) (how : Ending)
+    (write : Type 0) (old new : Option (List ℕ)) →
+    IsMonthAt b month index → IsRightNamed b name right → AnswersAt b series index right how write old new →
+    IsAnswered b series month name how old new
 asked_answer b series month name index right how write old new at named answer = record {
   right = right;
   last = answer.last;
@@ -46,34 +50,59 @@ asked_answer b series month name index right how write old new at named answer =
   written = answer.written;
 }
 
-pub asked_ends : (b : Basin) (series : Inflows) (month : Month) (name : List ℕ) (index right : ℕ) (how : Ending) (write : Type 0) (old new : Option (List ℕ)) →
-    IsMonthAt b month index → IsRightNamed b name right → (MayWrite (status_of how) → AnswersAt b series index right how write old new) →
+pub asked_ends : (b : Basin) (series : Inflows) (month : Month) (name : List ℕ) (index right : ℕ) (how : Ending)
+    (write : Type 0) (old new : Option (List ℕ)) →
+    IsMonthAt b month index → IsRightNamed b name right →
+    (MayWrite (status_of how) → AnswersAt b series index right how write old new) →
     ((MayWrite (status_of how) → ⊥) → how ≡ ending.OutOfMemory) → EndsAsking b series month name how write
 asked_ends b series month name index right ending.Done write old new at named answers memory =
-    let answer = answers tt in (right, answer.last, about_last b series month name index right answer.last at named answer.of_month, answer.ends)
+    let answer = answers tt in (
+      right,
+      answer.last,
+      about_last b series month name index right answer.last at named answer.of_month,
+      answer.ends,
+    )
 asked_ends b series month name index right ending.Met write old new at named answers memory =
-    let answer = answers tt in (right, answer.last, about_last b series month name index right answer.last at named answer.of_month, answer.ends)
+    let answer = answers tt in (
+      right,
+      answer.last,
+      about_last b series month name index right answer.last at named answer.of_month,
+      answer.ends,
+    )
 asked_ends b series month name index right ending.WriteFault write old new at named answers memory =
     ((answers tt).ends, (index, at), (right, named))
 asked_ends b series month name index right ending.OutOfMemory write old new at named answers memory = tt
-asked_ends b series month name index right (ending.Refuted refuted) write old new at named answers memory = absurd ((answers tt).ends)
-asked_ends b series month name index right ending.Injured write old new at named answers memory = absurd ((answers tt).ends)
-asked_ends b series month name index right ending.PartYear write old new at named answers memory = let clash = memory (λ h. h) in cc
-asked_ends b series month name index right ending.Usage write old new at named answers memory = let clash = memory (λ h. h) in cc
-asked_ends b series month name index right (ending.BasinRefused finding) write old new at named answers memory = let clash = memory (λ h. h) in cc
-asked_ends b series month name index right (ending.SeriesRefused finding) write old new at named answers memory = let clash = memory (λ h. h) in cc
-asked_ends b series month name index right (ending.SecondRefused (of_second.Basin finding)) write old new at named answers memory = let clash = memory (λ h. h) in cc
-asked_ends b series month name index right (ending.SecondRefused of_second.OtherRun) write old new at named answers memory = let clash = memory (λ h. h) in cc
-asked_ends b series month name index right (ending.SecondRefused (of_second.Series finding)) write old new at named answers memory = let clash = memory (λ h. h) in cc
-asked_ends b series month name index right (ending.ReadFault file) write old new at named answers memory = let clash = memory (λ h. h) in cc
-asked_ends b series month name index right (ending.InputTooLong file) write old new at named answers memory = let clash = memory (λ h. h) in cc
-asked_ends b series month name index right (ending.ScriptRefused fault line) write old new at named answers memory = let clash = memory (λ h. h) in cc
+asked_ends b series month name index right (ending.Refuted refuted) write old new at named answers memory =
+    absurd ((answers tt).ends)
+asked_ends b series month name index right ending.Injured write old new at named answers memory =
+    absurd ((answers tt).ends)
+asked_ends b series month name index right ending.PartYear write old new at named answers memory = let clash =
+    memory (λ h. h) in cc
+asked_ends b series month name index right ending.Usage write old new at named answers memory = let clash =
+    memory (λ h. h) in cc
+asked_ends b series month name index right (ending.BasinRefused finding) write old new at named answers memory =
+    let clash = memory (λ h. h) in cc
+asked_ends b series month name index right (ending.SeriesRefused finding) write old new at named answers memory =
+    let clash = memory (λ h. h) in cc
+asked_ends b series month name index right (ending.SecondRefused (of_second.Basin finding)) write old new at named
+    answers memory = let clash = memory (λ h. h) in cc
+asked_ends b series month name index right (ending.SecondRefused of_second.OtherRun) write old new at named answers
+    memory = let clash = memory (λ h. h) in cc
+asked_ends b series month name index right (ending.SecondRefused (of_second.Series finding)) write old new at named
+    answers memory = let clash = memory (λ h. h) in cc
+asked_ends b series month name index right (ending.ReadFault file) write old new at named answers memory = let clash =
+    memory (λ h. h) in cc
+asked_ends b series month name index right (ending.InputTooLong file) write old new at named answers memory =
+    let clash = memory (λ h. h) in cc
+asked_ends b series month name index right (ending.ScriptRefused fault line) write old new at named answers memory =
+    let clash = memory (λ h. h) in cc
 
 -- pushes of the months up to one
 pub asked_pushes : (b : Basin) (month : Month) (index before now : ℕ) → IsValidBasin b → IsMonthAt b month index →
     now ≤ before + (index + 1) * month_pushes b → PushesUpTo b month before now
 asked_pushes b month index before now valid at bound = record {
-  in_run = λ i other. subst (λ k. now ≤ before + (k + 1) * month_pushes b) (one_index b month index i valid at.is other.is) bound;
+  in_run = λ i other. subst (λ k. now ≤ before + (k + 1) * month_pushes b)
+      (one_index b month index i valid at.is other.is) bound;
   outside = λ none. absurd (none (index, at));
 }
 
@@ -83,7 +112,8 @@ no_pushes b month n = record { in_run = λ i at. omega arith; outside = λ _. re
 -- Behind the files.
 
 -- the run has the month of a record
-month_of : (b : Basin) (series : Inflows) (month : Month) (name : List ℕ) (right : ℕ) (m : MonthRecord) → IsAbout b series month name right m → HasMonth b month
+month_of : (b : Basin) (series : Inflows) (month : Month) (name : List ℕ) (right : ℕ) (m : MonthRecord) →
+    IsAbout b series month name right m → HasMonth b month
 month_of b series month name right m about =
     let is = about.of_month in
     let follows = last_of b series is.before m is.partial in (
@@ -95,20 +125,31 @@ month_of b series month name right m about =
     )
 
 -- what holds of the bytes that are read holds as far as they are told
-behind_both : (t o : Option (List ℕ)) (b : Basin) (series : Inflows) (P : List ℕ → List ℕ → Type 0) → IsSeriesOf b series →
-    IfSome t (IsBasinText b) → IfSome o (IsSeriesText b series) → ((bytes s : List ℕ) → AreSpelled bytes s b series → P bytes s) →
+behind_both : (t o : Option (List ℕ)) (b : Basin) (series : Inflows) (P : List ℕ → List ℕ → Type 0) →
+    IsSeriesOf b series →
+    IfSome t (IsBasinText b) → IfSome o (IsSeriesText b series) →
+    ((bytes s : List ℕ) → AreSpelled bytes s b series → P bytes s) →
     IfSome t (λ bytes. IsGoodBasin bytes × IfSome o (λ s. IsGoodSeries bytes s × P bytes s))
 behind_both None o b series P fits from_basin from_series holds = tt
 behind_both (Some bytes) None b series P fits from_basin from_series holds = (from_basin.good, tt)
-behind_both (Some bytes) (Some s) b series P fits from_basin from_series holds =
-    (from_basin.good, (good_series bytes s b series from_basin from_series, holds bytes s (spelled_by bytes s b series fits from_basin from_series)))
+behind_both (Some bytes) (Some s) b series P fits from_basin from_series holds = (
+  from_basin.good,
+  (
+    good_series bytes s b series from_basin from_series,
+    holds bytes s (spelled_by bytes s b series fits from_basin from_series),
+  ),
+)
 
-is_asked : (month : Month) (name bytes : List ℕ) (b : Basin) → Spells bytes b → HasMonth b month → HasRight b name → IsAsked month name bytes
-is_asked month name bytes b spelled has_month has_right = record { basin = b; spelled = spelled; has_month = has_month; has_right = has_right }
+is_asked : (month : Month) (name bytes : List ℕ) (b : Basin) → Spells bytes b → HasMonth b month → HasRight b name →
+    IsAsked month name bytes
+is_asked month name bytes b spelled has_month has_right =
+    record { basin = b; spelled = spelled; has_month = has_month; has_right = has_right }
 
 -- a right that is met in one run of what bytes spell is short in none
-not_short : (month : Month) (name bytes s : List ℕ) (b : Basin) (series : Inflows) (right : ℕ) (m : MonthRecord) → IsValidBasin b → AreSpelled bytes s b series →
-    IsAbout b series month name right m → slice_index m.want right ≤ slice_index m.delivered right → IsShortIn month name bytes s → ⊥
+not_short : (month : Month) (name bytes s : List ℕ) (b : Basin) (series : Inflows) (right : ℕ) (m : MonthRecord) →
+    IsValidBasin b → AreSpelled bytes s b series →
+    IsAbout b series month name right m → slice_index m.want right ≤ slice_index m.delivered right →
+    IsShortIn month name bytes s → ⊥
 not_short month name bytes s b series right m valid spelled about met is =
     let same : is.basin ≡ b = one_basin bytes is.basin b is.spelled.basin_spelled spelled.basin_spelled in
     let moved = subst (λ c. IsAbout c is.series month name is.right is.last) same is.about in
@@ -126,46 +167,67 @@ not_short month name bytes s b series right m valid spelled about met is =
     let short = one_answer b series month name is.right right is.last m valid along about is.short in
     omega (arith, short, met)
 
-pub asking_cause : (told : Told) (files : Files) (month : Month) (name : List ℕ) (b : Basin) (series : Inflows) (how : Ending) (read write : Type 0) →
+pub asking_cause : (told : Told) (files : Files) (month : Month) (name : List ℕ) (b : Basin) (series : Inflows)
+    (how : Ending) (read write : Type 0) →
     IsValidBasin b → IsSeriesOf b series → AreLoaded told files b series → EndsAsking b series month name how write →
     HasExplainingCause files month name how told read write
 asking_cause told files month name b series ending.Done read write valid fits loaded ends =
-    behind_both (told files.basin) (series_told told files.series) b series (IsShortIn month name) fits loaded.from_basin loaded.from_series
-    (λ bytes s spelled. record { basin = b; series = series; spelled = spelled; right = ends.0; last = ends.1; about = ends.2; short = ends.3 })
+    behind_both (told files.basin) (series_told told files.series) b series (IsShortIn month name) fits
+    loaded.from_basin loaded.from_series
+    (λ bytes s spelled. record {
+      basin = b;
+      series = series;
+      spelled = spelled;
+      right = ends.0;
+      last = ends.1;
+      about =
+          ends.2;
+      short = ends.3;
+    })
 asking_cause told files month name b series ending.Met read write valid fits loaded ends =
-    behind_both (told files.basin) (series_told told files.series) b series (λ bytes s. IsAsked month name bytes × (IsShortIn month name bytes s → ⊥))
+    behind_both (told files.basin) (series_told told files.series) b series (λ bytes s. IsAsked month name bytes ×
+    (IsShortIn month name bytes s → ⊥))
     fits loaded.from_basin loaded.from_series
     (λ bytes s spelled. (
-      is_asked month name bytes b spelled.basin_spelled (month_of b series month name ends.0 ends.1 ends.2) (ends.0, ends.2.named),
+      is_asked month name bytes b spelled.basin_spelled (month_of b series month name ends.0 ends.1 ends.2)
+          (ends.0, ends.2.named),
       not_short month name bytes s b series ends.0 ends.1 valid spelled ends.2 ends.3,
     ))
 asking_cause told files month name b series ending.WriteFault read write valid fits loaded ends = (
   ends.0,
-  behind_both (told files.basin) (series_told told files.series) b series (λ bytes _. IsAsked month name bytes) fits loaded.from_basin loaded.from_series
+  behind_both (told files.basin) (series_told told files.series) b series (λ bytes _. IsAsked month name bytes) fits
+      loaded.from_basin loaded.from_series
       (λ bytes s spelled. is_asked month name bytes b spelled.basin_spelled ends.1 ends.2),
 )
-asking_cause told files month name b series (ending.ScriptRefused script.OutsideRun line) read write valid fits loaded ends = (
-  ends.0,
-  behind_both (told files.basin) (series_told told files.series) b series (λ bytes _. IsOutsideRun month bytes) fits loaded.from_basin loaded.from_series
-      (λ bytes s spelled. record { basin = b; spelled = spelled.basin_spelled; outside = ends.1 }),
-)
-asking_cause told files month name b series (ending.ScriptRefused script.NoSuchName line) read write valid fits loaded ends = (
-  ends.0,
-  behind_both (told files.basin) (series_told told files.series) b series (λ bytes _. IsUnknownRight month name bytes) fits loaded.from_basin loaded.from_series
-      (λ bytes s spelled. record { basin = b; spelled = spelled.basin_spelled; has_month = ends.1; unknown = ends.2 }),
-)
+asking_cause told files month name b series (ending.ScriptRefused script.OutsideRun line) read write valid fits loaded
+    ends = (
+      ends.0,
+      behind_both (told files.basin) (series_told told files.series) b series (λ bytes _. IsOutsideRun month bytes) fits
+          loaded.from_basin loaded.from_series
+          (λ bytes s spelled. record { basin = b; spelled = spelled.basin_spelled; outside = ends.1 }),
+    )
+asking_cause told files month name b series (ending.ScriptRefused script.NoSuchName line) read write valid fits loaded
+    ends = (
+      ends.0,
+      behind_both (told files.basin) (series_told told files.series) b series (λ bytes _. IsUnknownRight month name bytes)
+          fits loaded.from_basin loaded.from_series
+          (λ bytes s spelled. record { basin = b; spelled = spelled.basin_spelled; has_month = ends.1; unknown = ends.2 }),
+    )
 asking_cause told files month name b series ending.OutOfMemory read write valid fits loaded ends = tt
 asking_cause told files month name b series other read write valid fits loaded ends = absurd ends
 
 -- what is left on out
-pub asking_writes : (told : Told) (files : Files) (month : Month) (name : List ℕ) (b : Basin) (series : Inflows) (how : Ending) (old new : Option (List ℕ)) →
-    IsSeriesOf b series → AreLoaded told files b series → (MayWrite (status_of how) → IsAnswered b series month name how old new) →
+pub asking_writes : (told : Told) (files : Files) (month : Month) (name : List ℕ) (b : Basin) (series : Inflows)
+    (how : Ending) (old new : Option (List ℕ)) →
+    IsSeriesOf b series → AreLoaded told files b series →
+    (MayWrite (status_of how) → IsAnswered b series month name how old new) →
     OfBoth told files (λ bytes s. MayWrite (status_of how) → WritesAccount (status_of how) month name bytes s old new)
 asking_writes told files month name b series how old new fits loaded answers =
     of_both (told files.basin) (series_told told files.series) loaded.from_basin loaded.from_series
   where
     of_both : (t o : Option (List ℕ)) → IfSome t (IsBasinText b) → IfSome o (IsSeriesText b series) →
-        IfSome t (λ bytes. IfSome o (λ s. MayWrite (status_of how) → WritesAccount (status_of how) month name bytes s old new))
+        IfSome t (λ bytes. IfSome o (λ s. MayWrite (status_of how) →
+        WritesAccount (status_of how) month name bytes s old new))
     of_both None o from_basin from_series = tt
     of_both (Some bytes) None from_basin from_series = tt
     of_both (Some bytes) (Some s) from_basin from_series = λ may.
@@ -183,14 +245,18 @@ asking_writes told files month name b series how old new fits loaded answers =
         })
 
 -- and how often searches pushed
-pub asking_solves : (told : Told) (files : Files) (month : Month) (b : Basin) (series : Inflows) (before now : ℕ) → AreLoaded told files b series → PushesUpTo b month before now →
+pub asking_solves : (told : Told) (files : Files) (month : Month) (b : Basin) (series : Inflows) (before now : ℕ) →
+    AreLoaded told files b series → PushesUpTo b month before now →
     IfSome (told files.basin) (λ bytes. (c : Basin) → Spells bytes c → PushesUpTo c month before now)
 asking_solves told files month b series before now loaded pushes = of_told (told files.basin) loaded.from_basin
   where
-    of_told : (t : Option (List ℕ)) → IfSome t (IsBasinText b) → IfSome t (λ bytes. (c : Basin) → Spells bytes c → PushesUpTo c month before now)
+    of_told : (t : Option (List ℕ)) → IfSome t (IsBasinText b) →
+        IfSome t (λ bytes. (c : Basin) → Spells bytes c → PushesUpTo c month before now)
     of_told None text = tt
-    of_told (Some bytes) text = λ c spelled. subst (λ d. PushesUpTo d month before now) (one_basin bytes b c text.spelled spelled) pushes
+    of_told (Some bytes) text =
+        λ c spelled. subst (λ d. PushesUpTo d month before now) (one_basin bytes b c text.spelled spelled) pushes
 
-pub nothing_solved : (told : Option (List ℕ)) (month : Month) (n : ℕ) → IfSome told (λ bytes. (c : Basin) → Spells bytes c → PushesUpTo c month n n)
+pub nothing_solved : (told : Option (List ℕ)) (month : Month) (n : ℕ) →
+    IfSome told (λ bytes. (c : Basin) → Spells bytes c → PushesUpTo c month n n)
 nothing_solved None month n = tt
 nothing_solved (Some bytes) month n = λ c spelled. no_pushes c month n

@@ -8,7 +8,8 @@ use Rattle.cert_check.specs.declared.refuted.Refuted.{Refuted}
 use Rattle.basin_cli.specs.Answer.{answered}
 use Rattle.basin_cli.specs.Outcome.{answer_line}
 
-pub answered_as : (b : Basin) (answer : Result ℕ Refuted) (verdict : Result (List Item) Refuted) → IsAnswer b answer verdict →
+pub answered_as : (b : Basin) (answer : Result ℕ Refuted) (verdict : Result (List Item) Refuted) →
+    IsAnswer b answer verdict →
     answered answer ≡ answer_line b verdict
 unfolding answered answer_line
 answered_as b (Ok months) (Ok items) h = rw h.1 refl

@@ -1,5 +1,6 @@
 -- The index of a month, and the right of a name.
-use Rattle.std.proofs.Common.{◌≡◌, ℕ, ◌<◌, sym, ◌∙◌, ap, arith, List, [], ◌∷◌, length, Option, Some, None, cond, inl, inr}
+use Rattle.std.proofs.Common.{◌≡◌, ℕ, ◌<◌, sym, ◌∙◌, ap, arith, List, [], ◌∷◌, length, Option, Some, None, cond, inl}
+use Rattle.std.proofs.Common.{inr}
 use Rattle.std.specs.Prelude.{IfNone, IfSome, nat_lt, position, true}
 use Rattle.std.specs.List.{position_or_len}
 use Rattle.std.specs.Str.{bytes_eq}
@@ -22,20 +23,24 @@ use Rattle.water_model.proofs.Balance.{entry_holds}
 use Rattle.edit_script.specs.Names.{month_number}
 use Rattle.basin_cli.specs.Explained.{HasMonth, HasRight, IsMonthAt, IsRightNamed}
 
-pub month_found : (b : Basin) (month : Month) (r : Option ℕ) → IsValidBasin b → IsMonth month → r ≡ index_in_run b month → IfSome r (IsMonthAt b month)
+pub month_found : (b : Basin) (month : Month) (r : Option ℕ) → IsValidBasin b → IsMonth month →
+    r ≡ index_in_run b month → IfSome r (IsMonthAt b month)
 month_found b month None valid is e = tt
 month_found b month (Some i) valid is e =
     let at = (months_have_their_index b month i valid is).0 (sym e) in
     record { within = at.0; is = sym at.1 }
 
-pub month_missing : (b : Basin) (month : Month) (r : Option ℕ) → IsValidBasin b → IsMonth month → r ≡ index_in_run b month → IfNone r (HasMonth b month → ⊥)
+pub month_missing : (b : Basin) (month : Month) (r : Option ℕ) → IsValidBasin b → IsMonth month →
+    r ≡ index_in_run b month → IfNone r (HasMonth b month → ⊥)
 month_missing b month (Some i) valid is e = tt
 month_missing b month None valid is e = λ has.
-    (let found : index_in_run b month ≡ Some has.0 = (months_have_their_index b month has.0 valid is).1 (has.1.within, sym has.1.is) in
+    (let found : index_in_run b month ≡ Some has.0 =
+    (months_have_their_index b month has.0 valid is).1 (has.1.within, sym has.1.is) in
     let clash : None ≡ Some has.0 = e ∙ found in cc)
 
 -- a month has one index
-pub one_index : (b : Basin) (month : Month) (i j : ℕ) → IsValidBasin b → run_month b i ≡ month → run_month b j ≡ month → i ≡ j
+pub one_index : (b : Basin) (month : Month) (i j : ℕ) → IsValidBasin b → run_month b i ≡ month → run_month b j ≡ month →
+    i ≡ j
 one_index b month i j valid one other =
     omega (
       arith,
@@ -45,7 +50,8 @@ one_index b month i j valid one other =
     )
 
 -- the right at which a look-up by name stops has the name
-pub right_found : (b : Basin) (name : List ℕ) (at : ℕ) → IsValidBasin b → right_named b name ≡ Some at → IsRightNamed b name at
+pub right_found : (b : Basin) (name : List ℕ) (at : ℕ) → IsValidBasin b → right_named b name ≡ Some at →
+    IsRightNamed b name at
 right_found b name at valid e = record { within = below b.rights e; is = is (below b.rights e) }
   where
     below : (rights : List Right) → position (λ r. bytes_eq name r.name) rights ≡ Some at → at < length rights
@@ -71,7 +77,8 @@ right_missing b name valid e has =
     (ap (λ (r : Right). bytes_eq name r.name) (get_or_from_slice_get b.rights at right.0 right.0 right.1) ∙ passes) in
     let found : right_named b name ≡ Some (position_or_len (λ (r : Right). bytes_eq name r.name) b.rights) =
     ap (λ t. cond t (Some (position_or_len (λ (r : Right). bytes_eq name r.name) b.rights)) None)
-    (less (position_or_len (λ (r : Right). bytes_eq name r.name) b.rights) (length b.rights) (let l = has.1.within in omega arith)) in
+    (less (position_or_len (λ (r : Right). bytes_eq name r.name) b.rights) (length b.rights) (let l = has.1.within in
+    omega arith)) in
     let clash : None ≡ Some (position_or_len (λ (r : Right). bytes_eq name r.name) b.rights) = sym e ∙ found in
     cc
   where
@@ -79,7 +86,8 @@ right_missing b name valid e has =
     less i n l = grind (arith, nat_tests)
 
 -- no two rights have one name
-pub one_right : (b : Basin) (name : List ℕ) (right other : ℕ) → IsValidBasin b → IsRightNamed b name right → IsRightNamed b name other → right ≡ other
+pub one_right : (b : Basin) (name : List ℕ) (right other : ℕ) → IsValidBasin b → IsRightNamed b name right →
+    IsRightNamed b name other → right ≡ other
 one_right b name right other valid one two = elim (cases_order right other) [
   | inl same ↦ same
   | inr differ ↦ elim differ [

@@ -1,5 +1,6 @@
 -- A comparison grows month by month.
-use Rattle.std.proofs.Common.{◌≡◌, ℕ, ◌+◌, ◌*◌, ◌≤◌, ◌<◌, refl, sym, ◌∙◌, ap, ap₂, arith, List, [], ◌∷◌, ◌++◌, length, length-append}
+use Rattle.std.proofs.Common.{◌≡◌, ℕ, ◌+◌, ◌*◌, ◌≤◌, ◌<◌, refl, sym, ◌∙◌, ap, ap₂, arith, List, [], ◌∷◌, ◌++◌, length}
+use Rattle.std.proofs.Common.{length-append}
 use Rattle.std.proofs.lemmas.Grind.{flat_map-append}
 use Rattle.std.proofs.Math.Nat.{mul-le-mul, mul-le-mul_right}
 use Rattle.std.specs.List.{flat_map}
@@ -17,45 +18,54 @@ use Rattle.basin_cli.proofs.Written.{whole_run}
 use Rattle.senior_hold.specs.MonthNetwork.{month_pushes}
 
 -- one month more of both runs
-pub compared_more : (b c : Basin) (first second first' second' : RunSeen) (m n : MonthRecord) (before after : List ℕ) (injured count : ℕ)
+pub compared_more : (b c : Basin) (first second first' second' : RunSeen) (m n : MonthRecord) (before after : List ℕ)
+    (injured count : ℕ)
     (so_far : AreCompared b c first second before injured) → first'.basin ≡ b → second'.basin ≡ c →
     StandsFor first' (so_far.records ++ m ∷ []) → StandsFor second' (so_far.others ++ n ∷ []) →
     count ≡ length (injuries_of (common_rights b c) m n) →
     after ≡ before ++ flat_map (injured_row b) (injuries_of (common_rights b c) m n) →
     AreCompared b c first' second' after (injured + count)
-compared_more b c first second first' second' m n before after injured count so_far same same' stands stands' number rows = record {
-  first_basin = same;
-  second_basin = same';
-  records = so_far.records ++ m ∷ [];
-  others = so_far.others ++ n ∷ [];
-  first_stands = stands;
-  second_stands = stands';
-  abreast = (let e = so_far.abreast in omega (arith, length-append so_far.records (m ∷ []), length-append so_far.others (n ∷ [])));
-  rows = rows
-      ∙ (ap (λ t. t ++ flat_map (injured_row b) (injuries_of (common_rights b c) m n)) so_far.rows
-      ∙ (sym (flat_map-append (injured_row b) (injuries b c so_far.records so_far.others) (injuries_of (common_rights b c) m n))
-      ∙ ap (flat_map (injured_row b)) (sym more)));
-  number = omega (
-    arith,
-    number,
-    so_far.number,
-    ap length more,
-    length-append (injuries b c so_far.records so_far.others) (injuries_of (common_rights b c) m n),
-  );
-}
+compared_more b c first second first' second' m n before after injured count so_far same same' stands stands' number
+    rows = record {
+      first_basin = same;
+      second_basin = same';
+      records = so_far.records ++ m ∷ [];
+      others = so_far.others ++ n ∷ [];
+      first_stands = stands;
+      second_stands = stands';
+      abreast =
+          (let e = so_far.abreast in
+          omega (arith, length-append so_far.records (m ∷ []), length-append so_far.others (n ∷ [])));
+      rows = rows
+          ∙ (ap (λ t. t ++ flat_map (injured_row b) (injuries_of (common_rights b c) m n)) so_far.rows
+          ∙ (sym (flat_map-append (injured_row b) (injuries b c so_far.records so_far.others)
+          (injuries_of (common_rights b c) m n))
+          ∙ ap (flat_map (injured_row b)) (sym more)));
+      number = omega (
+        arith,
+        number,
+        so_far.number,
+        ap length more,
+        length-append (injuries b c so_far.records so_far.others) (injuries_of (common_rights b c) m n),
+      );
+    }
   where
-    more : injuries b c (so_far.records ++ m ∷ []) (so_far.others ++ n ∷ []) ≡ injuries b c so_far.records so_far.others ++ injuries_of (common_rights b c) m n
+    more : injuries b c (so_far.records ++ m ∷ []) (so_far.others ++ n ∷ []) ≡ injuries b c so_far.records
+        so_far.others ++ injuries_of (common_rights b c) m n
     more = injuries_more b c so_far.records so_far.others m n so_far.abreast
 
 -- the two runs stay abreast
-pub done_more : (first second : RunSeen) (records others : List MonthRecord) (m n : MonthRecord) → length records ≡ length others →
+pub done_more : (first second : RunSeen) (records others : List MonthRecord) (m n : MonthRecord) →
+    length records ≡ length others →
     StandsFor first (records ++ m ∷ []) → StandsFor second (others ++ n ∷ []) → second.done ≡ first.done
 done_more first second records others m n abreast stands stands' =
     omega (arith, stands.done, stands'.done, length-append records (m ∷ []), length-append others (n ∷ []))
 
 -- the count of injuries stays small
-pub few_injuries : (b c : Basin) (first second : RunSeen) (m n : MonthRecord) (bytes : List ℕ) (injured count : ℕ) → IsValidBasin b →
-    AreCompared b c first second bytes injured → first.done < b.months → count ≡ length (injuries_of (common_rights b c) m n) →
+pub few_injuries : (b c : Basin) (first second : RunSeen) (m n : MonthRecord) (bytes : List ℕ) (injured count : ℕ) →
+    IsValidBasin b →
+    AreCompared b c first second bytes injured → first.done < b.months →
+    count ≡ length (injuries_of (common_rights b c) m n) →
     injured + count ≤ 2402000
 few_injuries b c first second m n bytes injured count valid so_far left number =
     let run = valid.run.months.1 in
@@ -67,7 +77,8 @@ few_injuries b c first second m n bytes injured count valid so_far left number =
       injuries-count (common_rights b c) m n,
       injuries_few b c so_far.records so_far.others,
       common_few b c valid,
-      mul-le-mul {n₁ = length so_far.records} {m₁ = length (common_rights b c)} {n₂ = 1200} {m₂ = 2000} (omega (arith, so_far.first_stands.done)) (common_few b c valid),
+      mul-le-mul {n₁ = length so_far.records} {m₁ = length (common_rights b c)} {n₂ = 1200} {m₂ =
+          2000} (omega (arith, so_far.first_stands.done)) (common_few b c valid),
     )
 
 -- before the first month nobody is injured
@@ -87,22 +98,26 @@ none_compared b c first second bytes same same' stands stands' nothing = record 
 }
 
 -- all months of both runs, and the counts
-pub whole_comparison : (b c : Basin) (series other : Inflows) (first second : RunSeen) (before after : List ℕ) (injured : ℕ) →
+pub whole_comparison : (b c : Basin) (series other : Inflows) (first second : RunSeen) (before after : List ℕ)
+    (injured : ℕ) →
     IsValidBasin b → IsValidBasin c → first.series ≡ series → second.series ≡ other →
     first.done ≡ b.months → second.done ≡ c.months → AreCompared b c first second before injured →
-    after ≡ before ++ compared_row (length (common_rights b c)) injured → IsTextOfComparison b c series other after injured
+    after ≡ before ++ compared_row (length (common_rights b c)) injured →
+    IsTextOfComparison b c series other after injured
 unfolding comparison_text
-whole_comparison b c series other first second before after injured valid valid' fits fits' done done' all ends = record {
-  records = all.records;
-  others = all.others;
-  first_keeps = whole_run b series first all.records valid all.first_basin fits all.first_stands done;
-  second_keeps = whole_run c other second all.others valid' all.second_basin fits' all.second_stands done';
-  text = ends ∙ ap₂ (λ t n. t ++ compared_row (length (common_rights b c)) n) all.rows all.number;
-  number = all.number;
-}
+whole_comparison b c series other first second before after injured valid valid' fits fits' done done' all ends =
+    record {
+      records = all.records;
+      others = all.others;
+      first_keeps = whole_run b series first all.records valid all.first_basin fits all.first_stands done;
+      second_keeps = whole_run c other second all.others valid' all.second_basin fits' all.second_stands done';
+      text = ends ∙ ap₂ (λ t n. t ++ compared_row (length (common_rights b c)) n) all.rows all.number;
+      number = all.number;
+    }
 
 -- the pushes of some months and of one more are within those of both runs
-pub within_runs : (b c : Basin) (old before after i : ℕ) → c.months ≡ b.months → before ≤ old + i * (month_pushes b + month_pushes c) →
+pub within_runs : (b c : Basin) (old before after i : ℕ) → c.months ≡ b.months →
+    before ≤ old + i * (month_pushes b + month_pushes c) →
     after ≤ before + (month_pushes b + month_pushes c) → i < b.months → after ≤ old + (run_pushes b + run_pushes c)
 within_runs b c old before after i same so_far more l =
     omega (arith, so_far, more, both (month_pushes b) (month_pushes c) b.months c.months i same l)
@@ -112,7 +127,8 @@ within_runs b c old before after i same so_far more l =
         let all : (i + 1) * (x + y) ≤ k * (x + y) = mul-le-mul_right (x + y) (omega arith) in
         rw same (omega (arith, all))
 
-pub all_within_runs : (b c : Basin) (old now i : ℕ) → c.months ≡ b.months → now ≤ old + i * (month_pushes b + month_pushes c) →
+pub all_within_runs : (b c : Basin) (old now i : ℕ) → c.months ≡ b.months →
+    now ≤ old + i * (month_pushes b + month_pushes c) →
     i ≤ b.months → now ≤ old + (run_pushes b + run_pushes c)
 all_within_runs b c old now i same so_far l =
     omega (arith, so_far, both (month_pushes b) (month_pushes c) b.months c.months i same l)

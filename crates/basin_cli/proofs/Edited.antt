@@ -1,10 +1,12 @@
 -- Scripts of changes: how a call that answers one ends, and what it leaves on out.
-use Rattle.std.proofs.Common.{◌≡◌, ℕ, ◌+◌, ◌*◌, ◌≤◌, refl, sym, ◌∙◌, subst, arith, List, [], ◌∷◌, length, Option, Some, None, inl, inr}
+use Rattle.std.proofs.Common.{◌≡◌, ℕ, ◌+◌, ◌*◌, ◌≤◌, refl, sym, ◌∙◌, subst, arith, List, [], ◌∷◌, length, Option, Some}
+use Rattle.std.proofs.Common.{None, inl, inr}
 use Rattle.std.specs.Prelude.{IfSome, IsErr, IsOk, Ok, Err, Bool, true, false, if◌then◌else◌, Result, codes}
 use Rattle.std.specs.Str.{bytes_eq}
 use Rattle.edit_script.specs.Edits.{cost}
 use Rattle.edit_script.specs.Lines.{edit_of, inflow_of, want_of}
-use Rattle.edit_script.specs.Scripts.{Reading, ended, edits_from, edits_of_lines, in_front, lines_of, numbered, script_of}
+use Rattle.edit_script.specs.Scripts.{Reading, ended, edits_from, edits_of_lines, in_front, lines_of, numbered}
+use Rattle.edit_script.specs.Scripts.{script_of}
 use Rattle.edit_script.specs.declared.edit.Edit.{Edit}
 use Rattle.edit_script.specs.declared.refused.ScriptFault.{ScriptFault}
 use Rattle.edit_script.specs.declared.refused.ScriptRefused.TheVariants as refused
@@ -18,7 +20,8 @@ use Rattle.basin_cli.specs.declared.status.Status.{Status}
 use Rattle.basin_cli.specs.declared.status.Status.TheVariants as status
 use Rattle.basin_cli.specs.Bytes.{AreSpelled, Told, file_limit, series_told}
 use Rattle.basin_cli.specs.Command.{Files}
-use Rattle.basin_cli.specs.Edited.{EditLeaves, EditPushes, EditWrites, EndsEditing, HasEditingCause, IsGoodScript, IsScriptRefusedFor, LeavesScript, LeavesShows, PushesOfScript, ScriptEnds}
+use Rattle.basin_cli.specs.Edited.{EditLeaves, EditPushes, EditWrites, EndsEditing, HasEditingCause, IsGoodScript}
+use Rattle.basin_cli.specs.Edited.{IsScriptRefusedFor, LeavesScript, LeavesShows, PushesOfScript, ScriptEnds}
 use Rattle.basin_cli.specs.Ending.{status_of}
 use Rattle.basin_cli.specs.Out.{MayWrite}
 use Rattle.basin_cli.specs.Outcome.{HasTrialCause}
@@ -43,11 +46,15 @@ module _ (b : Basin) (series other : Inflows) (fits : IsSeriesOf b series) (fits
   unfolding edits_from
   same_edits number [] = refl
   same_edits number (rest ∷ []) = refl
-  same_edits number (line ∷ next ∷ lines) = by_end (same_edits (number + 1) (next ∷ lines)) (bytes_eq line (codes "done"))
+  same_edits number (line ∷ next ∷ lines) =
+      by_end (same_edits (number + 1) (next ∷ lines)) (bytes_eq line (codes "done"))
     where
-      by_end : edits_from b series (number + 1) (next ∷ lines) ≡ edits_from b other (number + 1) (next ∷ lines) → (t : Bool) →
-          (if t then ended [] (number + 1) (next ∷ lines) else in_front (numbered number (edit_of b series line)) (edits_from b series (number + 1) (next ∷ lines)))
-          ≡ (if t then ended [] (number + 1) (next ∷ lines) else in_front (numbered number (edit_of b other line)) (edits_from b other (number + 1) (next ∷ lines)))
+      by_end : edits_from b series (number + 1) (next ∷ lines) ≡ edits_from b other (number + 1) (next ∷ lines) →
+          (t : Bool) →
+          (if t then ended [] (number + 1) (next ∷ lines) else in_front (numbered number (edit_of b series line))
+          (edits_from b series (number + 1) (next ∷ lines)))
+          ≡ (if t then ended [] (number + 1) (next ∷ lines) else in_front (numbered number (edit_of b other line))
+          (edits_from b other (number + 1) (next ∷ lines)))
       by_end behind true = refl
       by_end behind false = rw (same_edit line, behind) refl
 
@@ -61,13 +68,16 @@ module _ (b : Basin) (series other : Inflows) (fits : IsSeriesOf b series) (fits
   same_script text = same_lines (lines_of text)
 
 -- a script that is refused for one series that bytes spell is good for none of them
-pub refused_not_good : (bytes s text : List ℕ) (fault : ScriptFault) (line : ℕ) → IsScriptRefusedFor fault line bytes s text → IsGoodScript bytes s text → ⊥
+pub refused_not_good : (bytes s text : List ℕ) (fault : ScriptFault) (line : ℕ) →
+    IsScriptRefusedFor fault line bytes s text → IsGoodScript bytes s text → ⊥
 refused_not_good bytes s text fault line is good =
-    let same : is.basin ≡ good.basin = one_basin bytes is.basin good.basin is.spelled.basin_spelled good.spelled.basin_spelled in
+    let same : is.basin ≡ good.basin =
+    one_basin bytes is.basin good.basin is.spelled.basin_spelled good.spelled.basin_spelled in
     let first : script_of good.basin is.series text ≡ Err (refused.Refused fault line) =
     subst (λ d. script_of d is.series text ≡ Err (refused.Refused fault line)) same is.first in
     let script : script_of good.basin is.series text ≡ script_of good.basin good.series text =
-    same_script good.basin is.series good.series (subst (λ d. IsSeriesOf d is.series) same is.spelled.fits) good.spelled.fits text in
+    same_script good.basin is.series good.series (subst (λ d. IsSeriesOf d is.series) same is.spelled.fits)
+    good.spelled.fits text in
     never_ok (script_of good.basin good.series text) (refused.Refused fault line) (sym script ∙ first) good.reads
   where
     never_ok : {X Y : Type 0} (r : Result X Y) (y : Y) → r ≡ Err y → IsOk r → ⊥
@@ -75,12 +85,14 @@ refused_not_good bytes s text fault line is good =
     never_ok (Err x) y e h = cc
 
 -- a script that can't be read
-pub stop_ends : (b : Basin) (series : Inflows) (script : List ℕ) (how : Ending) (write : Type 0) → ScriptEnds b series script how → EndsEditing b series script how write
+pub stop_ends : (b : Basin) (series : Inflows) (script : List ℕ) (how : Ending) (write : Type 0) →
+    ScriptEnds b series script how → EndsEditing b series script how write
 stop_ends b series script (ending.ScriptRefused fault line) write h = h
 stop_ends b series script ending.OutOfMemory write h = tt
 stop_ends b series script other write h = absurd h
 
-pub stop_leaves : (b : Basin) (series : Inflows) (script : List ℕ) (how : Ending) (old : Option (List ℕ)) → ScriptEnds b series script how →
+pub stop_leaves : (b : Basin) (series : Inflows) (script : List ℕ) (how : Ending) (old : Option (List ℕ)) →
+    ScriptEnds b series script how →
     LeavesScript (status_of how) b series script old old
 stop_leaves b series script (ending.ScriptRefused fault line) old h = λ may. absurd may
 stop_leaves b series script ending.OutOfMemory old h = inl refl
@@ -98,22 +110,30 @@ never_err : {X Y : Type 0} (r : Result X Y) (x : X) → r ≡ Ok x → IsErr r �
 never_err (Ok y) x e h = cc
 never_err (Err y) x e h = cc
 
-pub answered_ends : (b : Basin) (series : Inflows) (script : List ℕ) (edits : List Edit) (how : Ending) (write : Type 0) → script_of b series script ≡ Ok edits →
+pub answered_ends : (b : Basin) (series : Inflows) (script : List ℕ) (edits : List Edit) (how : Ending)
+    (write : Type 0) → script_of b series script ≡ Ok edits →
     HasTrialCause how write → EndsEditing b series script how write
 answered_ends b series script edits ending.Done write reads h = read_ok (script_of b series script) edits reads
-answered_ends b series script edits ending.WriteFault write reads h = (h, read_ok (script_of b series script) edits reads)
+answered_ends b series script edits ending.WriteFault write reads h =
+    (h, read_ok (script_of b series script) edits reads)
 answered_ends b series script edits ending.OutOfMemory write reads h = tt
 answered_ends b series script edits other write reads h = absurd h
 
-pub answered_leaves : (b : Basin) (series : Inflows) (script : List ℕ) (edits : List Edit) (how : Ending) (write : Type 0) (old new : Option (List ℕ)) →
-    script_of b series script ≡ Ok edits → HasTrialCause how write → LeavesShows (status_of how) b series edits old new →
+pub answered_leaves : (b : Basin) (series : Inflows) (script : List ℕ) (edits : List Edit) (how : Ending)
+    (write : Type 0) (old new : Option (List ℕ)) →
+    script_of b series script ≡ Ok edits → HasTrialCause how write →
+    LeavesShows (status_of how) b series edits old new →
     LeavesScript (status_of how) b series script old new
-answered_leaves b series script edits ending.Done write old new reads h left = λ _. record { edits = edits; reads = reads; written = left }
-answered_leaves b series script edits ending.WriteFault write old new reads h left = λ _. record { edits = edits; reads = reads; written = left }
-answered_leaves b series script edits ending.OutOfMemory write old new reads h left = inr (record { edits = edits; reads = reads; written = left })
+answered_leaves b series script edits ending.Done write old new reads h left =
+    λ _. record { edits = edits; reads = reads; written = left }
+answered_leaves b series script edits ending.WriteFault write old new reads h left =
+    λ _. record { edits = edits; reads = reads; written = left }
+answered_leaves b series script edits ending.OutOfMemory write old new reads h left =
+    inr (record { edits = edits; reads = reads; written = left })
 answered_leaves b series script edits other write old new reads h left = absurd h
 
-pub answered_pushes : (b : Basin) (series : Inflows) (script : List ℕ) (edits : List Edit) (before now : ℕ) → script_of b series script ≡ Ok edits →
+pub answered_pushes : (b : Basin) (series : Inflows) (script : List ℕ) (edits : List Edit) (before now : ℕ) →
+    script_of b series script ≡ Ok edits →
     now ≤ before + cost edits * month_pushes b → PushesOfScript b series script before now
 answered_pushes b series script edits before now reads bound = record {
   asked = λ others reads'.
@@ -125,26 +145,32 @@ answered_pushes b series script edits before now reads bound = record {
 
 -- Behind the files of `edit`.
 
-pub editing_cause : (told : Told) (files : Files) (script text : List ℕ) (b : Basin) (series : Inflows) (how : Ending) (read write : Type 0) →
-    IsSeriesOf b series → AreLoaded told files b series → length text ≤ file_limit → IfSome (told script) (λ bytes. text ≡ bytes) →
+pub editing_cause : (told : Told) (files : Files) (script text : List ℕ) (b : Basin) (series : Inflows) (how : Ending)
+    (read write : Type 0) →
+    IsSeriesOf b series → AreLoaded told files b series → length text ≤ file_limit →
+    IfSome (told script) (λ bytes. text ≡ bytes) →
     EndsEditing b series text how write → HasEditingCause files script how told read write
 editing_cause told files script text b series ending.Done read write fits loaded within is ends =
-    behind (told files.basin) (series_told told files.series) (told script) b series text IsGoodScript fits loaded.from_basin loaded.from_series is
+    behind (told files.basin) (series_told told files.series) (told script) b series text IsGoodScript fits
+    loaded.from_basin loaded.from_series is
     (λ bytes s spelled. record { within = within; basin = b; series = series; spelled = spelled; reads = ends })
 editing_cause told files script text b series ending.WriteFault read write fits loaded within is ends = (
   ends.0,
-  behind (told files.basin) (series_told told files.series) (told script) b series text IsGoodScript fits loaded.from_basin loaded.from_series is
+  behind (told files.basin) (series_told told files.series) (told script) b series text IsGoodScript fits
+      loaded.from_basin loaded.from_series is
       (λ bytes s spelled. record { within = within; basin = b; series = series; spelled = spelled; reads = ends.1 }),
 )
 editing_cause told files script text b series (ending.ScriptRefused fault line) read write fits loaded within is ends =
-    behind (told files.basin) (series_told told files.series) (told script) b series text (IsScriptRefusedFor fault line) fits
+    behind (told files.basin) (series_told told files.series) (told script) b series text
+    (IsScriptRefusedFor fault line) fits
     loaded.from_basin loaded.from_series is
     (λ bytes s spelled. record { within = within; basin = b; series = series; spelled = spelled; first = ends })
 editing_cause told files script text b series ending.OutOfMemory read write fits loaded within is ends = tt
 editing_cause told files script text b series other read write fits loaded within is ends = absurd ends
 
 -- what is left on out
-leaves_told : (status : Status) (bytes s : List ℕ) (b : Basin) (series : Inflows) (text : List ℕ) (old new : Option (List ℕ)) → AreSpelled bytes s b series →
+leaves_told : (status : Status) (bytes s : List ℕ) (b : Basin) (series : Inflows) (text : List ℕ)
+    (old new : Option (List ℕ)) → AreSpelled bytes s b series →
     LeavesScript status b series text old new → EditLeaves status bytes s text old new
 leaves_told status.OutOfMemory bytes s b series text old new spelled (inl same) = inl same
 leaves_told status.OutOfMemory bytes s b series text old new spelled (inr shows) =
@@ -152,24 +178,31 @@ leaves_told status.OutOfMemory bytes s b series text old new spelled (inr shows)
 leaves_told other bytes s b series text old new spelled left =
     λ may. record { basin = b; series = series; spelled = spelled; shows = left may }
 
-pub editing_writes : (told : Told) (files : Files) (script text : List ℕ) (b : Basin) (series : Inflows) (status : Status) (old new : Option (List ℕ)) →
-    IsSeriesOf b series → AreLoaded told files b series → IfSome (told script) (λ bytes. text ≡ bytes) → LeavesScript status b series text old new →
+pub editing_writes : (told : Told) (files : Files) (script text : List ℕ) (b : Basin) (series : Inflows)
+    (status : Status) (old new : Option (List ℕ)) →
+    IsSeriesOf b series → AreLoaded told files b series → IfSome (told script) (λ bytes. text ≡ bytes) →
+    LeavesScript status b series text old new →
     EditWrites told files script status old new
 editing_writes told files script text b series status old new fits loaded is left =
-    of_both (told files.basin) (series_told told files.series) (told script) b series text (λ bytes s t. EditLeaves status bytes s t old new) fits
-    loaded.from_basin loaded.from_series is (λ bytes s spelled. leaves_told status bytes s b series text old new spelled left)
+    of_both (told files.basin) (series_told told files.series) (told script) b series text
+    (λ bytes s t. EditLeaves status bytes s t old new) fits
+    loaded.from_basin loaded.from_series is
+    (λ bytes s spelled. leaves_told status bytes s b series text old new spelled left)
 
 -- where the files stop the call nothing is left
-stop_nothing : (status : Status) (bytes s text : List ℕ) (old : Option (List ℕ)) → (MayWrite status → ⊥) → EditLeaves status bytes s text old old
+stop_nothing : (status : Status) (bytes s text : List ℕ) (old : Option (List ℕ)) → (MayWrite status → ⊥) →
+    EditLeaves status bytes s text old old
 stop_nothing status.OutOfMemory bytes s text old never = inl refl
 stop_nothing other bytes s text old never = λ may. absurd (never may)
 
 -- and how often searches pushed
-pushes_same : (bytes s text : List ℕ) (b : Basin) (series : Inflows) (before now : ℕ) → AreSpelled bytes s b series → PushesOfScript b series text before now →
+pushes_same : (bytes s text : List ℕ) (b : Basin) (series : Inflows) (before now : ℕ) → AreSpelled bytes s b series →
+    PushesOfScript b series text before now →
     (c : Basin) (other : Inflows) → AreSpelled bytes s c other → PushesOfScript c other text before now
 pushes_same bytes s text b series before now spelled pushes c other also =
     let same : b ≡ c = one_basin bytes b c spelled.basin_spelled also.basin_spelled in
-    let moved : PushesOfScript c series text before now = subst (λ d. PushesOfScript d series text before now) same pushes in
+    let moved : PushesOfScript c series text before now =
+    subst (λ d. PushesOfScript d series text before now) same pushes in
     let script : script_of c series text ≡ script_of c other text =
     same_script c series other (subst (λ d. IsSeriesOf d series) same spelled.fits) also.fits text in
     record {
@@ -177,37 +210,46 @@ pushes_same bytes s text b series before now spelled pushes c other also =
       refused = λ bad. moved.refused (subst (λ (r : Reading). IsErr r) (sym script) bad);
     }
 
-pub editing_pushes : (told : Told) (files : Files) (script text : List ℕ) (b : Basin) (series : Inflows) (before now : ℕ) → IsSeriesOf b series →
-    AreLoaded told files b series → IfSome (told script) (λ bytes. text ≡ bytes) → PushesOfScript b series text before now →
+pub editing_pushes : (told : Told) (files : Files) (script text : List ℕ) (b : Basin) (series : Inflows)
+    (before now : ℕ) → IsSeriesOf b series →
+    AreLoaded told files b series → IfSome (told script) (λ bytes. text ≡ bytes) →
+    PushesOfScript b series text before now →
     EditPushes told files script before now
 editing_pushes told files script text b series before now fits loaded is pushes =
     of_both (told files.basin) (series_told told files.series) (told script) b series text
     (λ bytes s t. (c : Basin) (other : Inflows) → AreSpelled bytes s c other → PushesOfScript c other t before now) fits
-    loaded.from_basin loaded.from_series is (λ bytes s spelled. pushes_same bytes s text b series before now spelled pushes)
+    loaded.from_basin loaded.from_series is
+    (λ bytes s spelled. pushes_same bytes s text b series before now spelled pushes)
 
 -- Where nothing was solved, nothing was pushed; and where a file stopped the call, nothing is left on out.
 pub nothing_pushed : (told : Told) (files : Files) (script : List ℕ) (n : ℕ) → EditPushes told files script n n
 nothing_pushed told files script n = by_told (told files.basin) (series_told told files.series) (told script)
   where
     by_told : (t o r : Option (List ℕ)) →
-        IfSome t (λ bytes. IfSome o (λ s. IfSome r (λ text. (c : Basin) (other : Inflows) → AreSpelled bytes s c other → PushesOfScript c other text n n)))
+        IfSome t (λ bytes. IfSome o
+        (λ s. IfSome r (λ text. (c : Basin) (other : Inflows) → AreSpelled bytes s c other →
+        PushesOfScript c other text n n)))
     by_told None o r = tt
     by_told (Some bytes) None r = tt
     by_told (Some bytes) (Some s) None = tt
     by_told (Some bytes) (Some s) (Some text) = λ c other spelled. no_pushes c other text n
 
-pub nothing_left : (told : Told) (files : Files) (script : List ℕ) (status : Status) (old : Option (List ℕ)) → (MayWrite status → ⊥) →
+pub nothing_left : (told : Told) (files : Files) (script : List ℕ) (status : Status) (old : Option (List ℕ)) →
+    (MayWrite status → ⊥) →
     EditWrites told files script status old old
-nothing_left told files script status old never = by_told (told files.basin) (series_told told files.series) (told script)
+nothing_left told files script status old never =
+    by_told (told files.basin) (series_told told files.series) (told script)
   where
-    by_told : (t o r : Option (List ℕ)) → IfSome t (λ bytes. IfSome o (λ s. IfSome r (λ text. EditLeaves status bytes s text old old)))
+    by_told : (t o r : Option (List ℕ)) →
+        IfSome t (λ bytes. IfSome o (λ s. IfSome r (λ text. EditLeaves status bytes s text old old)))
     by_told None o r = tt
     by_told (Some bytes) None r = tt
     by_told (Some bytes) (Some s) None = tt
     by_told (Some bytes) (Some s) (Some text) = stop_nothing status bytes s text old never
 
 -- where the reading of basin and series stops, nothing may be written
-pub reading_writes_nothing : (told : Told) (files : Files) (how : Ending) (read : Type 0) → StopsReading files how told read → MayWrite (status_of how) → ⊥
+pub reading_writes_nothing : (told : Told) (files : Files) (how : Ending) (read : Type 0) →
+    StopsReading files how told read → MayWrite (status_of how) → ⊥
 reading_writes_nothing told files (ending.BasinRefused finding) read h may = may
 reading_writes_nothing told files (ending.SeriesRefused finding) read h may = may
 reading_writes_nothing told files (ending.ReadFault file) read h may = may

@@ -1,5 +1,6 @@
 -- The record of a month that is asked for, and what it answers.
-use Rattle.std.proofs.Common.{◌≡◌, ℕ, ◌+◌, ◌*◌, ◌<◌, ◌≤◌, Bool, refl, sym, ◌∙◌, ap, subst, arith, List, [], ◌∷◌, ◌++◌, length, Option, Some, inl, inr, length-append}
+use Rattle.std.proofs.Common.{◌≡◌, ℕ, ◌+◌, ◌*◌, ◌<◌, ◌≤◌, Bool, refl, sym, ◌∙◌, ap, subst, arith, List, [], ◌∷◌, ◌++◌}
+use Rattle.std.proofs.Common.{length, Option, Some, inl, inr, length-append}
 use Rattle.std.specs.Prelude.{slice_get, slice_index, unwrap_or}
 use Rattle.std.proofs.lemmas.Bool.{cases_lt}
 use Rattle.std.proofs.lemmas.List.{take-append-le}
@@ -29,19 +30,24 @@ use Rattle.basin_cli.proofs.Asked.{one_index, one_right}
 use Rattle.basin_cli.proofs.Written.{last_is}
 
 -- the last record of a partial history follows those before it
-pub last_of : (b : Basin) (series : Inflows) (before : List MonthRecord) (m : MonthRecord) → IsPartialHistory b series (before ++ m ∷ []) → Follows b series before m
+pub last_of : (b : Basin) (series : Inflows) (before : List MonthRecord) (m : MonthRecord) →
+    IsPartialHistory b series (before ++ m ∷ []) → Follows b series before m
 last_of b series before m partial =
-    subst (λ (rs : List MonthRecord). Follows b series rs m) (take-append-le (length before) before (m ∷ []) (omega arith) ∙ take-length before)
+    subst (λ (rs : List MonthRecord). Follows b series rs m)
+    (take-append-le (length before) before (m ∷ []) (omega arith) ∙ take-length before)
     (partial.each (length before) m (last_is before m))
 
 -- the last record of a run is one of the month with its index
-pub last_record : (b : Basin) (series : Inflows) (run : RunSeen) (index : ℕ) → run.basin ≡ b → run.series ≡ series → run.done ≡ index + 1 →
+pub last_record : (b : Basin) (series : Inflows) (run : RunSeen) (index : ℕ) → run.basin ≡ b → run.series ≡ series →
+    run.done ≡ index + 1 →
     (last : HasLast run) → IsRecordOf b series (run_month b index) run.last
 last_record b series run index same fits done last = record {
   before = last.before;
   partial = partial;
   reaches = rw (← same) last.stands.reaches;
-  is = follows.month ∙ ap (run_month b) (omega (arith, follows.index, done, last.stands.done, length-append last.before (run.last ∷ [])));
+  is = follows.month
+      ∙ ap (run_month b)
+      (omega (arith, follows.index, done, last.stands.done, length-append last.before (run.last ∷ [])));
 }
   where
     partial : IsPartialHistory b series (last.before ++ run.last ∷ [])
@@ -51,20 +57,24 @@ last_record b series run index same fits done last = record {
     follows = last_of b series last.before run.last partial
 
 -- which has the reaches, and lines that can be written
-pub record_reaches : (b : Basin) (series : Inflows) (month : Month) (m : MonthRecord) → IsRecordOf b series month m → HasReaches b m
+pub record_reaches : (b : Basin) (series : Inflows) (month : Month) (m : MonthRecord) → IsRecordOf b series month m →
+    HasReaches b m
 record_reaches b series month m is = is.reaches (length is.before) m (last_is is.before m)
 
-pub record_fits : (b : Basin) (series : Inflows) (month : Month) (m : MonthRecord) → IsValidBasin b → IsRecordOf b series month m → FitsText b m
+pub record_fits : (b : Basin) (series : Inflows) (month : Month) (m : MonthRecord) → IsValidBasin b →
+    IsRecordOf b series month m → FitsText b m
 record_fits b series month m valid is =
     FitsText-follows b series is.before m valid (last_of b series is.before m is.partial)
     (omega (arith, is.partial.within, length-append is.before (m ∷ [])))
 
 -- a run that solved one month more has a last one
-pub one_more : (run run' : RunSeen) (records : List MonthRecord) → StandsFor run records → (StandsFor run records → StandsFor run' (records ++ run'.last ∷ [])) → HasLast run'
+pub one_more : (run run' : RunSeen) (records : List MonthRecord) → StandsFor run records →
+    (StandsFor run records → StandsFor run' (records ++ run'.last ∷ [])) → HasLast run'
 one_more run run' records stands more = record { before = records; stands = more stands }
 
 -- the pushes of some months and of one more are within those of so many months
-pub within_months : (b c : Basin) (first before after i count : ℕ) → c ≡ b → before ≤ first + i * month_pushes b → after ≤ before + month_pushes c →
+pub within_months : (b c : Basin) (first before after i count : ℕ) → c ≡ b → before ≤ first + i * month_pushes b →
+    after ≤ before + month_pushes c →
     i < count → after ≤ first + count * month_pushes b
 within_months b c first before after i count same so_far more l =
     let all : (i + 1) * month_pushes b ≤ count * month_pushes b = mul-le-mul_right (month_pushes b) (omega arith) in
@@ -76,9 +86,11 @@ reach_at : (b : Basin) (m : MonthRecord) (right : ℕ) → HasReaches b m → ri
     IsReach b m.month m.supply m.delivered right (cut_at m.cuts right)
 reach_at b m right reaches l short =
     let own = reaches.short right l short in
-    subst (λ (set : List Bool). IsReach b m.month m.supply m.delivered right set) (sym (ap (λ (o : Option (List Bool)). unwrap_or o []) own.1)) own.2
+    subst (λ (set : List Bool). IsReach b m.month m.supply m.delivered right set)
+    (sym (ap (λ (o : Option (List Bool)). unwrap_or o []) own.1)) own.2
 
-pub short_explained : (b : Basin) (m : MonthRecord) (right : ℕ) → HasReaches b m → right < length b.rights → IsShort m right →
+pub short_explained : (b : Basin) (m : MonthRecord) (right : ℕ) → HasReaches b m → right < length b.rights →
+    IsShort m right →
     Explains b m right (book_bytes b m right (cut_at m.cuts right))
 short_explained b m right reaches l is = record {
   short = λ _. (
@@ -96,15 +108,23 @@ short_explained b m right reaches l is = record {
     reach : IsReach b m.month m.supply m.delivered right (cut_at m.cuts right)
     reach = reach_at b m right reaches l is
 
-pub met_explained : (b : Basin) (m : MonthRecord) (right : ℕ) → (IsShort m right → ⊥) → Explains b m right (met_line m.month (right_name b right))
+pub met_explained : (b : Basin) (m : MonthRecord) (right : ℕ) → (IsShort m right → ⊥) →
+    Explains b m right (met_line m.month (right_name b right))
 met_explained b m right met = record { short = λ is. absurd (met is); met = λ _. refl }
 
 -- a right that isn't short is met
-pub is_met : (m : MonthRecord) (right : ℕ) → (IsShort m right → ⊥) → slice_index m.want right ≤ slice_index m.delivered right
-is_met m right h = elim (cases_lt (slice_index m.delivered right) (slice_index m.want right)) [ inl is ↦ absurd (h is) | inr not ↦ not ]
+pub is_met : (m : MonthRecord) (right : ℕ) → (IsShort m right → ⊥) →
+    slice_index m.want right ≤ slice_index m.delivered right
+is_met m right h =
+    elim (cases_lt (slice_index m.delivered right) (slice_index m.want right)) [
+      | inl is ↦ absurd (h is)
+      | inr not ↦
+          not
+    ]
 
 -- Two records of a month have one outcome, so a right is short in both or in none.
-pub one_answer : (b : Basin) (series : Inflows) (month : Month) (name : List ℕ) (right other : ℕ) (m n : MonthRecord) → IsValidBasin b →
+pub one_answer : (b : Basin) (series : Inflows) (month : Month) (name : List ℕ) (right other : ℕ) (m n : MonthRecord) →
+    IsValidBasin b →
     IsAbout b series month name right m → IsAbout b series month name other n → IsShort m right → IsShort n other
 one_answer b series month name right other m n valid one two short =
     let same : right ≡ other = one_right b name right other valid one.named two.named in
@@ -117,16 +137,20 @@ one_answer b series month name right other m n valid one two short =
     second = last_of b series two.of_month.before n two.of_month.partial
 
     index : m.index ≡ n.index
-    index = one_index b month m.index n.index valid (sym first.month ∙ one.of_month.is) (sym second.month ∙ two.of_month.is)
+    index = one_index b month m.index n.index valid (sym first.month ∙ one.of_month.is)
+        (sym second.month ∙ two.of_month.is)
 
     place : length one.of_month.before ≡ length two.of_month.before
     place = sym first.index ∙ (index ∙ second.index)
 
     outcome : HaveSameOutcome m n
-    outcome = one_outcome b series (one.of_month.before ++ m ∷ []) (two.of_month.before ++ n ∷ []) valid one.of_month.partial two.of_month.partial
+    outcome =
+        one_outcome b series (one.of_month.before ++ m ∷ []) (two.of_month.before ++ n ∷ []) valid one.of_month.partial
+        two.of_month.partial
         (omega (arith, place, length-append one.of_month.before (m ∷ []), length-append two.of_month.before (n ∷ [])))
         (length one.of_month.before) m n (last_is one.of_month.before m)
         (subst (λ k. slice_get (two.of_month.before ++ n ∷ []) k ≡ Some n) (sym place) (last_is two.of_month.before n))
 
     along : IsShort n right
-    along = omega (arith, short, ap (λ ds. slice_index ds right) outcome.delivered, ap (λ ws. slice_index ws right) outcome.want)
+    along = omega
+        (arith, short, ap (λ ds. slice_index ds right) outcome.delivered, ap (λ ws. slice_index ws right) outcome.want)

@@ -17,7 +17,8 @@ use Rattle.basin_cli.specs.Series.{BasinReadEnds, IsBasinText}
 use Rattle.basin_cli.specs.Upgrading.{HasUpgradingCause, IsUpgradeOf, UpgradeWrites}
 
 -- where the basin isn't read or refused
-pub stops_upgrading : (name : List ℕ) (told : Told) (read write : Type 0) (how : Ending) → BasinReadEnds (told name) read how →
+pub stops_upgrading : (name : List ℕ) (told : Told) (read write : Type 0) (how : Ending) →
+    BasinReadEnds (told name) read how →
     HasUpgradingCause name how told read write
 stops_upgrading name told read write (ending.BasinRefused finding) h = h
 stops_upgrading name told read write (ending.ReadFault file.Basin) h = h
@@ -25,14 +26,16 @@ stops_upgrading name told read write (ending.InputTooLong file.Basin) h = h
 stops_upgrading name told read write ending.OutOfMemory h = tt
 stops_upgrading name told read write other h = absurd h
 
-pub stopped_silent : (o : Option (List ℕ)) (read : Type 0) (how : Ending) → BasinReadEnds o read how → MayWrite (status_of how) → ⊥
+pub stopped_silent : (o : Option (List ℕ)) (read : Type 0) (how : Ending) → BasinReadEnds o read how →
+    MayWrite (status_of how) → ⊥
 stopped_silent o read (ending.BasinRefused finding) h may = may
 stopped_silent o read (ending.ReadFault file.Basin) h may = may
 stopped_silent o read (ending.InputTooLong file.Basin) h may = may
 stopped_silent o read ending.OutOfMemory h may = may
 stopped_silent o read other h may = absurd h
 
-pub stopped_loud : (o : Option (List ℕ)) (read : Type 0) (how : Ending) → BasinReadEnds o read how → IsQuiet (status_of how) → ⊥
+pub stopped_loud : (o : Option (List ℕ)) (read : Type 0) (how : Ending) → BasinReadEnds o read how →
+    IsQuiet (status_of how) → ⊥
 stopped_loud o read (ending.BasinRefused finding) h quiet = quiet
 stopped_loud o read (ending.ReadFault file.Basin) h quiet = quiet
 stopped_loud o read (ending.InputTooLong file.Basin) h quiet = quiet
@@ -47,10 +50,12 @@ stopped_told o read ending.OutOfMemory h = tt
 stopped_told o read other h = absurd h
 
 -- nothing is written by a status that may not write
-pub silent_writes : (told : Told) (name : List ℕ) (status : Status) (old new : Option (List ℕ)) → (MayWrite status → ⊥) → UpgradeWrites told name status old new
+pub silent_writes : (told : Told) (name : List ℕ) (status : Status) (old new : Option (List ℕ)) →
+    (MayWrite status → ⊥) → UpgradeWrites told name status old new
 silent_writes told name status old new never = by_told (told name)
   where
-    by_told : (o : Option (List ℕ)) → IfSome o (λ bytes. MayWrite status → (text : List ℕ) × IsUpgradeOf bytes text × Leaves status text old new)
+    by_told : (o : Option (List ℕ)) →
+        IfSome o (λ bytes. MayWrite status → (text : List ℕ) × IsUpgradeOf bytes text × Leaves status text old new)
     by_told None = tt
     by_told (Some bytes) = λ may. absurd (never may)
 
@@ -60,11 +65,14 @@ read_good b None h = tt
 read_good b (Some bytes) h = h.good
 
 -- and is written in format 2
-pub upgrade_written : (b : Basin) (told : Told) (name : List ℕ) (status : Status) (old new : Option (List ℕ)) (text : List ℕ) → IfSome (told name) (IsBasinText b) →
+pub upgrade_written : (b : Basin) (told : Told) (name : List ℕ) (status : Status) (old new : Option (List ℕ))
+    (text : List ℕ) → IfSome (told name) (IsBasinText b) →
     document_of text ≡ Some (basin_table b) → Spells text (record b { format = 2 }) → file_fault text ≡ None →
     Leaves status text old new → UpgradeWrites told name status old new
 upgrade_written b told name status old new text h reads spells sound left = by_told (told name) h
   where
-    by_told : (o : Option (List ℕ)) → IfSome o (IsBasinText b) → IfSome o (λ bytes. MayWrite status → (text : List ℕ) × IsUpgradeOf bytes text × Leaves status text old new)
+    by_told : (o : Option (List ℕ)) → IfSome o (IsBasinText b) →
+        IfSome o (λ bytes. MayWrite status → (text : List ℕ) × IsUpgradeOf bytes text × Leaves status text old new)
     by_told None is = tt
-    by_told (Some bytes) is = λ may. (text, record { basin = b; spelled = is.spelled; reads = reads; spells = spells; sound = sound }, left)
+    by_told (Some bytes) is =
+        λ may. (text, record { basin = b; spelled = is.spelled; reads = reads; spells = spells; sound = sound }, left)

@@ -26,7 +26,8 @@ basin_found bytes s text ending.OutOfMemory h = tt
 basin_found bytes s text other h = absurd h
 
 -- a finding is of some fault
-some_fault : (b : Basin) (o : Option SeriesRefused) (finding : SeriesFinding) → option_and_then (finding_of b) o ≡ Some finding →
+some_fault : (b : Basin) (o : Option SeriesRefused) (finding : SeriesFinding) →
+    option_and_then (finding_of b) o ≡ Some finding →
     (why : SeriesRefused) × (o ≡ Some why)
 some_fault b None finding e = cc
 some_fault b (Some why) finding e = (why, refl)
@@ -51,11 +52,14 @@ faultless bytes s b series sound spelled series_sound = record {
 }
 
 pub accepted_found : (bytes s text : List ℕ) (b : Basin) (series : Inflows) (months : ℕ) → AreFaultless bytes s →
-    AreSpelled bytes s b series → IsAnswer b (Ok months) (text_verdict b series text) → IsFound found.Accepted bytes s text
-accepted_found bytes s text b series months clean spelled h = (clean, is_text bytes s text b series spelled.valid spelled h.0)
+    AreSpelled bytes s b series → IsAnswer b (Ok months) (text_verdict b series text) →
+    IsFound found.Accepted bytes s text
+accepted_found bytes s text b series months clean spelled h =
+    (clean, is_text bytes s text b series spelled.valid spelled h.0)
 
 pub refuted_found : (bytes s text : List ℕ) (b : Basin) (series : Inflows) (refuted : Refuted) → AreFaultless bytes s →
-    AreSpelled bytes s b series → IsAnswer b (Err refuted) (text_verdict b series text) → IsFound found.Refuted bytes s text
+    AreSpelled bytes s b series → IsAnswer b (Err refuted) (text_verdict b series text) →
+    IsFound found.Refuted bytes s text
 refuted_found bytes s text b series refuted clean spelled h =
     (clean, is_no_text bytes s text b series refuted spelled.valid spelled h)
 

@@ -26,22 +26,31 @@ of_years None b whole text = tt
 of_years (Some bytes) b whole text = record { basin = b; spelled = text.spelled; whole = whole }
 
 -- and whose basin hasn't
-pub part_year : (t : Option (List ℕ)) (b : Basin) → (HasWholeYears b → ⊥) → IfSome t (IsBasinText b) → IfSome t IsPartYear
+pub part_year : (t : Option (List ℕ)) (b : Basin) → (HasWholeYears b → ⊥) → IfSome t (IsBasinText b) →
+    IfSome t IsPartYear
 part_year None b part text = tt
 part_year (Some bytes) b part text = record { good = text.good; basin = b; spelled = text.spelled; part = part }
 
 -- the cause of how an ensemble ends
-pub gathering_cause : (told : Told) (files : Files) (b : Basin) (series : Inflows) (how : Ending) (read write : Type 0) → HasWholeYears b →
+pub gathering_cause : (told : Told) (files : Files) (b : Basin) (series : Inflows) (how : Ending)
+    (read write : Type 0) → HasWholeYears b →
     AreLoaded told files b series → HasTrialCause how write → HasEnsembleCause files how told read write
-gathering_cause told files b series ending.Done read write whole loaded ends =
-    (of_years (told files.basin) b whole loaded.from_basin, accepted (told files.basin) (series_told told files.series) b series loaded.from_basin loaded.from_series)
-gathering_cause told files b series ending.WriteFault read write whole loaded ends =
-    (ends, of_years (told files.basin) b whole loaded.from_basin, accepted (told files.basin) (series_told told files.series) b series loaded.from_basin loaded.from_series)
+gathering_cause told files b series ending.Done read write whole loaded ends = (
+  of_years (told files.basin) b whole loaded.from_basin,
+  accepted (told files.basin) (series_told told files.series)
+      b series loaded.from_basin loaded.from_series,
+)
+gathering_cause told files b series ending.WriteFault read write whole loaded ends = (
+  ends,
+  of_years (told files.basin) b whole loaded.from_basin,
+  accepted (told files.basin) (series_told told files.series) b series loaded.from_basin loaded.from_series,
+)
 gathering_cause told files b series ending.OutOfMemory read write whole loaded ends = tt
 gathering_cause told files b series other read write whole loaded ends = absurd ends
 
 -- what is left on out
-pub gathering_writes : (told : Told) (files : Files) (b : Basin) (series : Inflows) (how : Ending) (old new : Option (List ℕ)) →
+pub gathering_writes : (told : Told) (files : Files) (b : Basin) (series : Inflows) (how : Ending)
+    (old new : Option (List ℕ)) →
     IsSeriesOf b series → AreLoaded told files b series → LeavesTraces b series how old new →
     OfBoth told files (λ bytes s. MayWrite (status_of how) → WritesEnsemble (status_of how) bytes s old new)
 gathering_writes told files b series how old new fits loaded leaves =
@@ -63,8 +72,10 @@ gathering_writes told files b series how old new fits loaded leaves =
         })
 
 -- and how often searches pushed
-pub gathering_pushes : (told : Option (List ℕ)) (b : Basin) (before now : ℕ) → IfSome told (IsBasinText b) → now ≤ before + years_of b * run_pushes b →
+pub gathering_pushes : (told : Option (List ℕ)) (b : Basin) (before now : ℕ) → IfSome told (IsBasinText b) →
+    now ≤ before + years_of b * run_pushes b →
     IfSome told (λ bytes. (c : Basin) → Spells bytes c → now ≤ before + years_of c * run_pushes c)
 gathering_pushes None b before now text pushes = tt
 gathering_pushes (Some bytes) b before now text pushes =
-    λ c spelled. subst (λ (d : Basin). now ≤ before + years_of d * run_pushes d) (one_basin bytes b c text.spelled spelled) pushes
+    λ c spelled. subst (λ (d : Basin). now ≤ before + years_of d * run_pushes d)
+    (one_basin bytes b c text.spelled spelled) pushes

@@ -17,7 +17,8 @@ use Rattle.basin_cli.specs.Outcome.{WritesTrial}
 use Rattle.basin_cli.specs.declared.status.Status.TheVariants.{WriteFault}
 
 -- what was taken stays when it is handed on
-pub kept_appends : (old mid new : Option (List ℕ)) (text : List ℕ) → Appends old mid text → Keeps mid new → Appends old new text
+pub kept_appends : (old mid new : Option (List ℕ)) (text : List ℕ) → Appends old mid text → Keeps mid new →
+    Appends old new text
 kept_appends None mid new text h k = tt
 kept_appends (Some xs) None new text h k = absurd h
 kept_appends (Some xs) (Some ys) None text h k = absurd k
@@ -37,12 +38,14 @@ puts_kept old mid new (Err e) text h k =
 
 -- the text of something that was put whole, where it couldn't be handed on
 pub fronts : {X : Type 0} (P : X → Type 0) (text : X → List ℕ) (old mid new : Option (List ℕ)) →
-    ((x : X) × P x × Appends old mid (text x)) → Keeps mid new → (x : X) × P x × ((count : ℕ) × Appends old new (take count (text x)))
+    ((x : X) × P x × Appends old mid (text x)) → Keeps mid new → (x : X) × P x ×
+    ((count : ℕ) × Appends old new (take count (text x)))
 fronts P text old mid new put k = (put.0, put.1, whole_front old mid new (text put.0) put.2 k)
 
 pub trial_front : (number size : ℕ) (b : Basin) (series : Inflows) (old mid new : Option (List ℕ)) →
     b ≡ generated number size → IsSeriesOf b series →
-    ((records : List MonthRecord) × IsRun b series records × Appends old mid (trial_text number size b series records)) →
+    ((records : List MonthRecord) × IsRun b series records ×
+    Appends old mid (trial_text number size b series records)) →
     Keeps mid new → WritesTrial WriteFault number size old new
 trial_front number size b series old mid new is fits put k = record {
   series = series;
@@ -53,7 +56,8 @@ trial_front number size b series old mid new is fits put k = record {
 }
 
 pub shows_front : (b : Basin) (series : Inflows) (edits : List Edit) (old mid new : Option (List ℕ)) →
-    ((shown : List MonthRecord) × AreShown b series edits shown × Appends old mid (months_bytes b shown ++ done_bytes (shows_in edits))) →
+    ((shown : List MonthRecord) × AreShown b series edits shown ×
+    Appends old mid (months_bytes b shown ++ done_bytes (shows_in edits))) →
     Keeps mid new → AnswersWhole b series edits (Err SinkFailed) old new
 shows_front b series edits old mid new put k =
     let text : List ℕ = months_bytes b put.0 ++ done_bytes (shows_in edits) in

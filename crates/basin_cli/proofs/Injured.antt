@@ -1,5 +1,6 @@
 -- Whether somebody is injured, as the list of injuries says.
-use Rattle.std.proofs.Common.{◌≡◌, ℕ, ◌+◌, ◌≤◌, suc, refl, sym, ◌∙◌, subst, arith, List, [], ◌∷◌, length, Option, Some, None}
+use Rattle.std.proofs.Common.{◌≡◌, ℕ, ◌+◌, ◌≤◌, suc, refl, sym, ◌∙◌, subst, arith, List, [], ◌∷◌, length, Option, Some}
+use Rattle.std.proofs.Common.{None}
 use Rattle.std.proofs.lemmas.Bool.Decides.{nat_tests}
 use Rattle.std.specs.Prelude.{IfSome, Contains, ◌==◌, Bool, true, false, if◌then◌else◌}
 use Rattle.basin_file.specs.BasinFaults.{Spells}
@@ -21,7 +22,8 @@ use Rattle.basin_cli.specs.declared.pairs.Pair.{Pair}
 use Rattle.basin_cli.specs.Bytes.{AreSpelled, IsGoodBasin, Told, series_told}
 use Rattle.basin_cli.specs.Command.{Files}
 use Rattle.basin_cli.specs.Compared.{Compares, ending_with}
-use Rattle.basin_cli.specs.Comparison.{IsGoodSecond, IsGoodForBoth, SomebodyIsInjured, BehindBoth, HasComparingCause, WritesComparison, ComparisonWrites, ComparisonPushes}
+use Rattle.basin_cli.specs.Comparison.{IsGoodSecond, IsGoodForBoth, SomebodyIsInjured, BehindBoth, HasComparingCause}
+use Rattle.basin_cli.specs.Comparison.{WritesComparison, ComparisonWrites, ComparisonPushes}
 use Rattle.basin_cli.specs.Ending.{status_of}
 use Rattle.basin_cli.specs.Out.{MayWrite}
 use Rattle.basin_cli.specs.Pairs.{ArePaired}
@@ -30,15 +32,19 @@ use Rattle.basin_cli.proofs.Judged.{spelled_by}
 use Rattle.basin_cli.proofs.OneSeries.{one_basin, one_series, same_history}
 
 -- a history of what bytes spell is one of any basin and series that they spell
-spelled_history : (bytes s : List ℕ) (b c : Basin) (series other : Inflows) (records : List MonthRecord) → IsValidBasin b →
-    AreSpelled bytes s b series → AreSpelled bytes s c other → (same : c ≡ b) → IsHistory c other records → IsHistory b series records
+spelled_history : (bytes s : List ℕ) (b c : Basin) (series other : Inflows) (records : List MonthRecord) →
+    IsValidBasin b →
+    AreSpelled bytes s b series → AreSpelled bytes s c other → (same : c ≡ b) → IsHistory c other records →
+    IsHistory b series records
 spelled_history bytes s b c series other records valid spelled is same history =
     same_history b other series records valid
-    (one_series b s other series (subst (λ (x : Basin). SpellsSeries x s other) same is.series_spelled) spelled.series_spelled)
+    (one_series b s other series (subst (λ (x : Basin). SpellsSeries x s other) same is.series_spelled)
+    spelled.series_spelled)
     (subst (λ (x : Basin). IsHistory x other records) same history)
 
 module _ (bytes other_bytes s : List ℕ) (b c : Basin) (series other : Inflows) (records others : List MonthRecord)
-    (valid : IsValidBasin b) (second_valid : IsValidBasin c) (spelled : AreSpelled bytes s b series) (second_spelled : AreSpelled other_bytes s c other)
+    (valid : IsValidBasin b) (second_valid : IsValidBasin c) (spelled : AreSpelled bytes s b series)
+    (second_spelled : AreSpelled other_bytes s c other)
     (history : IsHistory b series records) (second_history : IsHistory c other others) where
   -- where the list is empty nobody is injured
   nobody : injuries b c records others ≡ [] → SomebodyIsInjured bytes other_bytes s → ⊥
@@ -57,18 +63,22 @@ module _ (bytes other_bytes s : List ℕ) (b c : Basin) (series other : Inflows)
       one : injuries b c is.records is.others ≡ []
       one =
           one_list b c series other is.records records is.others others valid second_valid
-          (spelled_history bytes s b is.first series is.series is.records valid spelled is.first_spelled same is.first_history) history
-          (spelled_history other_bytes s c is.second other is.second_series is.others second_valid second_spelled is.second_spelled same_second is.second_history) second_history
+          (spelled_history bytes s b is.first series is.series is.records valid spelled is.first_spelled same
+          is.first_history) history
+          (spelled_history other_bytes s c is.second other is.second_series is.others second_valid second_spelled
+          is.second_spelled same_second is.second_history) second_history
           ∙ none
 
       there : Contains [] is.injury
-      there = subst (λ (all : List Injury). Contains all is.injury) one ((injuries_are_all_listed b c is.records is.others is.injury second_valid).0 moved)
+      there = subst (λ (all : List Injury). Contains all is.injury) one
+          ((injuries_are_all_listed b c is.records is.others is.injury second_valid).0 moved)
 
       never : suc there.0 ≤ 0 → ⊥
       never l = omega (arith, l)
 
   -- and else somebody is
-  somebody : (all : List Injury) (injury : Injury) → injuries b c records others ≡ injury ∷ all → SomebodyIsInjured bytes other_bytes s
+  somebody : (all : List Injury) (injury : Injury) → injuries b c records others ≡ injury ∷ all →
+      SomebodyIsInjured bytes other_bytes s
   somebody all injury some = record {
     first = b;
     second = c;
@@ -97,7 +107,8 @@ ends_done (i ∷ all) e = absurd (differs (length (i ∷ all) == 0) (positive (l
     differs true f e = cc
     differs false f e = cc
 
-ends_injured : (all : List Injury) → ending.Injured ≡ ending_with (length all) → (i : Injury) × ((rest : List Injury) × (all ≡ i ∷ rest))
+ends_injured : (all : List Injury) → ending.Injured ≡ ending_with (length all) → (i : Injury) ×
+    ((rest : List Injury) × (all ≡ i ∷ rest))
 ends_injured [] e = absurd (cc)
 ends_injured (i ∷ all) e = (i, (all, refl))
 
@@ -110,13 +121,17 @@ ends_not how n e not_done not_injured = by_test (n == 0) e
 
 -- what holds of what is told of the files
 module _ (told : Told) (files : Files) (second : List ℕ) (pair : Pair) (paired : ArePaired told files second pair) where
-  behind : (t o s : Option (List ℕ)) (P : List ℕ → List ℕ → List ℕ → Type 0) → IfSome t (IsBasinText pair.first.basin) → IfSome o (IsBasinText pair.second.basin) →
-      IfSome s (IsSeriesText pair.first.basin pair.first.series) → IfSome s (IsSeriesText pair.second.basin pair.second.series) →
-      ((x y z : List ℕ) → IsGoodForBoth x y z → AreSpelled x z pair.first.basin pair.first.series → AreSpelled y z pair.second.basin pair.second.series → P x y z) →
+  behind : (t o s : Option (List ℕ)) (P : List ℕ → List ℕ → List ℕ → Type 0) → IfSome t (IsBasinText pair.first.basin) →
+      IfSome o (IsBasinText pair.second.basin) →
+      IfSome s (IsSeriesText pair.first.basin pair.first.series) →
+      IfSome s (IsSeriesText pair.second.basin pair.second.series) →
+      ((x y z : List ℕ) → IsGoodForBoth x y z → AreSpelled x z pair.first.basin pair.first.series →
+      AreSpelled y z pair.second.basin pair.second.series → P x y z) →
       IfSome t (λ x. IsGoodBasin x × IfSome o (λ y. IsGoodSecond x y × IfSome s (P x y)))
   behind None o s P first other series other_series holds = tt
   behind (Some x) None s P first other series other_series holds = (first.good, tt)
-  behind (Some x) (Some y) s P first other series other_series holds = (first.good, (good_second, by_series s series other_series))
+  behind (Some x) (Some y) s P first other series other_series holds =
+      (first.good, (good_second, by_series s series other_series))
     where
       good_second : IsGoodSecond x y
       good_second = record {
@@ -130,34 +145,51 @@ module _ (told : Told) (files : Files) (second : List ℕ) (pair : Pair) (paired
         };
       }
 
-      by_series : (s : Option (List ℕ)) → IfSome s (IsSeriesText pair.first.basin pair.first.series) → IfSome s (IsSeriesText pair.second.basin pair.second.series) →
+      by_series : (s : Option (List ℕ)) → IfSome s (IsSeriesText pair.first.basin pair.first.series) →
+          IfSome s (IsSeriesText pair.second.basin pair.second.series) →
           IfSome s (P x y)
       by_series None one two = tt
       by_series (Some z) one two =
           holds x y z
           (record {
-            first = record { basin = pair.first.basin; spelled = first.spelled; within = one.within; sound = one.sound };
-            second = record { basin = pair.second.basin; spelled = other.spelled; within = two.within; sound = two.sound };
+            first = record {
+              basin = pair.first.basin;
+              spelled = first.spelled;
+              within = one.within;
+              sound =
+                  one.sound;
+            };
+            second = record {
+              basin = pair.second.basin;
+              spelled = other.spelled;
+              within = two.within;
+              sound =
+                  two.sound;
+            };
           })
           (spelled_by x z pair.first.basin pair.first.series paired.fits first one)
           (spelled_by y z pair.second.basin pair.second.series paired.second_fits other two)
 
   behind_both : (P : List ℕ → List ℕ → List ℕ → Type 0) →
-      ((x y z : List ℕ) → IsGoodForBoth x y z → AreSpelled x z pair.first.basin pair.first.series → AreSpelled y z pair.second.basin pair.second.series → P x y z) →
+      ((x y z : List ℕ) → IsGoodForBoth x y z → AreSpelled x z pair.first.basin pair.first.series →
+      AreSpelled y z pair.second.basin pair.second.series → P x y z) →
       BehindBoth told files second P
   behind_both P holds =
-      behind (told files.basin) (told second) (series_told told files.series) P paired.loaded.from_basin paired.second_loaded.from_basin
+      behind (told files.basin) (told second) (series_told told files.series) P paired.loaded.from_basin
+      paired.second_loaded.from_basin
       paired.loaded.from_series paired.second_loaded.from_series holds
 
   -- the cause of how a comparison ends
   pub cause : (how : Ending) (read write : Type 0) (old new : Option (List ℕ)) →
-      (MayWrite (status_of how) → Compares pair.first.basin pair.second.basin pair.first.series pair.second.series how write old new) →
+      (MayWrite (status_of how) →
+      Compares pair.first.basin pair.second.basin pair.first.series pair.second.series how write old new) →
       ((MayWrite (status_of how) → ⊥) → how ≡ ending.OutOfMemory) → HasComparingCause files second how told read write
   cause ending.Done read write old new compares memory =
       let all = compares tt in
       behind_both _ (λ x y z good spelled second_spelled. (
         good,
-        nobody x y z pair.first.basin pair.second.basin pair.first.series pair.second.series all.records all.others paired.valid paired.second_valid
+        nobody x y z pair.first.basin pair.second.basin pair.first.series pair.second.series all.records all.others
+            paired.valid paired.second_valid
             spelled second_spelled all.first_keeps.history all.second_keeps.history
             (ends_done (injuries pair.first.basin pair.second.basin all.records all.others) all.ends),
       ))
@@ -166,25 +198,31 @@ module _ (told : Told) (files : Files) (second : List ℕ) (pair : Pair) (paired
       let found = ends_injured (injuries pair.first.basin pair.second.basin all.records all.others) all.ends in
       behind_both _ (λ x y z good spelled second_spelled. (
         good,
-        somebody x y z pair.first.basin pair.second.basin pair.first.series pair.second.series all.records all.others paired.valid paired.second_valid
+        somebody x y z pair.first.basin pair.second.basin pair.first.series pair.second.series all.records all.others
+            paired.valid paired.second_valid
             spelled second_spelled all.first_keeps.history all.second_keeps.history found.1.0 found.0 found.1.1,
       ))
-  cause ending.WriteFault read write old new compares memory = ((compares tt).ends, behind_both IsGoodForBoth (λ _ _ _ good _ _. good))
+  cause ending.WriteFault read write old new compares memory =
+      ((compares tt).ends, behind_both IsGoodForBoth (λ _ _ _ good _ _. good))
   cause ending.OutOfMemory read write old new compares memory = tt
   cause (ending.Refuted refuted) read write old new compares memory =
       let all = compares tt in
-      absurd (ends_not (ending.Refuted refuted) (length (injuries pair.first.basin pair.second.basin all.records all.others)) all.ends (λ e. cc) (λ e. cc))
+      absurd (ends_not (ending.Refuted refuted)
+      (length (injuries pair.first.basin pair.second.basin all.records all.others)) all.ends (λ e. cc) (λ e. cc))
   cause ending.Met read write old new compares memory =
       let all = compares tt in
-      absurd (ends_not ending.Met (length (injuries pair.first.basin pair.second.basin all.records all.others)) all.ends (λ e. cc) (λ e. cc))
+      absurd (ends_not ending.Met (length (injuries pair.first.basin pair.second.basin all.records all.others)) all.ends
+      (λ e. cc) (λ e. cc))
   cause ending.Usage read write old new compares memory = let e = memory (λ may. may) in cc
   cause ending.PartYear read write old new compares memory = let e = memory (λ may. may) in cc
   cause (ending.ScriptRefused fault line) read write old new compares memory = let e = memory (λ may. may) in cc
   cause (ending.BasinRefused finding) read write old new compares memory = let e = memory (λ may. may) in cc
   cause (ending.SeriesRefused finding) read write old new compares memory = let e = memory (λ may. may) in cc
-  cause (ending.SecondRefused (of_second.Basin finding)) read write old new compares memory = let e = memory (λ may. may) in cc
+  cause (ending.SecondRefused (of_second.Basin finding)) read write old new compares memory = let e =
+      memory (λ may. may) in cc
   cause (ending.SecondRefused of_second.OtherRun) read write old new compares memory = let e = memory (λ may. may) in cc
-  cause (ending.SecondRefused (of_second.Series finding)) read write old new compares memory = let e = memory (λ may. may) in cc
+  cause (ending.SecondRefused (of_second.Series finding)) read write old new compares memory = let e =
+      memory (λ may. may) in cc
   cause (ending.ReadFault file) read write old new compares memory = absurd (no_memory (memory (λ may. may)))
     where
       no_memory : ending.ReadFault file ≡ ending.OutOfMemory → ⊥
@@ -196,15 +234,20 @@ module _ (told : Told) (files : Files) (second : List ℕ) (pair : Pair) (paired
 
   -- what a comparison leaves on out
   pub writes : (how : Ending) (write : Type 0) (old new : Option (List ℕ)) →
-      (MayWrite (status_of how) → Compares pair.first.basin pair.second.basin pair.first.series pair.second.series how write old new) →
+      (MayWrite (status_of how) →
+      Compares pair.first.basin pair.second.basin pair.first.series pair.second.series how write old new) →
       ComparisonWrites told files second (status_of how) old new
   writes how write old new compares =
-      by_told (told files.basin) (told second) (series_told told files.series) paired.loaded.from_basin paired.second_loaded.from_basin
+      by_told (told files.basin) (told second) (series_told told files.series) paired.loaded.from_basin
+      paired.second_loaded.from_basin
       paired.loaded.from_series paired.second_loaded.from_series
     where
-      by_told : (t o s : Option (List ℕ)) → IfSome t (IsBasinText pair.first.basin) → IfSome o (IsBasinText pair.second.basin) →
-          IfSome s (IsSeriesText pair.first.basin pair.first.series) → IfSome s (IsSeriesText pair.second.basin pair.second.series) →
-          IfSome t (λ x. IfSome o (λ y. IfSome s (λ z. MayWrite (status_of how) → WritesComparison (status_of how) x y z old new)))
+      by_told : (t o s : Option (List ℕ)) → IfSome t (IsBasinText pair.first.basin) →
+          IfSome o (IsBasinText pair.second.basin) →
+          IfSome s (IsSeriesText pair.first.basin pair.first.series) →
+          IfSome s (IsSeriesText pair.second.basin pair.second.series) →
+          IfSome t (λ x. IfSome o
+          (λ y. IfSome s (λ z. MayWrite (status_of how) → WritesComparison (status_of how) x y z old new)))
       by_told None o s first other series other_series = tt
       by_told (Some x) None s first other series other_series = tt
       by_told (Some x) (Some y) None first other series other_series = tt
@@ -229,11 +272,15 @@ module _ (told : Told) (files : Files) (second : List ℕ) (pair : Pair) (paired
           }
 
   -- and how often its searches push
-  pub pushes : (before now : ℕ) → now ≤ before + (run_pushes pair.first.basin + run_pushes pair.second.basin) → ComparisonPushes told files second before now
-  pushes before now l = by_told (told files.basin) (told second) paired.loaded.from_basin paired.second_loaded.from_basin
+  pub pushes : (before now : ℕ) → now ≤ before + (run_pushes pair.first.basin + run_pushes pair.second.basin) →
+      ComparisonPushes told files second before now
+  pushes before now l =
+      by_told (told files.basin) (told second) paired.loaded.from_basin paired.second_loaded.from_basin
     where
-      by_told : (t o : Option (List ℕ)) → IfSome t (IsBasinText pair.first.basin) → IfSome o (IsBasinText pair.second.basin) →
-          IfSome t (λ x. IfSome o (λ y. (first second : Basin) → Spells x first → Spells y second → now ≤ before + (run_pushes first + run_pushes second)))
+      by_told : (t o : Option (List ℕ)) → IfSome t (IsBasinText pair.first.basin) →
+          IfSome o (IsBasinText pair.second.basin) →
+          IfSome t (λ x. IfSome o (λ y. (first second : Basin) → Spells x first → Spells y second →
+          now ≤ before + (run_pushes first + run_pushes second)))
       by_told None o first other = tt
       by_told (Some x) None first other = tt
       by_told (Some x) (Some y) first other = λ b c spelled second_spelled.
@@ -242,10 +289,13 @@ module _ (told : Told) (files : Files) (second : List ℕ) (pair : Pair) (paired
           rw (← same, ← same_second) l
 
 -- no searches push where the files are refused
-pub no_pushes : (told : Told) (files : Files) (second : List ℕ) (before : ℕ) → ComparisonPushes told files second before before
+pub no_pushes : (told : Told) (files : Files) (second : List ℕ) (before : ℕ) →
+    ComparisonPushes told files second before before
 no_pushes told files second before = by_told (told files.basin) (told second)
   where
-    by_told : (t o : Option (List ℕ)) → IfSome t (λ x. IfSome o (λ y. (first second : Basin) → Spells x first → Spells y second → before ≤ before + (run_pushes first + run_pushes second)))
+    by_told : (t o : Option (List ℕ)) →
+        IfSome t (λ x. IfSome o (λ y. (first second : Basin) → Spells x first → Spells y second →
+        before ≤ before + (run_pushes first + run_pushes second)))
     by_told None o = tt
     by_told (Some x) None = tt
     by_told (Some x) (Some y) = λ b c spelled second_spelled. omega arith

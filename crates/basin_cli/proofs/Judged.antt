@@ -30,7 +30,8 @@ use Rattle.basin_cli.proofs.Answering.{answered_as}
 use Rattle.basin_cli.proofs.OneSeries.{one_basin, one_series, same_history}
 
 -- bytes on which the verdict is a yes are the text of a history
-pub is_text : (bytes s text : List ℕ) (b : Basin) (series : Inflows) → IsValidBasin b → AreSpelled bytes s b series → IsOk (text_verdict b series text) →
+pub is_text : (bytes s text : List ℕ) (b : Basin) (series : Inflows) → IsValidBasin b → AreSpelled bytes s b series →
+    IsOk (text_verdict b series text) →
     IsHistoryText bytes s text
 is_text bytes s text b series valid spelled good =
     let found = (yes_exactly_for_histories b series text valid spelled.fits).0 good in
@@ -45,15 +46,19 @@ is_text bytes s text b series valid spelled good =
     }
 
 -- and those that are refuted are the text of none
-pub is_no_text : (bytes s text : List ℕ) (b : Basin) (series : Inflows) (refuted : Refuted) → IsValidBasin b → AreSpelled bytes s b series →
+pub is_no_text : (bytes s text : List ℕ) (b : Basin) (series : Inflows) (refuted : Refuted) → IsValidBasin b →
+    AreSpelled bytes s b series →
     text_verdict b series text ≡ Err refuted → IsHistoryText bytes s text → ⊥
 is_no_text bytes s text b series refuted valid spelled bad is =
     let same : is.basin ≡ b = one_basin bytes is.basin b is.spelled.basin_spelled spelled.basin_spelled in
     let moved = subst (λ c. IsHistory c is.series is.records) same is.history in
     let told = subst (λ c. text ≡ text_bytes c is.records) same is.text in
     let series_told = subst (λ c. SpellsSeries c s is.series) same is.spelled.series_spelled in
-    let history = same_history b is.series series is.records valid (one_series b s is.series series series_told spelled.series_spelled) moved in
-    never (text_verdict b series text) bad ((yes_exactly_for_histories b series text valid spelled.fits).1 (is.records, history, told))
+    let history =
+    same_history b is.series series is.records valid
+    (one_series b s is.series series series_told spelled.series_spelled) moved in
+    never (text_verdict b series text) bad
+    ((yes_exactly_for_histories b series text valid spelled.fits).1 (is.records, history, told))
   where
     never : (verdict : Result (List Item) Refuted) → verdict ≡ Err refuted → IsOk verdict → ⊥
     never (Ok items) e good = cc
@@ -62,7 +67,8 @@ is_no_text bytes s text b series refuted valid spelled bad is =
 -- Behind the files of a command.
 
 -- what a file without a fault spells is valid
-pub spelled_by : (bytes s : List ℕ) (b : Basin) (series : Inflows) → IsSeriesOf b series → IsBasinText b bytes → IsSeriesText b series s →
+pub spelled_by : (bytes s : List ℕ) (b : Basin) (series : Inflows) → IsSeriesOf b series → IsBasinText b bytes →
+    IsSeriesText b series s →
     AreSpelled bytes s b series
 spelled_by bytes s b series fits basin_text series_text = record {
   basin_spelled = basin_text.spelled;
@@ -74,12 +80,14 @@ spelled_by bytes s b series fits basin_text series_text = record {
     valid : ((c : Basin) × Spells bytes c × IsValidBasin c) → IsValidBasin b
     valid found = subst IsValidBasin (one_basin bytes found.0 b found.1 basin_text.spelled) found.2
 
-pub good_series : (bytes s : List ℕ) (b : Basin) (series : Inflows) → IsBasinText b bytes → IsSeriesText b series s → IsGoodSeries bytes s
+pub good_series : (bytes s : List ℕ) (b : Basin) (series : Inflows) → IsBasinText b bytes → IsSeriesText b series s →
+    IsGoodSeries bytes s
 good_series bytes s b series basin_text series_text =
     record { basin = b; spelled = basin_text.spelled; within = series_text.within; sound = series_text.sound }
 
 -- what follows for told bytes from what is known of them holds as far as they are told
-pub behind_told : (t o r : Option (List ℕ)) (b : Basin) (series : Inflows) (Q : List ℕ → Type 0) (P : List ℕ → List ℕ → List ℕ → Type 0) →
+pub behind_told : (t o r : Option (List ℕ)) (b : Basin) (series : Inflows) (Q : List ℕ → Type 0) (P : List ℕ → List ℕ →
+    List ℕ → Type 0) →
     IsSeriesOf b series → IfSome t (IsBasinText b) → IfSome o (IsSeriesText b series) → IfSome r Q →
     ((bytes s text : List ℕ) → AreSpelled bytes s b series → Q text → P bytes s text) →
     IfSome t (λ bytes. IsGoodBasin bytes × IfSome o (λ s. IsGoodSeries bytes s × IfSome r (P bytes s)))
@@ -96,7 +104,8 @@ behind_told (Some bytes) (Some s) (Some text) b series Q P fits from_basin from_
 )
 
 -- what holds of the bytes that are read holds as far as they are told
-pub behind : (t o r : Option (List ℕ)) (b : Basin) (series : Inflows) (text : List ℕ) (P : List ℕ → List ℕ → List ℕ → Type 0) → IsSeriesOf b series →
+pub behind : (t o r : Option (List ℕ)) (b : Basin) (series : Inflows) (text : List ℕ) (P : List ℕ → List ℕ → List ℕ →
+    Type 0) → IsSeriesOf b series →
     IfSome t (IsBasinText b) → IfSome o (IsSeriesText b series) → IfSome r (λ bytes. text ≡ bytes) →
     ((bytes s : List ℕ) → AreSpelled bytes s b series → P bytes s text) →
     IfSome t (λ bytes. IsGoodBasin bytes × IfSome o (λ s. IsGoodSeries bytes s × IfSome r (P bytes s)))
@@ -104,31 +113,37 @@ behind t o r b series text P fits from_basin from_series is holds =
     behind_told t o r b series (λ bytes. text ≡ bytes) P fits from_basin from_series is
     (λ bytes s told spelled same. subst (P bytes s) same (holds bytes s spelled))
 
-pub accepted : (t o : Option (List ℕ)) (b : Basin) (series : Inflows) → IfSome t (IsBasinText b) → IfSome o (IsSeriesText b series) →
+pub accepted : (t o : Option (List ℕ)) (b : Basin) (series : Inflows) → IfSome t (IsBasinText b) →
+    IfSome o (IsSeriesText b series) →
     IfSome t (λ bytes. IsGoodBasin bytes × IfSome o (IsGoodSeries bytes))
 accepted None o b series from_basin from_series = tt
 accepted (Some bytes) None b series from_basin from_series = (from_basin.good, tt)
-accepted (Some bytes) (Some s) b series from_basin from_series = (from_basin.good, good_series bytes s b series from_basin from_series)
+accepted (Some bytes) (Some s) b series from_basin from_series =
+    (from_basin.good, good_series bytes s b series from_basin from_series)
 
 -- The answer to a result, which is read as it is checked.
 
 -- how a check ends whose answer is told
-pub answer_ends : (b : Basin) (series : Inflows) (told : Option (List ℕ)) (answer : Result ℕ Refuted) (how : Ending) (read write : Type 0) →
+pub answer_ends : (b : Basin) (series : Inflows) (told : Option (List ℕ)) (answer : Result ℕ Refuted) (how : Ending)
+    (read write : Type 0) →
     IsAnswerTo b series told answer → EndsAnswer answer how write → EndsChecking b series told how read write
 answer_ends b series told answer ending.WriteFault read write is h = h
 answer_ends b series told answer other read write is h =
     subst (λ how. EndsChecking b series told how read write) (sym h) (by_answer answer is)
   where
-    yes : (o : Option (List ℕ)) (months : ℕ) → IsAnswerTo b series o (Ok months) → IfSome o (λ text. IsOk (text_verdict b series text))
+    yes : (o : Option (List ℕ)) (months : ℕ) → IsAnswerTo b series o (Ok months) →
+        IfSome o (λ text. IsOk (text_verdict b series text))
     yes None months is = tt
     yes (Some text) months is = is.0
 
-    by_answer : (a : Result ℕ Refuted) → IsAnswerTo b series told a → EndsChecking b series told (ending_of a) read write
+    by_answer : (a : Result ℕ Refuted) → IsAnswerTo b series told a →
+        EndsChecking b series told (ending_of a) read write
     by_answer (Ok months) is = yes told months is
     by_answer (Err refuted) is = is
 
 -- it may write
-pub answer_writes : (answer : Result ℕ Refuted) (how : Ending) (write : Type 0) → EndsAnswer answer how write → MayWrite (status_of how)
+pub answer_writes : (answer : Result ℕ Refuted) (how : Ending) (write : Type 0) → EndsAnswer answer how write →
+    MayWrite (status_of how)
 answer_writes answer ending.WriteFault write h = tt
 answer_writes answer other write h = subst (λ how. MayWrite (status_of how)) (sym h) (by_answer answer)
   where
@@ -137,15 +152,18 @@ answer_writes answer other write h = subst (λ how. MayWrite (status_of how)) (s
     by_answer (Err refuted) = tt
 
 -- and what is told of it
-pub answer_leaves : (b : Basin) (series : Inflows) (told : Option (List ℕ)) (answer : Result ℕ Refuted) (how : Ending) (old new : Option (List ℕ)) →
+pub answer_leaves : (b : Basin) (series : Inflows) (told : Option (List ℕ)) (answer : Result ℕ Refuted) (how : Ending)
+    (old new : Option (List ℕ)) →
     IsAnswerTo b series told answer → Leaves (status_of how) (answered answer) old new →
-    IfSome told (λ text. MayWrite (status_of how) → Leaves (status_of how) (answer_line b (text_verdict b series text)) old new)
+    IfSome told (λ text. MayWrite (status_of how) →
+    Leaves (status_of how) (answer_line b (text_verdict b series text)) old new)
 answer_leaves b series None answer how old new is left = tt
 answer_leaves b series (Some text) answer how old new is left = λ may.
     subst (λ line. Leaves (status_of how) line old new) (answered_as b answer (text_verdict b series text) is) left
 
 -- a failure that came later
-pub ends_later : (b : Basin) (series : Inflows) (told : Option (List ℕ)) (how : Ending) (read later write : Type 0) → (read → later) →
+pub ends_later : (b : Basin) (series : Inflows) (told : Option (List ℕ)) (how : Ending) (read later write : Type 0) →
+    (read → later) →
     EndsChecking b series told how read write → EndsChecking b series told how later write
 ends_later b series told ending.Done read later write since h = h
 ends_later b series told (ending.Refuted refuted) read later write since h = h
@@ -155,14 +173,19 @@ ends_later b series told ending.OutOfMemory read later write since h = tt
 ends_later b series told other read later write since h = absurd h
 
 -- the cause of how a check ends
-pub checking_cause : (told : Told) (files : Files) (result : List ℕ) (b : Basin) (series : Inflows) (how : Ending) (read write : Type 0) →
-    IsValidBasin b → IsSeriesOf b series → AreLoaded told files b series → EndsChecking b series (told result) how read write →
+pub checking_cause : (told : Told) (files : Files) (result : List ℕ) (b : Basin) (series : Inflows) (how : Ending)
+    (read write : Type 0) →
+    IsValidBasin b → IsSeriesOf b series → AreLoaded told files b series →
+    EndsChecking b series (told result) how read write →
     HasCheckingCause files result how told read write
 checking_cause told files result b series ending.Done read write valid fits loaded ends =
-    behind_told (told files.basin) (series_told told files.series) (told result) b series (λ text. IsOk (text_verdict b series text)) IsHistoryText
-    fits loaded.from_basin loaded.from_series ends (λ bytes s text spelled good. is_text bytes s text b series valid spelled good)
+    behind_told (told files.basin) (series_told told files.series) (told result) b series
+    (λ text. IsOk (text_verdict b series text)) IsHistoryText
+    fits loaded.from_basin loaded.from_series ends
+    (λ bytes s text spelled good. is_text bytes s text b series valid spelled good)
 checking_cause told files result b series (ending.Refuted refuted) read write valid fits loaded ends =
-    behind_told (told files.basin) (series_told told files.series) (told result) b series (λ text. text_verdict b series text ≡ Err refuted)
+    behind_told (told files.basin) (series_told told files.series) (told result) b series
+    (λ text. text_verdict b series text ≡ Err refuted)
     (IsRefuted refuted) fits loaded.from_basin loaded.from_series ends
     (λ bytes s text spelled bad. record {
       basin = b;
@@ -179,28 +202,37 @@ checking_cause told files result b series ending.OutOfMemory read write valid fi
 checking_cause told files result b series other read write valid fits loaded ends = absurd ends
 
 -- what a check leaves on out
-pub of_told : (t o r : Option (List ℕ)) (b : Basin) (series : Inflows) (Q : List ℕ → Type 0) (P : List ℕ → List ℕ → List ℕ → Type 0) →
+pub of_told : (t o r : Option (List ℕ)) (b : Basin) (series : Inflows) (Q : List ℕ → Type 0) (P : List ℕ → List ℕ →
+    List ℕ → Type 0) →
     IsSeriesOf b series → IfSome t (IsBasinText b) → IfSome o (IsSeriesText b series) → IfSome r Q →
-    ((bytes s text : List ℕ) → AreSpelled bytes s b series → Q text → P bytes s text) → IfSome t (λ bytes. IfSome o (λ s. IfSome r (P bytes s)))
+    ((bytes s text : List ℕ) → AreSpelled bytes s b series → Q text → P bytes s text) →
+    IfSome t (λ bytes. IfSome o (λ s. IfSome r (P bytes s)))
 of_told None o r b series Q P fits from_basin from_series known holds = tt
 of_told (Some bytes) None r b series Q P fits from_basin from_series known holds = tt
 of_told (Some bytes) (Some s) None b series Q P fits from_basin from_series known holds = tt
 of_told (Some bytes) (Some s) (Some text) b series Q P fits from_basin from_series known holds =
     holds bytes s text (spelled_by bytes s b series fits from_basin from_series) known
 
-pub of_both : (t o r : Option (List ℕ)) (b : Basin) (series : Inflows) (text : List ℕ) (P : List ℕ → List ℕ → List ℕ → Type 0) → IsSeriesOf b series →
+pub of_both : (t o r : Option (List ℕ)) (b : Basin) (series : Inflows) (text : List ℕ) (P : List ℕ → List ℕ → List ℕ →
+    Type 0) → IsSeriesOf b series →
     IfSome t (IsBasinText b) → IfSome o (IsSeriesText b series) → IfSome r (λ bytes. text ≡ bytes) →
-    ((bytes s : List ℕ) → AreSpelled bytes s b series → P bytes s text) → IfSome t (λ bytes. IfSome o (λ s. IfSome r (P bytes s)))
+    ((bytes s : List ℕ) → AreSpelled bytes s b series → P bytes s text) →
+    IfSome t (λ bytes. IfSome o (λ s. IfSome r (P bytes s)))
 of_both t o r b series text P fits from_basin from_series is holds =
     of_told t o r b series (λ bytes. text ≡ bytes) P fits from_basin from_series is
     (λ bytes s told spelled same. subst (P bytes s) same (holds bytes s spelled))
 
-pub checking_writes : (told : Told) (files : Files) (result : List ℕ) (b : Basin) (series : Inflows) (how : Ending) (old new : Option (List ℕ)) →
+pub checking_writes : (told : Told) (files : Files) (result : List ℕ) (b : Basin) (series : Inflows) (how : Ending)
+    (old new : Option (List ℕ)) →
     IsSeriesOf b series → AreLoaded told files b series →
-    IfSome (told result) (λ text. MayWrite (status_of how) → Leaves (status_of how) (answer_line b (text_verdict b series text)) old new) →
-    OfBoth told files (λ bytes s. IfSome (told result) (λ r. MayWrite (status_of how) → WritesAnswer (status_of how) bytes s r old new))
+    IfSome (told result) (λ text. MayWrite (status_of how) →
+    Leaves (status_of how) (answer_line b (text_verdict b series text)) old new) →
+    OfBoth told files
+    (λ bytes s. IfSome (told result) (λ r. MayWrite (status_of how) →
+    WritesAnswer (status_of how) bytes s r old new))
 checking_writes told files result b series how old new fits loaded leaves =
     of_told (told files.basin) (series_told told files.series) (told result) b series
     (λ text. MayWrite (status_of how) → Leaves (status_of how) (answer_line b (text_verdict b series text)) old new)
-    (λ bytes s r. MayWrite (status_of how) → WritesAnswer (status_of how) bytes s r old new) fits loaded.from_basin loaded.from_series leaves
+    (λ bytes s r. MayWrite (status_of how) → WritesAnswer (status_of how) bytes s r old new) fits loaded.from_basin
+    loaded.from_series leaves
     (λ bytes s text spelled left may. record { basin = b; series = series; spelled = spelled; written = left may })

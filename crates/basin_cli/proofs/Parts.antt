@@ -1,5 +1,6 @@
 -- A result that is read in parts: what a checker was given so far, and what is answered at the end.
-use Rattle.std.proofs.Common.{◌≡◌, ℕ, ◌+◌, ◌<◌, ◌≤◌, ap, subst, sym, ◌∙◌, arith, List, [], ◌++◌, length, take, drop, Option, Some, None, append_assoc, take-append-drop}
+use Rattle.std.proofs.Common.{◌≡◌, ℕ, ◌+◌, ◌<◌, ◌≤◌, ap, subst, sym, ◌∙◌, arith, List, [], ◌++◌, length, take, drop}
+use Rattle.std.proofs.Common.{Option, Some, None, append_assoc, take-append-drop}
 use Rattle.std.specs.Prelude.{IfSome, Result, Err}
 use Rattle.std.proofs.Math.Seq.{take-add}
 use Rattle.std.proofs.lemmas.List.{take_all}
@@ -20,9 +21,11 @@ first_fed None c stands = tt
 first_fed (Some whole) c stands = record { within = omega arith; stands = stands }
 
 -- with a part more
-pub next_fed : (told : Option (List ℕ)) (c after : PiecesSeen) (from count : ℕ) (old new : List ℕ) → 0 < count → IfSome told (IsFed c from) →
+pub next_fed : (told : Option (List ℕ)) (c after : PiecesSeen) (from count : ℕ) (old new : List ℕ) → 0 < count →
+    IfSome told (IsFed c from) →
     IfSome told (λ whole. IsPart whole from old new count) →
-    ((text : List ℕ) → StandsForText c text → StandsForText after (text ++ take count new)) → IfSome told (IsFed after (from + count))
+    ((text : List ℕ) → StandsForText c text → StandsForText after (text ++ take count new)) →
+    IfSome told (IsFed after (from + count))
 next_fed None c after from count old new some fed part stands = tt
 next_fed (Some whole) c after from count old new some fed part stands = record {
   within = part.there some;
@@ -32,9 +35,11 @@ next_fed (Some whole) c after from count old new some fed part stands = record {
 }
 
 -- A part is refused, and so is the whole, whatever follows.
-pub refused_whole : (told : Option (List ℕ)) (c : PiecesSeen) (from count : ℕ) (old new : List ℕ) (e : Refuted) → IfSome told (IsFed c from) →
+pub refused_whole : (told : Option (List ℕ)) (c : PiecesSeen) (from count : ℕ) (old new : List ℕ) (e : Refuted) →
+    IfSome told (IsFed c from) →
     IfSome told (λ whole. IsPart whole from old new count) →
-    ((text : List ℕ) → StandsForText c text → (rest : List ℕ) → text_verdict c.basin c.series (text ++ take count new ++ rest) ≡ Err e) →
+    ((text : List ℕ) → StandsForText c text → (rest : List ℕ) →
+    text_verdict c.basin c.series (text ++ take count new ++ rest) ≡ Err e) →
     IsAnswerTo c.basin c.series told (Err e)
 refused_whole None c from count old new e fed part refused = tt
 refused_whole (Some whole) c from count old new e fed part refused =
@@ -51,11 +56,13 @@ refused_whole (Some whole) c from count old new e fed part refused =
         ∙ take-append-drop from whole))
 
 -- No byte is left.
-pub finished_whole : (told : Option (List ℕ)) (c : PiecesSeen) (from count : ℕ) (old new : List ℕ) (answer : Result ℕ Refuted) → count ≡ 0 →
+pub finished_whole : (told : Option (List ℕ)) (c : PiecesSeen) (from count : ℕ) (old new : List ℕ)
+    (answer : Result ℕ Refuted) → count ≡ 0 →
     0 < length old → IfSome told (IsFed c from) → IfSome told (λ whole. IsPart whole from old new count) →
     ((text : List ℕ) → StandsForText c text → IsAnswer c.basin answer (text_verdict c.basin c.series text)) →
     IsAnswerTo c.basin c.series told answer
 finished_whole None c from count old new answer none room fed part answers = tt
 finished_whole (Some whole) c from count old new answer none room fed part answers =
-    subst (λ text. IsAnswer c.basin answer (text_verdict c.basin c.series text)) (take_all from whole (part.ended none room))
+    subst (λ text. IsAnswer c.basin answer (text_verdict c.basin c.series text))
+    (take_all from whole (part.ended none room))
     (answers (take from whole) fed.stands)

@@ -10,32 +10,37 @@ use Rattle.basin_cli.specs.declared.ending.File.TheVariants as file
 use Rattle.basin_cli.specs.declared.ending.SecondFinding.TheVariants as of_second
 use Rattle.basin_cli.specs.Bytes.{IsGoodBasin, IsTooLong, Told, file_limit, series_told}
 use Rattle.basin_cli.specs.Command.{Files}
-use Rattle.basin_cli.specs.Comparison.{HaveSameMonths, IsGoodSecond, StopsComparing, BehindFirst, BehindBoth, ComparisonWrites, WritesComparison}
+use Rattle.basin_cli.specs.Comparison.{HaveSameMonths, IsGoodSecond, StopsComparing, BehindFirst, BehindBoth}
+use Rattle.basin_cli.specs.Comparison.{ComparisonWrites, WritesComparison}
 use Rattle.basin_cli.specs.Ending.{status_of}
 use Rattle.basin_cli.specs.Out.{MayWrite}
 use Rattle.basin_cli.specs.Pairs.{BothSeriesEnd, BothSeriesReadEnd, IsOtherRun}
 use Rattle.basin_cli.specs.Series.{IsBasinText}
 
 -- bytes that were read are refused as they are
-both_read : (first second : Basin) (bytes : List ℕ) (name : Option (List ℕ)) (read : Type 0) (how : Ending) → length bytes ≤ file_limit →
+both_read : (first second : Basin) (bytes : List ℕ) (name : Option (List ℕ)) (read : Type 0) (how : Ending) →
+    length bytes ≤ file_limit →
     BothSeriesEnd first second bytes how → BothSeriesReadEnd first second name (Some bytes) read how
 both_read first second bytes name read (ending.SeriesRefused finding) within h = (within, h)
 both_read first second bytes name read (ending.SecondRefused (of_second.Series finding)) within h = (within, h)
 both_read first second bytes name read ending.OutOfMemory within h = tt
 both_read first second bytes name read how within h = absurd h
 
-pub both_read_result : (first second : Basin) (bytes : List ℕ) (name : Option (List ℕ)) (read : Type 0) (r : Result (Inflows × Inflows) Ending) → length bytes ≤ file_limit →
+pub both_read_result : (first second : Basin) (bytes : List ℕ) (name : Option (List ℕ)) (read : Type 0)
+    (r : Result (Inflows × Inflows) Ending) → length bytes ≤ file_limit →
     IfErr r (BothSeriesEnd first second bytes) → IfErr r (BothSeriesReadEnd first second name (Some bytes) read)
 both_read_result first second bytes name read (Ok both) within h = tt
 both_read_result first second bytes name read (Err how) within h = both_read first second bytes name read how within h
 
 -- what is known of the first file and of the second together
-joined : (t : Option (List ℕ)) (A : List ℕ → Type 0) (B : List ℕ → Type 0) → ((bytes : List ℕ) → A bytes → B bytes) → IfSome t A → IfSome t B
+joined : (t : Option (List ℕ)) (A : List ℕ → Type 0) (B : List ℕ → Type 0) → ((bytes : List ℕ) → A bytes → B bytes) →
+    IfSome t A → IfSome t B
 joined None A B f h = tt
 joined (Some bytes) A B f h = f bytes h
 
 -- a later shelf tells the same, and a count that rose since then rose since the beginning
-same_series : (told later : Told) (name : Option (List ℕ)) → ((n : List ℕ) → later n ≡ told n) → series_told later name ≡ series_told told name
+same_series : (told later : Told) (name : Option (List ℕ)) → ((n : List ℕ) → later n ≡ told n) →
+    series_told later name ≡ series_told told name
 same_series told later None same = refl
 same_series told later (Some name) same = same name
 
@@ -52,11 +57,16 @@ pub rose_since : (start mid now : ℕ) → start ≤ mid → Rose mid now → Ro
 rose_since start mid now l rose = omega arith
 
 module _ (files : Files) (second : List ℕ) (told : Told) (read : Type 0) where
-  module _ (b c : Basin) (first_text : IfSome (told files.basin) (IsBasinText b)) (second_text : IfSome (told second) (IsBasinText c)) where
-    both_told : (G : List ℕ → List ℕ → Type 0) → ((bytes other : List ℕ) → IsBasinText b bytes → IsBasinText c other → G bytes other) → BehindFirst told files second G
+  module _ (b c : Basin) (first_text : IfSome (told files.basin) (IsBasinText b))
+      (second_text : IfSome (told second) (IsBasinText c)) where
+    both_told : (G : List ℕ → List ℕ → Type 0) →
+        ((bytes other : List ℕ) → IsBasinText b bytes → IsBasinText c other → G bytes other) →
+        BehindFirst told files second G
     both_told G f =
         joined (told files.basin) (IsBasinText b) (λ bytes. IsGoodBasin bytes × IfSome (told second) (G bytes))
-        (λ bytes is. (is.good, joined (told second) (IsBasinText c) (G bytes) (λ other also. f bytes other is also) second_text)) first_text
+        (λ bytes is.
+        (is.good, joined (told second) (IsBasinText c) (G bytes) (λ other also. f bytes other is also) second_text))
+        first_text
 
     good_second : HaveSameMonths b c → BehindFirst told files second IsGoodSecond
     good_second same = both_told IsGoodSecond (λ bytes other text other_text. record {
@@ -84,8 +94,10 @@ module _ (files : Files) (second : List ℕ) (told : Told) (read : Type 0) where
           },
         )))
 
-    behind_both : (Q : List ℕ → List ℕ → List ℕ → Type 0) (S : List ℕ → Type 0) → HaveSameMonths b c → IfSome (series_told told files.series) S →
-        ((bytes other series : List ℕ) → IsBasinText b bytes → IsBasinText c other → S series → Q bytes other series) → BehindBoth told files second Q
+    behind_both : (Q : List ℕ → List ℕ → List ℕ → Type 0) (S : List ℕ → Type 0) → HaveSameMonths b c →
+        IfSome (series_told told files.series) S →
+        ((bytes other series : List ℕ) → IsBasinText b bytes → IsBasinText c other → S series → Q bytes other series) →
+        BehindBoth told files second Q
     behind_both Q S same h f =
         both_told _ (λ bytes other text other_text. (
           record {
@@ -98,12 +110,22 @@ module _ (files : Files) (second : List ℕ) (told : Told) (read : Type 0) where
               same = same;
             };
           },
-          joined (series_told told files.series) S (Q bytes other) (λ series is. f bytes other series text other_text is) h,
+          joined (series_told told files.series) S (Q bytes other)
+              (λ series is. f bytes other series text other_text is) h,
         ))
 
-    series_stops : (how : Ending) → HaveSameMonths b c → BothSeriesReadEnd b c files.series (series_told told files.series) read how → StopsComparing files second how told read
+    series_stops : (how : Ending) → HaveSameMonths b c →
+        BothSeriesReadEnd b c files.series (series_told told files.series) read how →
+        StopsComparing files second how told read
     series_stops (ending.SeriesRefused finding) same h =
-        behind_both _ _ same h (λ bytes other series text other_text is. record { basin = b; spelled = text.spelled; within = is.0; first = is.1 })
+        behind_both _ _ same h
+        (λ bytes other series text other_text is. record {
+          basin = b;
+          spelled = text.spelled;
+          within = is.0;
+          first =
+              is.1;
+        })
     series_stops (ending.SecondRefused (of_second.Series finding)) same h =
         behind_both _ _ same h (λ bytes other series text other_text is. (
           record { basin = b; spelled = text.spelled; within = is.0; sound = is.1.0 },
@@ -114,15 +136,19 @@ module _ (files : Files) (second : List ℕ) (told : Told) (read : Type 0) where
     series_stops ending.OutOfMemory same h = tt
     series_stops how same h = absurd h
 
-    pub series_stops_later : (later : Told) (since : Type 0) (how : Ending) → ((n : List ℕ) → later n ≡ told n) → (since → read) → HaveSameMonths b c →
-        BothSeriesReadEnd b c files.series (series_told later files.series) since how → StopsComparing files second how told read
+    pub series_stops_later : (later : Told) (since : Type 0) (how : Ending) → ((n : List ℕ) → later n ≡ told n) →
+        (since → read) → HaveSameMonths b c →
+        BothSeriesReadEnd b c files.series (series_told later files.series) since how →
+        StopsComparing files second how told read
     series_stops_later later since how same_told rose same h =
         series_stops how same
         (both_since b c files.series (series_told told files.series) since read how rose
-        (subst (λ (o : Option (List ℕ)). BothSeriesReadEnd b c files.series o since how) (same_series told later files.series same_told) h))
+        (subst (λ (o : Option (List ℕ)). BothSeriesReadEnd b c files.series o since how)
+        (same_series told later files.series same_told) h))
 
 -- where a file is refused, nothing may be written
-never_writes : (told : Told) (files : Files) (second : List ℕ) (how : Ending) (read : Type 0) → StopsComparing files second how told read → MayWrite (status_of how) → ⊥
+never_writes : (told : Told) (files : Files) (second : List ℕ) (how : Ending) (read : Type 0) →
+    StopsComparing files second how told read → MayWrite (status_of how) → ⊥
 never_writes told files second (ending.BasinRefused finding) read h may = may
 never_writes told files second (ending.SeriesRefused finding) read h may = may
 never_writes told files second (ending.SecondRefused (of_second.Basin finding)) read h may = may
@@ -133,12 +159,16 @@ never_writes told files second (ending.InputTooLong file) read h may = may
 never_writes told files second ending.OutOfMemory read h may = may
 never_writes told files second how read h may = h
 
-pub refused_writes : (told : Told) (files : Files) (second : List ℕ) (how : Ending) (read : Type 0) (old new : Option (List ℕ)) →
+pub refused_writes : (told : Told) (files : Files) (second : List ℕ) (how : Ending) (read : Type 0)
+    (old new : Option (List ℕ)) →
     StopsComparing files second how told read → ComparisonWrites told files second (status_of how) old new
-refused_writes told files second how read old new h = by_told (told files.basin) (told second) (series_told told files.series)
+refused_writes told files second how read old new h =
+    by_told (told files.basin) (told second) (series_told told files.series)
   where
     by_told : (t o s : Option (List ℕ)) →
-        IfSome t (λ bytes. IfSome o (λ other. IfSome s (λ series. MayWrite (status_of how) → WritesComparison (status_of how) bytes other series old new)))
+        IfSome t (λ bytes. IfSome o
+        (λ other. IfSome s (λ series. MayWrite (status_of how) →
+        WritesComparison (status_of how) bytes other series old new)))
     by_told None o s = tt
     by_told (Some bytes) None s = tt
     by_told (Some bytes) (Some other) None = tt

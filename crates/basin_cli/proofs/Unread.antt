@@ -11,7 +11,8 @@ use Rattle.basin_cli.specs.declared.ending.SecondFinding.TheVariants as of_secon
 abbrev AsksNot : Files → List ℕ → (List ℕ → Option ℕ) → (List ℕ → Option ℕ) → Type 0
 AsksNot files result old new = result ≢ files.basin → Some result ≢ files.series → new result ≡ old result
 
-pub unread : (files : Files) (result : List ℕ) (old new : List ℕ → Option ℕ) (how : Ending) → (how ≡ ending.OutOfMemory → AsksNot files result old new) →
+pub unread : (files : Files) (result : List ℕ) (old new : List ℕ → Option ℕ) (how : Ending) →
+    (how ≡ ending.OutOfMemory → AsksNot files result old new) →
     IsUnread (Some (check files result)) (status_of how) old new
 unread files result old new ending.OutOfMemory not = not refl
 unread files result old new ending.Done not = tt

@@ -1,5 +1,6 @@
 -- A text is written month by month.
-use Rattle.std.proofs.Common.{◌≡◌, ℕ, ◌+◌, ◌-◌, ◌*◌, ◌<◌, ◌≤◌, refl, sym, ap, ◌∙◌, subst, arith, inl, inr, List, [], ◌∷◌, ◌++◌, length, take, drop, Option, Some, Result, Ok, Err, length-append, append_assoc}
+use Rattle.std.proofs.Common.{◌≡◌, ℕ, ◌+◌, ◌-◌, ◌*◌, ◌<◌, ◌≤◌, refl, sym, ap, ◌∙◌, subst, arith, inl, inr, List, []}
+use Rattle.std.proofs.Common.{◌∷◌, ◌++◌, length, take, drop, Option, Some, Result, Ok, Err, length-append, append_assoc}
 use Rattle.std.specs.Prelude.{slice_get, OnOk, OnErr}
 use Rattle.std.specs.Io.KnownBytes.{Appends}
 use Rattle.std.proofs.lemmas.List.{take-append-drop, take-append-le}
@@ -21,7 +22,8 @@ use Rattle.water_model.proofs.Sheltered.{histories_leave_nothing, called_rights_
 use Rattle.month_fold.specs.Runs.{RunSeen, StandsFor, run_pushes}
 use Rattle.result_text.specs.Begun.{begun_bytes}
 use Rattle.result_text.specs.Range.{FitsText}
-use Rattle.result_text.proofs.Whole.{FitsText-follows, Puts-head, Puts-month, Puts-tail, begun-head, begun-more, text-begun}
+use Rattle.result_text.proofs.Whole.{FitsText-follows, Puts-head, Puts-month, Puts-tail, begun-head, begun-more}
+use Rattle.result_text.proofs.Whole.{text-begun}
 use Rattle.result_text.proofs.Puts.{Appends-then, PutsFront}
 use Rattle.water_edge.specs.Edge.{Puts}
 use Rattle.basin_cli.specs.Written.{IsWritten, IsWrittenRun, StopsWriting}
@@ -35,20 +37,26 @@ last_is [] y = refl
 last_is (x ∷ xs) y = last_is xs y
 
 -- the last of some months follows those before it
-last_follows : (run : RunSeen) (records : List MonthRecord) (m : MonthRecord) → StandsFor run (records ++ m ∷ []) → Follows run.basin run.series records m
+last_follows : (run : RunSeen) (records : List MonthRecord) (m : MonthRecord) → StandsFor run (records ++ m ∷ []) →
+    Follows run.basin run.series records m
 last_follows run records m stands =
-    subst (λ (before : List MonthRecord). Follows run.basin run.series before m) (take-append-le (length records) records (m ∷ []) (omega arith) ∙ take-length records)
+    subst (λ (before : List MonthRecord). Follows run.basin run.series before m)
+    (take-append-le (length records) records (m ∷ []) (omega arith) ∙ take-length records)
     (stands.partial.each (length records) m (last_is records m))
 
 -- so its lines can be written
-pub last_fits : (b : Basin) (run : RunSeen) (records : List MonthRecord) (m : MonthRecord) → IsValidBasin b → run.basin ≡ b →
+pub last_fits : (b : Basin) (run : RunSeen) (records : List MonthRecord) (m : MonthRecord) → IsValidBasin b →
+    run.basin ≡ b →
     StandsFor run (records ++ m ∷ []) → FitsText b m
 last_fits b run records m valid same stands =
-    subst (λ c. FitsText c m) same (FitsText-follows run.basin run.series records m (subst IsValidBasin (sym same) valid) (last_follows run records m stands)
+    subst (λ c. FitsText c m) same
+    (FitsText-follows run.basin run.series records m (subst IsValidBasin (sym same) valid)
+    (last_follows run records m stands)
     (omega (arith, stands.partial.within, length-append records (m ∷ []))))
 
 -- all months of a run keep the priority of rights
-pub whole_run : (b : Basin) (series : Inflows) (run : RunSeen) (records : List MonthRecord) → IsValidBasin b → run.basin ≡ b → run.series ≡ series →
+pub whole_run : (b : Basin) (series : Inflows) (run : RunSeen) (records : List MonthRecord) → IsValidBasin b →
+    run.basin ≡ b → run.series ≡ series →
     StandsFor run records → run.done ≡ b.months → KeepsPriority b series records
 whole_run b series run records valid same fits stands done =
     let partial : IsPartialHistory b series records = rw (← same, ← fits) stands.partial in
@@ -57,11 +65,13 @@ whole_run b series run records valid same fits stands done =
       history = all_months b series records partial (omega (arith, stands.done, done));
       greatest = λ i m at. cuts_make_greatest b series records partial i m at;
       reaches = reaches;
-      no_more = λ i m at q plan right l serves. nobody_could_get_more b series records partial i m at q plan right l serves;
+      no_more =
+          λ i m at q plan right l serves. nobody_could_get_more b series records partial i m at q plan right l serves;
       no_help = λ i m at right l cut is supply' want' q plan agrees serves.
           nothing_outside_helps b series records partial i m at right l cut is supply' want' q plan agrees serves;
       juniors = λ i m at right l cut is. histories_leave_nothing b series records partial i m at right l cut is;
-      called = λ i m at right caller l calls. called_rights_get_nothing b series records partial i m at right caller l calls;
+      called = λ i m at right caller l calls. called_rights_get_nothing b series records partial i m at right caller l
+          calls;
       balanced = balanced b series records valid partial;
       covered = λ right i l. covered b (deliveries_of records) right i valid l;
     }
@@ -72,7 +82,8 @@ pub stood_done : (run next : RunSeen) (records : List MonthRecord) (m : MonthRec
 stood_done run next records m was is = omega (arith, was.done, is.done, length-append records (m ∷ []))
 
 -- the lines of one month more
-month_written : (b : Basin) (run : RunSeen) (records : List MonthRecord) (m : MonthRecord) (start mid now : Option (List ℕ)) →
+month_written : (b : Basin) (run : RunSeen) (records : List MonthRecord) (m : MonthRecord)
+    (start mid now : Option (List ℕ)) →
     run.basin ≡ b → Appends start mid (begun_bytes b records) → StandsFor run (records ++ m ∷ []) →
     Appends mid now (flat_map (whole_line b) (items_of_month b m)) → IsWritten b run start now
 month_written b run records m start mid now same text stands puts = record {
@@ -119,7 +130,8 @@ stopped (Ok u) P p = tt
 stopped (Err x) P p = p
 
 -- a front of the second piece stands behind the first, whatever goes on with it
-front_behind : (start mid now : Option (List ℕ)) (a lines rest : List ℕ) (k : ℕ) → k ≤ length lines → Appends start mid a →
+front_behind : (start mid now : Option (List ℕ)) (a lines rest : List ℕ) (k : ℕ) → k ≤ length lines →
+    Appends start mid a →
     Appends mid now (take k lines) → Appends start now (take (length a + k) ((a ++ lines) ++ rest))
 front_behind start mid now a lines rest k few before behind =
     rw (
@@ -128,7 +140,8 @@ front_behind start mid now a lines rest k few before behind =
     ) (Appends-then start mid now a (take k lines) before behind)
 
 -- the months before the last are as many as stand before it
-all_but_last : (records : List MonthRecord) (m : MonthRecord) → take (length (records ++ m ∷ []) - 1) (records ++ m ∷ []) ≡ records
+all_but_last : (records : List MonthRecord) (m : MonthRecord) →
+    take (length (records ++ m ∷ []) - 1) (records ++ m ∷ []) ≡ records
 all_but_last records m =
     let count : length (records ++ m ∷ []) - 1 ≡ length records = omega (arith, length-append records (m ∷ [])) in
     rw count (take-append-le (length records) records (m ∷ []) (omega arith) ∙ take-length records)
@@ -146,7 +159,8 @@ month_stops b series run records m start mid now before after same fits stands t
   whole = λ _. rw (all_but_last records m) (omega arith);
   last = inr (rw (begun-more b records m) (omega (arith, front.1, length-append (begun_bytes b records) lines)));
   text = rw (text-begun b (records ++ m ∷ []), begun-more b records m)
-      (front_behind start mid now (begun_bytes b records) lines (flat_map (whole_line b) (items_of_tail b)) front.0 front.1 text
+      (front_behind start mid now (begun_bytes b records) lines (flat_map (whole_line b) (items_of_tail b)) front.0
+      front.1 text
       front.2);
   pushes = rw (← stands.done) pushes;
 }
@@ -158,15 +172,18 @@ month_stops b series run records m start mid now before after same fits stands t
 pub month_stopped : (b : Basin) (series : Inflows) (run : RunSeen) (records : List MonthRecord) (m : MonthRecord)
     (start mid now : Option (List ℕ)) (done at after : ℕ) → run.basin ≡ b → run.series ≡ series →
     StandsFor run (records ++ m ∷ []) → Appends start mid (begun_bytes b records) →
-    PutsFront mid now (flat_map (whole_line b) (items_of_month b m)) → run.done ≡ done + 1 → after ≤ at + month_pushes b →
+    PutsFront mid now (flat_map (whole_line b) (items_of_month b m)) → run.done ≡ done + 1 →
+    after ≤ at + month_pushes b →
     (before : ℕ) → at ≤ before + done * month_pushes b → StopsWriting b series start now before after
 month_stopped b series run records m start mid now done at after same fits stands text front next pushes before sofar =
     month_stops b series run records m start mid now before after same fits stands text front
     (rw next (omega (arith, add-mul done 1 (month_pushes b), sofar, pushes)))
 
 -- the lines of a month were put, or a front of them
-pub month_put : {E : Type 0} (b : Basin) (series : Inflows) (run : RunSeen) (records : List MonthRecord) (m : MonthRecord)
-    (start mid now : Option (List ℕ)) (r : Result (Unit {0}) E) (done at after : ℕ) → run.basin ≡ b → run.series ≡ series →
+pub month_put : {E : Type 0} (b : Basin) (series : Inflows) (run : RunSeen) (records : List MonthRecord)
+    (m : MonthRecord)
+    (start mid now : Option (List ℕ)) (r : Result (Unit {0}) E) (done at after : ℕ) → run.basin ≡ b →
+    run.series ≡ series →
     StandsFor run (records ++ m ∷ []) → Appends start mid (begun_bytes b records) →
     Puts mid now r (flat_map (whole_line b) (items_of_month b m)) → run.done ≡ done + 1 → after ≤ at + month_pushes b →
     OnOk r (IsWritten b run start now) ×
@@ -176,7 +193,8 @@ month_put b series run records m start mid now (Ok u) done at after same fits st
 month_put b series run records m start mid now (Err e) done at after same fits stands text puts next pushes =
     (tt, month_stopped b series run records m start mid now done at after same fits stands text puts next pushes)
 
-pub head_stops : (b : Basin) (series : Inflows) (run : RunSeen) (start now : Option (List ℕ)) (before : ℕ) → run.basin ≡ b →
+pub head_stops : (b : Basin) (series : Inflows) (run : RunSeen) (start now : Option (List ℕ)) (before : ℕ) →
+    run.basin ≡ b →
     run.series ≡ series → StandsFor run [] → PutsFront start now (flat_map (whole_line b) (items_of_head b)) →
     StopsWriting b series start now before before
 head_stops b series run start now before same fits stands front = record {
@@ -200,9 +218,12 @@ begun_grows b records n =
       ap (λ rs. length (begun_bytes b rs)) (sym (take-append-drop n records)),
       ap length (ap (flat_map (whole_line b)) (ap (λ items. items_of_head b ++ items)
           (flat_map-append (items_of_month b) (take n records) (drop n records))
-          ∙ sym (append_assoc (items_of_head b) (flat_map (items_of_month b) (take n records)) (flat_map (items_of_month b) (drop n records))))
-          ∙ flat_map-append (whole_line b) (items_of_head b ++ flat_map (items_of_month b) (take n records)) (flat_map (items_of_month b) (drop n records))),
-      length-append (begun_bytes b (take n records)) (flat_map (whole_line b) (flat_map (items_of_month b) (drop n records))),
+          ∙ sym (append_assoc (items_of_head b) (flat_map (items_of_month b) (take n records))
+          (flat_map (items_of_month b) (drop n records))))
+          ∙ flat_map-append (whole_line b) (items_of_head b ++ flat_map (items_of_month b) (take n records))
+          (flat_map (items_of_month b) (drop n records))),
+      length-append (begun_bytes b (take n records))
+          (flat_map (whole_line b) (flat_map (items_of_month b) (drop n records))),
     )
 
 pub tail_stops : (b : Basin) (series : Inflows) (run : RunSeen) (start mid now : Option (List ℕ)) (before after : ℕ) →
@@ -227,7 +248,8 @@ tail_stops b series run start mid now before after fits all written front pushes
 -- the tail was put, or a front of it
 pub tail_put : {E : Type 0} (b : Basin) (series : Inflows) (run : RunSeen) (start mid now : Option (List ℕ))
     (r : Result (Unit {0}) E) (before after : ℕ) → IsValidBasin b → run.series ≡ series → run.done ≡ b.months →
-    IsWritten b run start mid → Puts mid now r (flat_map (whole_line b) (items_of_tail b)) → after ≤ before + run_pushes b →
+    IsWritten b run start mid → Puts mid now r (flat_map (whole_line b) (items_of_tail b)) →
+    after ≤ before + run_pushes b →
     OnOk r (IsWrittenRun b series start now) × OnErr r (StopsWriting b series start now before after)
 tail_put b series run start mid now (Ok u) before after valid fits all written puts pushes =
     (tail_written b series run start mid now valid fits all written puts, tt)
@@ -235,6 +257,8 @@ tail_put b series run start mid now (Err e) before after valid fits all written 
     (tt, tail_stops b series run start mid now before after fits all written puts pushes)
 
 -- the pushes of some months and of one more are within those of a run
-pub within_run : (b : Basin) (first before after i : ℕ) → before ≤ first + i * month_pushes b → after ≤ before + month_pushes b → i < b.months →
+pub within_run : (b : Basin) (first before after i : ℕ) → before ≤ first + i * month_pushes b →
+    after ≤ before + month_pushes b → i < b.months →
     after ≤ first + run_pushes b
-within_run b first before after i sofar more l = let all : (i + 1) * month_pushes b ≤ b.months * month_pushes b = mul-le-mul_right (month_pushes b) (omega arith) in omega arith
+within_run b first before after i sofar more l = let all : (i + 1) * month_pushes b ≤ b.months * month_pushes b =
+    mul-le-mul_right (month_pushes b) (omega arith) in omega arith

@@ -18,27 +18,31 @@ use Rattle.basin_cli.specs.Explained.{EndsExplaining, Explains, HasMonth, HasRig
 use Rattle.basin_cli.specs.Out.{Leaves, MayWrite}
 
 -- out was left with the text of some records of which this holds, or with a front of it
-abbrev pub LeavesRecords : (List MonthRecord → Type 0) → (List MonthRecord → List ℕ) → Ending → Option (List ℕ) → Option (List ℕ) → Type 0
+abbrev pub LeavesRecords : (List MonthRecord → Type 0) → (List MonthRecord → List ℕ) → Ending → Option (List ℕ) →
+    Option (List ℕ) → Type 0
 LeavesRecords P text how old new =
     MayWrite (status_of how) → (records : List MonthRecord) × P records × Leaves (status_of how) (text records) old new
 
 -- out was left with how often each yearly delivery came in some traces, or with a front of it
 abbrev pub LeavesTraces : Basin → Inflows → Ending → Option (List ℕ) → Option (List ℕ) → Type 0
 LeavesTraces b series how old new =
-    MayWrite (status_of how) → (traces : List (List MonthRecord)) × AreTraces b series traces × Leaves (status_of how) (ensemble_text b traces) old new
+    MayWrite (status_of how) → (traces : List (List MonthRecord)) × AreTraces b series traces ×
+    Leaves (status_of how) (ensemble_text b traces) old new
 
--- how the checking of a result may end, by the verdict on its bytes where they are told. `read` and `write` say that the
--- shelf's and out's count of faults rose
+-- how the checking of a result may end, by the verdict on its bytes where they are told. `read` and `write` say that
+-- the shelf's and out's count of faults rose
 abbrev pub EndsChecking : Basin → Inflows → Option (List ℕ) → Ending → Type 0 → Type 0 → Type 0
 EndsChecking b series told ending.Done read write = IfSome told (λ text. IsOk (text_verdict b series text))
-EndsChecking b series told (ending.Refuted refuted) read write = IfSome told (λ text. text_verdict b series text ≡ Err refuted)
+EndsChecking b series told (ending.Refuted refuted) read write =
+    IfSome told (λ text. text_verdict b series text ≡ Err refuted)
 EndsChecking b series told (ending.ReadFault file.Result) read write = read
 EndsChecking b series told ending.WriteFault read write = write
 EndsChecking b series told ending.OutOfMemory read write = ⊤
 EndsChecking b series told other read write = ⊥
 
 -- how the answer about a right in the month of this index ends, and what it leaves on out: its text, or a front of it
-pub record AnswersAt (b : Basin) (series : Inflows) (index right : ℕ) (how : Ending) (write : Type 0) (old new : Option (List ℕ)) : Type 0 where
+pub record AnswersAt (b : Basin) (series : Inflows) (index right : ℕ) (how : Ending) (write : Type 0)
+    (old new : Option (List ℕ)) : Type 0 where
   pub last : MonthRecord
   pub of_month : IsRecordOf b series (run_month b index) last
   pub ends : EndsExplaining last right how write
@@ -48,17 +52,21 @@ pub record AnswersAt (b : Basin) (series : Inflows) (index right : ℕ) (how : E
 
 -- how the answer to a month and a name may end
 abbrev pub EndsAsking : Basin → Inflows → Month → List ℕ → Ending → Type 0 → Type 0
-EndsAsking b series month name ending.Done write = (right : ℕ) × (m : MonthRecord) × IsAbout b series month name right m × IsShort m right
+EndsAsking b series month name ending.Done write = (right : ℕ) × (m : MonthRecord) ×
+    IsAbout b series month name right m × IsShort m right
 EndsAsking b series month name ending.Met write =
-    (right : ℕ) × (m : MonthRecord) × IsAbout b series month name right m × (slice_index m.want right ≤ slice_index m.delivered right)
+    (right : ℕ) × (m : MonthRecord) × IsAbout b series month name right m ×
+    (slice_index m.want right ≤ slice_index m.delivered right)
 EndsAsking b series month name ending.WriteFault write = write × HasMonth b month × HasRight b name
 EndsAsking b series month name (ending.ScriptRefused script.OutsideRun line) write = (line ≡ 0) × (HasMonth b month → ⊥)
-EndsAsking b series month name (ending.ScriptRefused script.NoSuchName line) write = (line ≡ 0) × HasMonth b month × (HasRight b name → ⊥)
+EndsAsking b series month name (ending.ScriptRefused script.NoSuchName line) write = (line ≡ 0) × HasMonth b month ×
+    (HasRight b name → ⊥)
 EndsAsking b series month name ending.OutOfMemory write = ⊤
 EndsAsking b series month name other write = ⊥
 
 -- out was left with the answer about a right and a record of the month, or with a front of it
-pub record IsAnswered (b : Basin) (series : Inflows) (month : Month) (name : List ℕ) (how : Ending) (old new : Option (List ℕ)) : Type 0 where
+pub record IsAnswered (b : Basin) (series : Inflows) (month : Month) (name : List ℕ) (how : Ending)
+    (old new : Option (List ℕ)) : Type 0 where
   pub right : ℕ
   pub last : MonthRecord
   pub about : IsAbout b series month name right last

@@ -14,10 +14,10 @@ pub record Files : Type 0 where
   pub basin : List ℕ
   pub series : Option (List ℕ)
 
--- a command with the names of its files, or with its numbers: `run` and `report` have the files of a basin and its series,
--- `check` the file of a result besides, `compare` the file of a second basin, `trial` the number and the size of a generated
--- basin, `why` a month and the name of a right beside the files, `ensemble` the files, `edit` the file of a script besides, and
--- `upgrade` the file of a basin alone
+-- a command with the names of its files, or with its numbers: `run` and `report` have the files of a basin and its
+-- series, `check` the file of a result besides, `compare` the file of a second basin, `trial` the number and the size
+-- of a generated basin, `why` a month and the name of a right beside the files, `ensemble` the files, `edit` the file
+-- of a script besides, and `upgrade` the file of a basin alone
 pub data Command : Type 0 where
   run : Files → Command
   check : Files → List ℕ → Command
@@ -55,13 +55,16 @@ command_of (word ∷ one ∷ other ∷ []) =
     if bytes_eq word (codes "run") then Some (run (record { basin = one; series = series_named other }))
     else (if bytes_eq word (codes "report") then Some (report (record { basin = one; series = series_named other }))
     else (if bytes_eq word (codes "ensemble") then Some (ensemble (record { basin = one; series = series_named other }))
-    else (if bytes_eq word (codes "trial") then trial_of (read_amount one 4294967295) (read_amount other 2000) else None)))
+    else (if bytes_eq word (codes "trial") then trial_of (read_amount one 4294967295) (read_amount other 2000)
+    else None)))
 command_of (word ∷ basin ∷ one ∷ other ∷ []) =
     if bytes_eq word (codes "check") then Some (check (record { basin = basin; series = series_named one }) other)
     else (if bytes_eq word (codes "edit") then Some (edit (record { basin = basin; series = series_named one }) other)
-    else (if bytes_eq word (codes "compare") then Some (compare (record { basin = basin; series = series_named other }) one) else None))
+    else (if bytes_eq word (codes "compare") then Some
+    (compare (record { basin = basin; series = series_named other }) one) else None))
 command_of (word ∷ basin ∷ series ∷ month ∷ right ∷ []) =
-    if bytes_eq word (codes "why") then why_of (record { basin = basin; series = series_named series }) (read_month month) right else None
+    if bytes_eq word (codes "why") then why_of (record { basin = basin; series = series_named series })
+    (read_month month) right else None
 command_of _ = None
 
 -- the command that words give, as the program keeps it

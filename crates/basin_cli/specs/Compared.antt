@@ -42,9 +42,10 @@ abbrev pub EndsComparing : List Injury → Ending → Type 0 → Type 0
 EndsComparing all ending.WriteFault write = write
 EndsComparing all how write = how ≡ ending_with (length all)
 
--- what `compare` leaves on out, and how it ends: the comparison of two lists of records that keep the priority of rights, and
--- whether somebody is injured in it
-pub record Compares (b c : Basin) (series other : Inflows) (how : Ending) (write : Type 0) (old new : Option (List ℕ)) : Type 0 where
+-- what `compare` leaves on out, and how it ends: the comparison of two lists of records that keep the priority of
+-- rights, and whether somebody is injured in it
+pub record Compares (b c : Basin) (series other : Inflows) (how : Ending) (write : Type 0)
+    (old new : Option (List ℕ)) : Type 0 where
   pub records : List MonthRecord
   pub others : List MonthRecord
   pub first_keeps : KeepsPriority b series records

@@ -40,9 +40,11 @@ pub record IsScriptRefusedFor (fault : ScriptFault) (line : ℕ) (bytes series_b
 abbrev pub HasEditingCause : Files → List ℕ → Ending → Told → Type 0 → Type 0 → Type 0
 HasEditingCause files script ending.Done told read write = BehindSeries told files script IsGoodScript
 HasEditingCause files script ending.WriteFault told read write = write × BehindSeries told files script IsGoodScript
-HasEditingCause files script (ending.ScriptRefused fault line) told read write = BehindSeries told files script (IsScriptRefusedFor fault line)
+HasEditingCause files script (ending.ScriptRefused fault line) told read write =
+    BehindSeries told files script (IsScriptRefusedFor fault line)
 HasEditingCause files script (ending.ReadFault file.Script) told read write = read × AreAccepted told files
-HasEditingCause files script (ending.InputTooLong file.Script) told read write = BehindSeries told files script (λ _ _ bytes. IsTooLong bytes)
+HasEditingCause files script (ending.InputTooLong file.Script) told read write =
+    BehindSeries told files script (λ _ _ bytes. IsTooLong bytes)
 HasEditingCause files script other told read write = StopsReading files other told read
 
 -- told bytes that are accepted, and no fault of the shelf or of out: the call is done, unless memory ran out
@@ -51,9 +53,9 @@ EditsBehind told files script status read write =
     CompletesBehind told files (λ bytes series. IfSome (told script) (λ text. IsGoodScript bytes series text →
     (read → ⊥) → (write → ⊥) → IsDone status))
 
--- What is left on out: for each `show` the lines of its month, of the series as it is by then, and behind them how many were shown.
--- After a fault of out a front is left of the months shown so far, or of the whole; and where memory ran out the whole lines of the
--- months shown so far, and nothing else.
+-- What is left on out: for each `show` the lines of its month, of the series as it is by then, and behind them how many
+-- were shown. After a fault of out a front is left of the months shown so far, or of the whole; and where memory ran
+-- out the whole lines of the months shown so far, and nothing else.
 abbrev pub LeavesShows : Status → Basin → Inflows → List Edit → Option (List ℕ) → Option (List ℕ) → Type 0
 LeavesShows Done b series edits old new = AnswersWhole b series edits (Ok tt) old new
 LeavesShows WriteFault b series edits old new = AnswersWhole b series edits (Err stop.SinkFailed) old new
@@ -61,7 +63,8 @@ LeavesShows OutOfMemory b series edits old new = AnswersWhole b series edits (Er
 LeavesShows status b series edits old new = ⊥
 
 -- out was left with the months that the script shows
-pub record ShowsScript (status : Status) (b : Basin) (series : Inflows) (script : List ℕ) (old new : Option (List ℕ)) : Type 0 where
+pub record ShowsScript (status : Status) (b : Basin) (series : Inflows) (script : List ℕ)
+    (old new : Option (List ℕ)) : Type 0 where
   pub edits : List Edit
   pub reads : script_of b series script ≡ Ok edits
   pub written : LeavesShows status b series edits old new
@@ -87,8 +90,8 @@ abbrev pub EditWrites : Told → Files → List ℕ → Status → Option (List 
 EditWrites told files script status old new =
     OfBoth told files (λ bytes series. IfSome (told script) (λ text. EditLeaves status bytes series text old new))
 
--- Searches push at most so often as the cost of the script allows, in months that are solved: a month before the first change is
--- solved once. A script that is refused has no push.
+-- Searches push at most so often as the cost of the script allows, in months that are solved: a month before the first
+-- change is solved once. A script that is refused has no push.
 pub record PushesOfScript (b : Basin) (series : Inflows) (script : List ℕ) (before now : ℕ) : Type 0 where
   pub asked : (edits : List Edit) → script_of b series script ≡ Ok edits → now ≤ before + cost edits * month_pushes b
   pub refused : IsErr (script_of b series script) → now ≡ before
@@ -100,7 +103,8 @@ EditPushes told files script before now =
 
 -- how the reading of a script's bytes may end without what they ask for
 abbrev pub ScriptEnds : Basin → Inflows → List ℕ → Ending → Type 0
-ScriptEnds b series script (ending.ScriptRefused fault line) = script_of b series script ≡ Err (refused.Refused fault line)
+ScriptEnds b series script (ending.ScriptRefused fault line) =
+    script_of b series script ≡ Err (refused.Refused fault line)
 ScriptEnds b series script ending.OutOfMemory = ⊤
 ScriptEnds b series script other = ⊥
 

@@ -67,13 +67,17 @@ file_name file.Script = codes "SCRIPT"
 -- whose basin it is, and FAULT TABLE ENTRY
 unfoldable pub refusal_line : List ℕ → Finding → List ℕ
 refusal_line whose finding =
-    whose ++ fault_name finding.fault ++ codes " " ++ table_name finding.table ++ codes " " ++ decimal finding.entry ++ codes "\n"
+    whose ++ fault_name finding.fault ++ codes " " ++ table_name finding.table ++ codes " " ++ decimal
+    finding.entry ++ codes "\n"
 
 -- whose series it is, and FAULT RECORD, or Missing MONTH NODE, or MissingWant MONTH RIGHT
 unfoldable pub series_line : List ℕ → SeriesFinding → List ℕ
-series_line whose (finding.Record fault number) = whose ++ series_fault.fault_name fault ++ codes " " ++ decimal number ++ codes "\n"
-series_line whose (finding.Missing month node) = whose ++ codes "Missing " ++ month_digits month ++ codes " " ++ node ++ codes "\n"
-series_line whose (finding.MissingWant month right) = whose ++ codes "MissingWant " ++ month_digits month ++ codes " " ++ right ++ codes "\n"
+series_line whose (finding.Record fault number) =
+    whose ++ series_fault.fault_name fault ++ codes " " ++ decimal number ++ codes "\n"
+series_line whose (finding.Missing month node) =
+    whose ++ codes "Missing " ++ month_digits month ++ codes " " ++ node ++ codes "\n"
+series_line whose (finding.MissingWant month right) =
+    whose ++ codes "MissingWant " ++ month_digits month ++ codes " " ++ right ++ codes "\n"
 
 unfoldable pub second_line : SecondFinding → List ℕ
 second_line (of_second.Basin finding) = refusal_line (codes "basin2: ") finding

@@ -1,5 +1,6 @@
 -- Why a right got no more in a month: what may be asked of a basin, and what is answered.
-use Rattle.std.specs.Prelude.{◌≡◌, ℕ, ◌+◌, ◌*◌, ◌<◌, ◌≤◌, pos, ◌-ℤ◌, Bool, List, [], ◌∷◌, ◌++◌, codes, length, slice_index, sum_by}
+use Rattle.std.specs.Prelude.{◌≡◌, ℕ, ◌+◌, ◌*◌, ◌<◌, ◌≤◌, pos, ◌-ℤ◌, Bool, List, [], ◌∷◌, ◌++◌, codes, length}
+use Rattle.std.specs.Prelude.{slice_index, sum_by}
 use Rattle.cut_book.specs.Book.{book_bytes, terms}
 use Rattle.cut_book.specs.Entries.{balance_of, brought, kept}
 use Rattle.month_fold.specs.Reaches.{HaveReaches}
@@ -35,7 +36,8 @@ pub record IsRightNamed (b : Basin) (name : List ℕ) (right : ℕ) : Type 0 whe
 abbrev pub HasRight : Basin → List ℕ → Type 0
 HasRight b name = (right : ℕ) × IsRightNamed b name right
 
--- a record of the month: the last of a partial history of the basin and its series, with the reaches as the sets of short rights
+-- a record of the month: the last of a partial history of the basin and its series, with the reaches as the sets of
+-- short rights
 pub record IsRecordOf (b : Basin) (series : Inflows) (month : Month) (m : MonthRecord) : Type 0 where
   pub before : List MonthRecord
   pub partial : IsPartialHistory b series (before ++ m ∷ [])
@@ -43,12 +45,13 @@ pub record IsRecordOf (b : Basin) (series : Inflows) (month : Month) (m : MonthR
   pub is : m.month ≡ month
 
 -- what is asked by a month and a name: the right of the name, and a record of the month
-pub record IsAbout (b : Basin) (series : Inflows) (month : Month) (name : List ℕ) (right : ℕ) (m : MonthRecord) : Type 0 where
-  pub named : IsRightNamed b name right
-  pub of_month : IsRecordOf b series month m
+pub record IsAbout (b : Basin) (series : Inflows) (month : Month) (name : List ℕ) (right : ℕ) (m : MonthRecord) : Type 0
+  where
+    pub named : IsRightNamed b name right
+    pub of_month : IsRecordOf b series month m
 
--- the account of a right that is short: what the lines of its book bring, less what they keep, is the bound that its reach
--- puts on it, and this is what it was delivered
+-- the account of a right that is short: what the lines of its book bring, less what they keep, is the bound that its
+-- reach puts on it, and this is what it was delivered
 pub record IsAccountOf (b : Basin) (m : MonthRecord) (right : ℕ) (reach : List Bool) : Type 0 where
   pub is_reach : IsReach b m.month m.supply m.delivered right reach
   pub bound : pos (sum_by brought (terms b m right reach)) -ℤ pos (sum_by kept (terms b m right reach))
@@ -59,7 +62,8 @@ pub record IsAccountOf (b : Basin) (m : MonthRecord) (right : ℕ) (reach : List
 unfoldable pub met_line : Month → List ℕ → List ℕ
 met_line month name = codes "met " ++ month_digits month ++ codes " " ++ name ++ codes "\n"
 
--- the text that answers why a right got no more in a month: where it is short, the book of its reach, and else that it is met
+-- the text that answers why a right got no more in a month: where it is short, the book of its reach, and else that it
+-- is met
 pub record Explains (b : Basin) (m : MonthRecord) (right : ℕ) (text : List ℕ) : Type 0 where
   pub short : IsShort m right → (reach : List Bool) × IsAccountOf b m right reach × (text ≡ book_bytes b m right reach)
   pub met : slice_index m.want right ≤ slice_index m.delivered right → text ≡ met_line m.month (right_name b right)
@@ -69,8 +73,8 @@ pub record HasLast (run : RunSeen) : Type 0 where
   pub before : List MonthRecord
   pub stands : StandsFor run (before ++ run.last ∷ [])
 
--- searches push at most so often as the bound of a month allows, for each month up to this one, and not at all where the run
--- of the basin hasn't it
+-- searches push at most so often as the bound of a month allows, for each month up to this one, and not at all where
+-- the run of the basin hasn't it
 pub record PushesUpTo (b : Basin) (month : Month) (before now : ℕ) : Type 0 where
   pub in_run : (index : ℕ) → IsMonthAt b month index → now ≤ before + (index + 1) * month_pushes b
   pub outside : (HasMonth b month → ⊥) → now ≡ before

@@ -1,4 +1,5 @@
--- What the bytes of a basin file, a series and a result are found to be, without shelves and statuses; and what a run is for a check.
+-- What the bytes of a basin file, a series and a result are found to be, without shelves and statuses; and what a run
+-- is for a check.
 use Rattle.std.specs.Prelude.{◌≡◌, ℕ, List, Some, None, ⊤}
 use Rattle.basin_file.specs.BasinFaults.{Spells, file_fault}
 use Rattle.basin_tree.specs.declared.walk.Finding.{Finding}
@@ -35,11 +36,14 @@ pub record AreFaultless (bytes series_bytes : List ℕ) : Type 0 where
   pub spelled : AreSpelled bytes series_bytes basin series
   pub series_sound : series_fault basin series_bytes ≡ None
 
--- What is found is so: a yes or a no, that nothing is at fault in the basin file and the series, and that the bytes of the
--- result are the text of a history of both, or of none; a refusal, which of the two is at fault. Want of memory says nothing.
+-- What is found is so: a yes or a no, that nothing is at fault in the basin file and the series, and that the bytes of
+-- the result are the text of a history of both, or of none; a refusal, which of the two is at fault. Want of memory
+-- says nothing.
 abbrev pub IsFound : Found → List ℕ → List ℕ → List ℕ → Type 0
-IsFound found.Accepted bytes series_bytes result = AreFaultless bytes series_bytes × IsHistoryText bytes series_bytes result
-IsFound found.Refuted bytes series_bytes result = AreFaultless bytes series_bytes × (IsHistoryText bytes series_bytes result → ⊥)
+IsFound found.Accepted bytes series_bytes result = AreFaultless bytes series_bytes ×
+    IsHistoryText bytes series_bytes result
+IsFound found.Refuted bytes series_bytes result = AreFaultless bytes series_bytes ×
+    (IsHistoryText bytes series_bytes result → ⊥)
 IsFound found.BasinRefused bytes series_bytes result = IsFaultyBasin bytes
 IsFound found.SeriesRefused bytes series_bytes result = IsFaultySeries bytes series_bytes
 IsFound found.OutOfMemory bytes series_bytes result = ⊤

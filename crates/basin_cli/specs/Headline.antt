@@ -20,18 +20,22 @@ NobodyCouldGetMore b m =
 -- and the same whatever is supplied outside the right's cut, and whatever anyone wants
 abbrev pub NothingOutsideHelps : Basin → MonthRecord → Type 0
 NothingOutsideHelps b m =
-    (right : ℕ) → right < length b.rights → (cut : List Bool) → cut_of m right ≡ Some cut → (other_supply other_want : List ℕ) (q : Plan) →
-    IsPlan b m.month other_supply other_want q → AgreesOn cut m.supply other_supply → ServesSeniors b m.delivered other_want q right →
+    (right : ℕ) → right < length b.rights → (cut : List Bool) → cut_of m right ≡ Some cut →
+    (other_supply other_want : List ℕ) (q : Plan) →
+    IsPlan b m.month other_supply other_want q → AgreesOn cut m.supply other_supply →
+    ServesSeniors b m.delivered other_want q right →
     delivery b other_want q right ≤ slice_index m.delivered right
 
 -- in the cut of a short right no junior diversion or zone takes, and no outlet lets water out
 abbrev pub JuniorsGetNothing : Basin → MonthRecord → Type 0
 JuniorsGetNothing b m =
-    (right : ℕ) → right < length b.rights → (cut : List Bool) → cut_of m right ≡ Some cut → LeavesNothing b m.plan right cut
+    (right : ℕ) → right < length b.rights → (cut : List Bool) → cut_of m right ≡ Some cut →
+    LeavesNothing b m.plan right cut
 
 -- a right that answers to a caller gets nothing
 abbrev pub CalledGetNothing : Basin → MonthRecord → Type 0
-CalledGetNothing b m = (right caller : ℕ) → right < length b.rights → Calls b m caller right → slice_index m.delivered right ≡ 0
+CalledGetNothing b m = (right caller : ℕ) → right < length b.rights → Calls b m caller right →
+    slice_index m.delivered right ≡ 0
 
 -- the deliveries of each month, by right
 abbrev pub deliveries_of : List MonthRecord → List (List ℕ)
@@ -39,7 +43,8 @@ deliveries_of records = map (λ m. m.delivered) records
 
 -- the deliveries of each month, in order of seniority, are lexicographically greatest among all plans of the month
 abbrev pub HasGreatestPlans : Basin → List MonthRecord → Type 0
-HasGreatestPlans b records = (i : ℕ) (m : MonthRecord) → slice_get records i ≡ Some m → IsGreatest b m.month m.supply m.want m.plan
+HasGreatestPlans b records = (i : ℕ) (m : MonthRecord) → slice_get records i ≡ Some m →
+    IsGreatest b m.month m.supply m.want m.plan
 
 -- the records of a run of a basin with a series, which keep the priority of rights and lose no water
 pub record KeepsPriority (b : Basin) (series : Inflows) (records : List MonthRecord) : Type 0 where

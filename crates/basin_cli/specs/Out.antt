@@ -34,7 +34,8 @@ abbrev pub IsStopped : Status → Type 0
 IsStopped OutOfMemory = ⊤
 IsStopped status = IsRefusal status
 
--- nothing is solved: a run, a report, a trial and an account take memory before their first month, the others also later
+-- nothing is solved: a run, a report, a trial and an account take memory before their first month, the others also
+-- later
 abbrev pub IsIdle : Option Command → Status → Type 0
 IsIdle (Some (run files)) status = IsStopped status
 IsIdle (Some (report files)) status = IsStopped status
@@ -42,9 +43,11 @@ IsIdle (Some (trial number size)) status = IsStopped status
 IsIdle (Some (why files month name)) status = IsStopped status
 IsIdle command status = IsRefusal status
 
--- where a check finds no memory, nobody asked for its result: `old` and `new` count the calls for each name, where that is told
+-- where a check finds no memory, nobody asked for its result: `old` and `new` count the calls for each name, where that
+-- is told
 abbrev pub IsUnread : Option Command → Status → (List ℕ → Option ℕ) → (List ℕ → Option ℕ) → Type 0
-IsUnread (Some (check files result)) OutOfMemory old new = result ≢ files.basin → Some result ≢ files.series → new result ≡ old result
+IsUnread (Some (check files result)) OutOfMemory old new = result ≢ files.basin → Some result ≢ files.series →
+    new result ≡ old result
 IsUnread command status old new = ⊤
 
 -- the text is appended to out, or after a fault of out a front of it

@@ -1,5 +1,6 @@
 -- What each status of a call means: its cause, and what it leaves on out and err.
-use Rattle.std.specs.Prelude.{◌≡◌, ℕ, ◌+◌, ◌*◌, ◌<◌, ◌≤◌, ◌++◌, List, length, take, codes, Option, Some, None, Result, Ok, Err, ⊤, IfSome, IsSome}
+use Rattle.std.specs.Prelude.{◌≡◌, ℕ, ◌+◌, ◌*◌, ◌<◌, ◌≤◌, ◌++◌, List, length, take, codes, Option, Some, None, Result}
+use Rattle.std.specs.Prelude.{Ok, Err, ⊤, IfSome, IsSome}
 use Rattle.std.specs.Fmt.{decimal}
 use Rattle.std.specs.Io.KnownBytes.{Appends}
 use Rattle.water_edge.specs.Edge.{Rose}
@@ -33,7 +34,8 @@ use Rattle.basin_cli.specs.Headline.{HasGreatestPlans}
 use Rattle.basin_cli.specs.Bytes.{AreSpelled, IsGoodBasin, IsSeriesRefusedFor, IsTooLong, Told}
 use Rattle.basin_cli.specs.Out.{Leaves, MayWrite}
 use Rattle.basin_cli.specs.Written.{LeavesRun}
-use Rattle.basin_cli.specs.Reading.{AreAccepted, BehindBasin, BehindBoth, BehindSeries, CompletesBehind, IsDone, IsJudged, OfBoth, StopsReading}
+use Rattle.basin_cli.specs.Reading.{AreAccepted, BehindBasin, BehindBoth, BehindSeries, CompletesBehind, IsDone}
+use Rattle.basin_cli.specs.Reading.{IsJudged, OfBoth, StopsReading}
 use Rattle.basin_cli.specs.Edited.{HasEditingCause, EditsBehind, EditWrites, EditPushes}
 use Rattle.basin_cli.specs.Upgrading.{HasUpgradingCause, UpgradesBehind, UpgradeWrites}
 use Rattle.basin_cli.specs.Comparison.{HasComparingCause, ComparesBehind, ComparisonWrites, ComparisonPushes}
@@ -78,8 +80,8 @@ pub record IsAsked (month : Month) (name bytes : List ℕ) : Type 0 where
   pub has_month : HasMonth basin month
   pub has_right : HasRight basin name
 
--- the right of the name is short in the month, in a run of the basin and series that bytes spell. If so it is short in every
--- such run, because all have one outcome
+-- the right of the name is short in the month, in a run of the basin and series that bytes spell. If so it is short in
+-- every such run, because all have one outcome
 pub record IsShortIn (month : Month) (name bytes series_bytes : List ℕ) : Type 0 where
   pub basin : Basin
   pub series : Inflows
@@ -111,7 +113,8 @@ HasSolvingCause files other told read write = StopsReading files other told read
 -- the cause of an ending of a check
 abbrev pub HasCheckingCause : Files → List ℕ → Ending → Told → Type 0 → Type 0 → Type 0
 HasCheckingCause files result ending.Done told read write = BehindSeries told files result IsHistoryText
-HasCheckingCause files result (ending.Refuted refuted) told read write = BehindSeries told files result (IsRefuted refuted)
+HasCheckingCause files result (ending.Refuted refuted) told read write =
+    BehindSeries told files result (IsRefuted refuted)
 HasCheckingCause files result ending.WriteFault told read write = write × AreAccepted told files
 HasCheckingCause files result (ending.ReadFault file.Result) told read write = read × AreAccepted told files
 HasCheckingCause files result other told read write = StopsReading files other told read
@@ -123,11 +126,12 @@ HasTrialCause ending.WriteFault write = write
 HasTrialCause ending.OutOfMemory write = ⊤
 HasTrialCause other write = ⊥
 
--- the cause of an ending at which the files of an ensemble are not read or refused: the years are counted behind the basin and
--- before the series
+-- the cause of an ending at which the files of an ensemble are not read or refused: the years are counted behind the
+-- basin and before the series
 abbrev pub StopsReadingYears : Files → Ending → Told → Type 0 → Type 0
 StopsReadingYears files ending.PartYear told read = IfSome (told files.basin) IsPartYear
-StopsReadingYears files (ending.SeriesRefused finding) told read = IfSome (told files.basin) IsOfYears × BehindBasin told files (IsSeriesRefusedFor finding)
+StopsReadingYears files (ending.SeriesRefused finding) told read = IfSome (told files.basin) IsOfYears ×
+    BehindBasin told files (IsSeriesRefusedFor finding)
 StopsReadingYears files (ending.ReadFault file.Series) told read =
     IfSome (told files.basin) IsOfYears × read × IsSome files.series × IfSome (told files.basin) IsGoodBasin
 StopsReadingYears files (ending.InputTooLong file.Series) told read =
@@ -137,7 +141,8 @@ StopsReadingYears files other told read = StopsReading files other told read
 -- the cause of an ending of `ensemble`
 abbrev pub HasEnsembleCause : Files → Ending → Told → Type 0 → Type 0 → Type 0
 HasEnsembleCause files ending.Done told read write = IfSome (told files.basin) IsOfYears × AreAccepted told files
-HasEnsembleCause files ending.WriteFault told read write = write × IfSome (told files.basin) IsOfYears × AreAccepted told files
+HasEnsembleCause files ending.WriteFault told read write = write × IfSome (told files.basin) IsOfYears ×
+    AreAccepted told files
 HasEnsembleCause files other told read write = StopsReadingYears files other told read
 
 -- the cause of an ending of `why`
@@ -145,7 +150,8 @@ abbrev pub HasExplainingCause : Files → Month → List ℕ → Ending → Told
 HasExplainingCause files month name ending.Done told read write = BehindBoth told files (IsShortIn month name)
 HasExplainingCause files month name ending.Met told read write =
     BehindBoth told files (λ bytes series. IsAsked month name bytes × (IsShortIn month name bytes series → ⊥))
-HasExplainingCause files month name ending.WriteFault told read write = write × BehindBoth told files (λ bytes _. IsAsked month name bytes)
+HasExplainingCause files month name ending.WriteFault told read write = write ×
+    BehindBoth told files (λ bytes _. IsAsked month name bytes)
 HasExplainingCause files month name (ending.ScriptRefused script.OutsideRun line) told read write =
     (line ≡ 0) × BehindBoth told files (λ bytes _. IsOutsideRun month bytes)
 HasExplainingCause files month name (ending.ScriptRefused script.NoSuchName line) told read write =
@@ -184,8 +190,10 @@ pub record Ends (command : Option Command) (status : Status) (told : Told) (read
 
 abbrev pub Completes : Option Command → Status → Told → Type 0 → Type 0 → Type 0
 Completes None status told read write = ⊤
-Completes (Some (run files)) status told read write = CompletesBehind told files (λ _ _. (read → ⊥) → (write → ⊥) → IsDone status)
-Completes (Some (report files)) status told read write = CompletesBehind told files (λ _ _. (read → ⊥) → (write → ⊥) → IsDone status)
+Completes (Some (run files)) status told read write =
+    CompletesBehind told files (λ _ _. (read → ⊥) → (write → ⊥) → IsDone status)
+Completes (Some (report files)) status told read write =
+    CompletesBehind told files (λ _ _. (read → ⊥) → (write → ⊥) → IsDone status)
 Completes (Some (trial number size)) status told read write = (write → ⊥) → IsDone status
 Completes (Some (check files result)) status told read write =
     CompletesBehind told files (λ bytes series. IfSome (told result) (λ text.
@@ -200,7 +208,8 @@ Completes (Some (edit files script)) status told read write = EditsBehind told f
 Completes (Some (upgrade basin)) status told read write = UpgradesBehind told basin status read write
 
 -- what `run` leaves on out: the text of a run of what the bytes spell, or after a fault of out as far as it was written
-pub record WritesRun (status : Status) (bytes series_bytes : List ℕ) (old new : Option (List ℕ)) (before after : ℕ) : Type 0 where
+pub record WritesRun (status : Status) (bytes series_bytes : List ℕ) (old new : Option (List ℕ))
+    (before after : ℕ) : Type 0 where
   pub basin : Basin
   pub series : Inflows
   pub spelled : AreSpelled bytes series_bytes basin series
@@ -209,14 +218,16 @@ pub record WritesRun (status : Status) (bytes series_bytes : List ℕ) (old new 
 -- the line that answers a verdict
 unfoldable pub answer_line : Basin → Result (List Item) Refuted → List ℕ
 answer_line b (Ok items) = codes "checked " ++ decimal b.months ++ codes "\n"
-answer_line b (Err refuted) = codes "refuted " ++ decimal refuted.line ++ codes " " ++ kind_name refuted.kind ++ codes "\n"
+answer_line b (Err refuted) =
+    codes "refuted " ++ decimal refuted.line ++ codes " " ++ kind_name refuted.kind ++ codes "\n"
 
 -- what `check` leaves on out: the answer to the verdict on the result's bytes
-pub record WritesAnswer (status : Status) (bytes series_bytes result : List ℕ) (old new : Option (List ℕ)) : Type 0 where
-  pub basin : Basin
-  pub series : Inflows
-  pub spelled : AreSpelled bytes series_bytes basin series
-  pub written : Leaves status (answer_line basin (text_verdict basin series result)) old new
+pub record WritesAnswer (status : Status) (bytes series_bytes result : List ℕ) (old new : Option (List ℕ)) : Type 0
+  where
+    pub basin : Basin
+    pub series : Inflows
+    pub spelled : AreSpelled bytes series_bytes basin series
+    pub written : Leaves status (answer_line basin (text_verdict basin series result)) old new
 
 -- what `report` leaves on out: the report of a run of what the bytes spell
 pub record WritesReport (status : Status) (bytes series_bytes : List ℕ) (old new : Option (List ℕ)) : Type 0 where
@@ -235,9 +246,10 @@ pub record WritesTrial (status : Status) (number size : ℕ) (old new : Option (
   pub is_run : IsRun (generated number size) series records
   pub written : Leaves status (trial_text number size (generated number size) series records) old new
 
--- what `why` leaves on out: the book of the right's reach in the month where it is short, and else that it is met, by a run of
--- what the bytes spell up to that month
-pub record WritesAccount (status : Status) (month : Month) (name bytes series_bytes : List ℕ) (old new : Option (List ℕ)) : Type 0 where
+-- what `why` leaves on out: the book of the right's reach in the month where it is short, and else that it is met, by a
+-- run of what the bytes spell up to that month
+pub record WritesAccount (status : Status) (month : Month) (name bytes series_bytes : List ℕ)
+    (old new : Option (List ℕ)) : Type 0 where
   pub basin : Basin
   pub series : Inflows
   pub spelled : AreSpelled bytes series_bytes basin series
@@ -248,8 +260,8 @@ pub record WritesAccount (status : Status) (month : Month) (name bytes series_by
   pub explains : Explains basin last right text
   pub written : Leaves status text old new
 
--- what `ensemble` leaves on out: how often each yearly delivery came in traces of what the bytes spell, which are a history of
--- the record begun in each of its years
+-- what `ensemble` leaves on out: how often each yearly delivery came in traces of what the bytes spell, which are a
+-- history of the record begun in each of its years
 pub record WritesEnsemble (status : Status) (bytes series_bytes : List ℕ) (old new : Option (List ℕ)) : Type 0 where
   pub basin : Basin
   pub series : Inflows
@@ -264,19 +276,25 @@ WritesFor None status told old new before after = ⊤
 WritesFor (Some (run files)) status told old new before after =
     OfBoth told files (λ bytes series. MayWrite status → WritesRun status bytes series old new before after)
 WritesFor (Some (check files result)) status told old new before after =
-    OfBoth told files (λ bytes series. IfSome (told result) (λ text. MayWrite status → WritesAnswer status bytes series text old new))
-WritesFor (Some (report files)) status told old new before after = OfBoth told files (λ bytes series. MayWrite status → WritesReport status bytes series old new)
-WritesFor (Some (trial number size)) status told old new before after = MayWrite status → WritesTrial status number size old new
-WritesFor (Some (compare files second)) status told old new before after = ComparisonWrites told files second status old new
+    OfBoth told files
+    (λ bytes series. IfSome (told result) (λ text. MayWrite status → WritesAnswer status bytes series text old new))
+WritesFor (Some (report files)) status told old new before after =
+    OfBoth told files (λ bytes series. MayWrite status → WritesReport status bytes series old new)
+WritesFor (Some (trial number size)) status told old new before after = MayWrite status →
+    WritesTrial status number size old new
+WritesFor (Some (compare files second)) status told old new before after =
+    ComparisonWrites told files second status old new
 WritesFor (Some (why files month name)) status told old new before after =
     OfBoth told files (λ bytes series. MayWrite status → WritesAccount status month name bytes series old new)
 WritesFor (Some (edit files script)) status told old new before after = EditWrites told files script status old new
 WritesFor (Some (upgrade basin)) status told old new before after = UpgradeWrites told basin status old new
-WritesFor (Some (ensemble files)) status told old new before after = OfBoth told files (λ bytes series. MayWrite status → WritesEnsemble status bytes series old new)
+WritesFor (Some (ensemble files)) status told old new before after =
+    OfBoth told files (λ bytes series. MayWrite status → WritesEnsemble status bytes series old new)
 
 -- searches push at most so often as the bound of a month allows, for each month of the basin that the bytes spell
 abbrev pub PushesOf : Told → Files → ℕ → ℕ → Type 0
-PushesOf told files before now = IfSome (told files.basin) (λ bytes. (basin : Basin) → Spells bytes basin → now ≤ before + run_pushes basin)
+PushesOf told files before now =
+    IfSome (told files.basin) (λ bytes. (basin : Basin) → Spells bytes basin → now ≤ before + run_pushes basin)
 
 -- and a check searches for nothing
 abbrev pub PushesFor : Option Command → Told → ℕ → ℕ → Type 0
@@ -289,7 +307,8 @@ PushesFor (Some (compare files second)) told before now = ComparisonPushes told 
 PushesFor (Some (why files month name)) told before now =
     IfSome (told files.basin) (λ bytes. (basin : Basin) → Spells bytes basin → PushesUpTo basin month before now)
 PushesFor (Some (ensemble files)) told before now =
-    IfSome (told files.basin) (λ bytes. (basin : Basin) → Spells bytes basin → now ≤ before + years_of basin * run_pushes basin)
+    IfSome (told files.basin) (λ bytes. (basin : Basin) → Spells bytes basin →
+    now ≤ before + years_of basin * run_pushes basin)
 PushesFor (Some (edit files script)) told before now = EditPushes told files script before now
 PushesFor (Some (upgrade basin)) told before now = now ≡ before
 

@@ -40,7 +40,8 @@ IsOtherRun first second how = (how ≡ ending.SecondRefused of_second.OtherRun) 
 
 -- how the bytes of a series may be refused for the first basin, or for the second
 abbrev pub BothSeriesEnd : Basin → Basin → List ℕ → Ending → Type 0
-BothSeriesEnd first second bytes (ending.SeriesRefused finding) = option_and_then (finding_of first) (series_fault first bytes) ≡ Some finding
+BothSeriesEnd first second bytes (ending.SeriesRefused finding) =
+    option_and_then (finding_of first) (series_fault first bytes) ≡ Some finding
 BothSeriesEnd first second bytes (ending.SecondRefused (of_second.Series finding)) =
     (series_fault first bytes ≡ None) × (option_and_then (finding_of second) (series_fault second bytes) ≡ Some finding)
 BothSeriesEnd first second bytes ending.OutOfMemory = ⊤
@@ -51,7 +52,8 @@ abbrev pub BothSeriesReadEnd : Basin → Basin → Option (List ℕ) → Option 
 BothSeriesReadEnd first second name told read (ending.SeriesRefused finding) =
     IfSome told (λ bytes. (length bytes ≤ file_limit) × BothSeriesEnd first second bytes (ending.SeriesRefused finding))
 BothSeriesReadEnd first second name told read (ending.SecondRefused (of_second.Series finding)) =
-    IfSome told (λ bytes. (length bytes ≤ file_limit) × BothSeriesEnd first second bytes (ending.SecondRefused (of_second.Series finding)))
+    IfSome told (λ bytes. (length bytes ≤ file_limit) ×
+    BothSeriesEnd first second bytes (ending.SecondRefused (of_second.Series finding)))
 BothSeriesReadEnd first second name told read (ending.ReadFault file.Series) = read × IsSome name
 BothSeriesReadEnd first second name told read (ending.InputTooLong file.Series) = IfSome told IsTooLong
 BothSeriesReadEnd first second name told read ending.OutOfMemory = ⊤

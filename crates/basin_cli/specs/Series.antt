@@ -57,11 +57,12 @@ pub record IsSeriesText (b : Basin) (series : Inflows) (bytes : List ℕ) : Type
   pub sound : series_fault b bytes ≡ None
   pub spelled : SpellsSeries b bytes series
 
--- how the reading of a series may end, where its bytes are told or not. Without a file it is the header alone, and no reading
--- fails
+-- how the reading of a series may end, where its bytes are told or not. Without a file it is the header alone, and no
+-- reading fails
 abbrev pub SeriesReadEnds : Basin → Option (List ℕ) → Option (List ℕ) → Type 0 → Ending → Type 0
 SeriesReadEnds b name told read (ending.SeriesRefused finding) =
-    IfSome told (λ bytes. (length bytes ≤ file_limit) × (option_and_then (finding_of b) (series_fault b bytes) ≡ Some finding))
+    IfSome told (λ bytes. (length bytes ≤ file_limit) ×
+    (option_and_then (finding_of b) (series_fault b bytes) ≡ Some finding))
 SeriesReadEnds b name told read (ending.ReadFault file.Series) = read × IsSome name
 SeriesReadEnds b name told read (ending.InputTooLong file.Series) = IfSome told IsTooLong
 SeriesReadEnds b name told read ending.OutOfMemory = ⊤

@@ -12,8 +12,8 @@ use Rattle.basin_cli.specs.Bytes.{IsGoodBasin, IsRefusedFor, IsTooLong, Told}
 use Rattle.basin_cli.specs.Out.{Leaves, MayWrite}
 use Rattle.basin_cli.specs.Reading.{IsDone}
 
--- a text is read as the table of format 2 of the basin that the bytes of a file spell. So it spells the same basin, but for the
--- format, and nothing in it is at fault
+-- a text is read as the table of format 2 of the basin that the bytes of a file spell. So it spells the same basin, but
+-- for the format, and nothing in it is at fault
 pub record IsUpgradeOf (bytes text : List ℕ) : Type 0 where
   pub basin : Basin
   pub spelled : Spells bytes basin
@@ -33,9 +33,11 @@ HasUpgradingCause name other told read write = ⊥
 
 -- told bytes that are accepted, and no fault of the shelf or of out: the call is done, unless memory ran out
 abbrev pub UpgradesBehind : Told → List ℕ → Status → Type 0 → Type 0 → Type 0
-UpgradesBehind told name status read write = IfSome (told name) (λ bytes. IsGoodBasin bytes → (read → ⊥) → (write → ⊥) → IsDone status)
+UpgradesBehind told name status read write =
+    IfSome (told name) (λ bytes. IsGoodBasin bytes → (read → ⊥) → (write → ⊥) → IsDone status)
 
 -- out was left with such a text, or after a fault of out with a front of it
 abbrev pub UpgradeWrites : Told → List ℕ → Status → Option (List ℕ) → Option (List ℕ) → Type 0
 UpgradeWrites told name status old new =
-    IfSome (told name) (λ bytes. MayWrite status → (text : List ℕ) × IsUpgradeOf bytes text × Leaves status text old new)
+    IfSome (told name) (λ bytes. MayWrite status → (text : List ℕ) × IsUpgradeOf bytes text ×
+    Leaves status text old new)

@@ -27,8 +27,8 @@ pub record IsWrittenRun (b : Basin) (series : Inflows) (old now : Option (List �
   pub keeps : KeepsPriority b series records
   pub text : Appends old now (text_bytes b records)
 
--- Where writing stopped: of the first months of a run all but the last stand behind what out had taken, and of the last one a
--- front; no line of the tail stands before all months do. No month is solved of which nothing could be written.
+-- Where writing stopped: of the first months of a run all but the last stand behind what out had taken, and of the last
+-- one a front; no line of the tail stands before all months do. No month is solved of which nothing could be written.
 pub record StopsWriting (b : Basin) (series : Inflows) (old now : Option (List ℕ)) (before after : ℕ) : Type 0 where
   pub records : List MonthRecord
   pub partial : IsPartialHistory b series records

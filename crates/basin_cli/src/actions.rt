@@ -34,8 +34,8 @@ use water_edge::Sink;
 use water_model::types::{Basin, Inflows};
 use water_text::line::Line;
 
-/// Solves the months of a basin with a series and puts their text, each month's lines as soon as it is solved. Memory is taken
-/// before the first byte is put.
+/// Solves the months of a basin with a series and puts their text, each month's lines as soon as it is solved. Memory
+/// is taken before the first byte is put.
 pub fn run_basin<K: Sink, L: Ledger>(
     alloc: Global,
     basin: &Basin,
@@ -78,7 +78,8 @@ pub fn report_basin<K: Sink, L: Ledger>(
     requires basin { IsValidBasin basin.now }
     requires series { IsSeriesOf basin.now series.now }
     ensures ends { HasTrialCause result (Rose (K.faults out.old) (K.faults out.new)) }
-    ensures leaves { LeavesRecords (IsRun basin.now series.now) (report_text basin.now series.now) result (K.taken out.old) (K.taken out.new) }
+    ensures leaves { LeavesRecords (IsRun basin.now series.now) (report_text basin.now series.now) result
+        (K.taken out.old) (K.taken out.new) }
     ensures out_stays { (MayWrite (status_of result) → ⊥) → out.new ≡ out.old }
     ensures idle { (MayWrite (status_of result) → ⊥) → searches.new ≡ searches.old }
     ensures pushes { searches.new ≤ searches.old + run_pushes basin.now }
@@ -133,7 +134,8 @@ pub fn try_basin<K: Sink, L: Ledger>(
     requires some { 2 ≤ size }
     requires size { size ≤ 2000 }
     ensures ends { HasTrialCause result (Rose (K.faults out.old) (K.faults out.new)) }
-    ensures writes { MayWrite (status_of result) → WritesTrial (status_of result) number size (K.taken out.old) (K.taken out.new) }
+    ensures writes { MayWrite (status_of result) →
+        WritesTrial (status_of result) number size (K.taken out.old) (K.taken out.new) }
     ensures out_stays { (MayWrite (status_of result) → ⊥) → out.new ≡ out.old }
     ensures idle { (MayWrite (status_of result) → ⊥) → searches.new ≡ searches.old }
     ensures pushes { searches.new ≤ searches.old + run_pushes (generated number size) }

@@ -22,8 +22,8 @@ use water_model::types::{Basin, Inflows};
 /// How many bytes of a result are asked for at once.
 const PART: usize = 65_536;
 
-/// The answer to the result of this name, which is read in parts from its first byte on. Where a line is at fault, no part
-/// behind the one that ends it is read. ReadFault comes where the reading of a part failed.
+/// The answer to the result of this name, which is read in parts from its first byte on. Where a line is at fault, no
+/// part behind the one that ends it is read. ReadFault comes where the reading of a part failed.
 ///
 /// It takes no memory.
 pub fn answer_parts<S: Shelf>(
@@ -37,7 +37,8 @@ pub fn answer_parts<S: Shelf>(
     ensures same { SameShelf (S.told shelf.old) (S.told shelf.new) (S.serves shelf.old) (S.serves shelf.new) }
     ensures later { S.faults shelf.old ≤ S.faults shelf.new }
     ensures answer { IfOk result (IsAnswerTo checker.old.basin checker.old.series (S.told shelf.old name.now)) }
-    ensures fault { IfErr result (λ e. (e ≡ ending.ReadFault file.Result) × Rose (S.faults shelf.old) (S.faults shelf.new)) }
+    ensures fault { IfErr result (λ e. (e ≡ ending.ReadFault file.Result) ×
+        Rose (S.faults shelf.old) (S.faults shelf.new)) }
 {
     let mut part = [0u8; PART];
     let mut from = 0u64;
@@ -56,8 +57,9 @@ pub fn answer_parts<S: Shelf>(
     }
 }
 
-/// Checks the result of this name as it is read, and puts the answer: the number of its months, or the first line at fault
-/// and why. All memory is taken before the first byte of the result is asked for, so OutOfMemory says nothing of the result.
+/// Checks the result of this name as it is read, and puts the answer: the number of its months, or the first line at
+/// fault and why. All memory is taken before the first byte of the result is asked for, so OutOfMemory says nothing of
+/// the result.
 pub fn check_file<S: Shelf, K: Sink>(
     alloc: Global,
     basin: &Basin,

@@ -74,7 +74,8 @@ fn files_named<'a>(basin: &'a str, series: &'a str) -> Inputs<'a>
 
 /// A trial, where the words are a number of 32 bits and a size from 2 to 2,000.
 fn trial_words<'a>(number: &str, size: &str) -> Option<Words<'a>>
-    ensures words { option_map command_named result ≡ trial_of (read_amount number.now 4294967295) (read_amount size.now 2000) }
+    ensures words { option_map command_named result ≡ trial_of (read_amount number.now 4294967295)
+        (read_amount size.now 2000) }
     ensures form { IfSome result IsInForm }
 {
     let number = read_amount(number.as_bytes(), 4_294_967_295)?;
@@ -91,7 +92,8 @@ fn trial_words<'a>(number: &str, size: &str) -> Option<Words<'a>>
 
 /// A question why a right got no more, where the words are a month and a name.
 fn why_words<'a>(inputs: Inputs<'a>, month: &str, right: &'a str) -> Option<Words<'a>>
-    ensures words { option_map command_named result ≡ why_of (named inputs.entry) (read_month month.now) right.entry.now }
+    ensures words { option_map command_named result ≡ why_of (named inputs.entry) (read_month month.now)
+        right.entry.now }
     ensures form { IfSome result IsInForm }
 {
     let month = Month::read(month.as_bytes())?;

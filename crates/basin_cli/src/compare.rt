@@ -27,10 +27,13 @@ pub fn do_compare<S: Shelf, K: Sink, L: Ledger>(
     requires { ServesFiles (S.serves shelf.old) (Some (compare (named inputs) second.now)) }
     ensures cause { EndingHasCause (Some (compare (named inputs.entry) second.now)) result (S.told shelf.old)
         (Rose (S.faults shelf.old) (S.faults shelf.new)) (Rose (K.faults out.old) (K.faults out.new)) }
-    ensures writes { WritesFor (Some (compare (named inputs.entry) second.now)) (status_of result) (S.told shelf.old) (K.taken out.old) (K.taken out.new) searches.old searches.new }
-    ensures out_stays { (MayLeave (Some (compare (named inputs.entry) second.now)) (status_of result) → ⊥) → out.new ≡ out.old }
+    ensures writes { WritesFor (Some (compare (named inputs.entry) second.now)) (status_of result) (S.told shelf.old)
+        (K.taken out.old) (K.taken out.new) searches.old searches.new }
+    ensures out_stays { (MayLeave (Some (compare (named inputs.entry) second.now)) (status_of result) → ⊥) →
+        out.new ≡ out.old }
     ensures idle { IsRefusal (status_of result) → searches.new ≡ searches.old }
-    ensures pushes { PushesFor (Some (compare (named inputs.entry) second.now)) (S.told shelf.old) searches.old searches.new }
+    ensures pushes { PushesFor (Some (compare (named inputs.entry) second.now)) (S.told shelf.old) searches.old
+        searches.new }
     ensures told { CanBeTold result }
     ensures handed { IsQuiet (status_of result) → K.handed out.new ≡ K.taken out.new }
 {

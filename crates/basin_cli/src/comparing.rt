@@ -37,7 +37,9 @@ fn draft_injuries(
     requires fits { length first.now.delivered ≡ length basin.now.rights }
     requires records { HaveDeliveries pairing.now first.now second.now }
     ensures number { IfOk result (λ count. count ≡ length (injuries_of pairing.now first.now second.now)) }
-    ensures rows { OnOk result (draft.new.bytes ≡ draft.old.bytes ++ flat_map (injured_row basin.now) (injuries_of pairing.now first.now second.now)) }
+    ensures rows { OnOk result
+        (draft.new.bytes ≡ draft.old.bytes ++ flat_map (injured_row basin.now)
+        (injuries_of pairing.now first.now second.now)) }
 {
     match pairing.put_injured(draft, basin, first, second) {
         Ok(count) => Ok(count),
@@ -45,8 +47,8 @@ fn draft_injuries(
     }
 }
 
-/// Solves the next month of both runs and appends the rows of its injuries. `injured` counts those of the months before,
-/// and the answer those of this month too.
+/// Solves the next month of both runs and appends the rows of its injuries. `injured` counts those of the months
+/// before, and the answer those of this month too.
 fn compare_month<L: Ledger>(
     draft: &mut Draft,
     pairing: &Pairing,
@@ -138,7 +140,9 @@ fn compare_runs<L: Ledger>(
     requires other_run { second.old.basin ≡ other.now }
     requires fresh { StandsFor first.old [] }
     requires other_fresh { StandsFor second.old [] }
-    ensures text { IfOk result (λ drafted. IsTextOfComparison basin.now other.now first.old.series second.old.series drafted.0.bytes drafted.1) }
+    ensures text { IfOk result
+        (λ drafted. IsTextOfComparison basin.now other.now first.old.series second.old.series drafted.0.bytes
+        drafted.1) }
     ensures pushes { searches.new ≤ searches.old + (run_pushes basin.now + run_pushes other.now) }
 {
     let mut draft = Draft::new(alloc);
@@ -161,7 +165,8 @@ pub fn text_of_comparison<L: Ledger>(
     requires months { other.now.months ≡ basin.now.months }
     requires series { IsSeriesOf basin.now series.now }
     requires other_series { IsSeriesOf other.now other_series.now }
-    ensures text { IfOk result (λ drafted. IsTextOfComparison basin.now other.now series.now other_series.now drafted.0.bytes drafted.1) }
+    ensures text { IfOk result
+        (λ drafted. IsTextOfComparison basin.now other.now series.now other_series.now drafted.0.bytes drafted.1) }
     ensures pushes { searches.new ≤ searches.old + (run_pushes basin.now + run_pushes other.now) }
 {
     let pairing = Pairing::build(alloc, basin, other)?;

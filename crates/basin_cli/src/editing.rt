@@ -73,8 +73,8 @@ fn answer_edits<K: Sink, L: Ledger>(
     }
 }
 
-/// Changes numbers of a basin's series as a script says, and puts the months that it shows, each of the series as it is by
-/// then. The months before a change are not solved again, and nothing is put where the script is refused.
+/// Changes numbers of a basin's series as a script says, and puts the months that it shows, each of the series as it is
+/// by then. The months before a change are not solved again, and nothing is put where the script is refused.
 pub fn edit_basin<K: Sink, L: Ledger>(
     alloc: Global,
     basin: &Basin,

@@ -4,7 +4,9 @@ ghost use Rattle.std.specs.Fmt.{decimal};
 ghost use Rattle.water_text.specs.Months.{IsMonth, month_digits};
 ghost use Rattle.inflow_file.specs.FaultNames.{fault_name};
 ghost use Rattle.water_edge.specs.Edge.{Rose};
-ghost use Rattle.basin_cli.specs.Ending.{status_of, status_of_second, line_of, refusal_line, second_line, second_of, series_line, file_name, script_fault_name, script_line, CanBeTold, CanBeSpelled, CanBeSpelledOfSecond};
+ghost use Rattle.basin_cli.specs.Ending.{status_of, status_of_second, line_of, refusal_line, second_line, second_of};
+ghost use Rattle.basin_cli.specs.Ending.{series_line, file_name, script_fault_name, script_line, CanBeTold};
+ghost use Rattle.basin_cli.specs.Ending.{CanBeSpelled, CanBeSpelledOfSecond};
 ghost use Rattle.basin_cli.specs.Outcome.{IsQuiet, Tells};
 
 use crate::handing::put_whole;
@@ -287,7 +289,8 @@ fn put_line(line: &mut Line, ending: &Ending)
 /// Puts the line of an ending to err. If err fails, a front of it stands there. It takes no memory.
 pub fn tell<E: Sink>(ending: &Ending, err: &mut E)
     requires { CanBeTold ending.now }
-    ensures tells { Tells (E.taken err.old) (E.taken err.new) (E.faults err.old) (E.faults err.new) (line_of ending.now) }
+    ensures tells { Tells (E.taken err.old) (E.taken err.new) (E.faults err.old) (E.faults err.new)
+        (line_of ending.now) }
     ensures handed { (Rose (E.faults err.old) (E.faults err.new) → ⊥) → E.handed err.new ≡ E.taken err.new }
 {
     let mut line = Line::new();

@@ -1,5 +1,6 @@
 //! Why a right got no more in a month: the account book of its reach, or that it is met.
-ghost use Rattle.std.specs.Prelude.{ℕ, List, [], ◌∷◌, ◌≡◌, ◌+◌, ◌*◌, ◌<◌, ◌≤◌, ◌++◌, ◌↔◌, length, IsTrue, IsErr, IfNone, IfSome, OnOk};
+ghost use Rattle.std.specs.Prelude.{ℕ, List, [], ◌∷◌, ◌≡◌, ◌+◌, ◌*◌, ◌<◌, ◌≤◌, ◌++◌, ◌↔◌, length, IsTrue, IsErr};
+ghost use Rattle.std.specs.Prelude.{IfNone, IfSome, OnOk};
 ghost use Rattle.water_text.specs.Months.{IsMonth};
 ghost use Rattle.water_model.specs.History.{IsShort};
 ghost use Rattle.water_model.specs.Valid.{IsValidBasin, IsSeriesOf};
@@ -12,7 +13,8 @@ ghost use Rattle.senior_hold.specs.MonthNetwork.{month_pushes};
 ghost use Rattle.water_edge.specs.Edge.{HasCause, Puts, Rose};
 ghost use Rattle.basin_cli.specs.Actions.{AnswersAt, EndsAsking, IsAnswered};
 ghost use Rattle.basin_cli.specs.Ending.{status_of};
-ghost use Rattle.basin_cli.specs.Explained.{EndsExplaining, Explains, HasLast, HasMonth, HasRight, IsMonthAt, IsRightNamed, PushesUpTo, met_line};
+ghost use Rattle.basin_cli.specs.Explained.{EndsExplaining, Explains, HasLast, HasMonth, HasRight, IsMonthAt};
+ghost use Rattle.basin_cli.specs.Explained.{IsRightNamed, PushesUpTo, met_line};
 ghost use Rattle.basin_cli.specs.Out.{IsRefusal, Leaves, MayWrite};
 ghost use Rattle.basin_cli.specs.Outcome.{IsQuiet};
 ghost use Rattle.basin_cli.specs.declared.ending.Ending.TheVariants.{OutOfMemory};
@@ -129,8 +131,8 @@ fn is_short(month: &MonthRecord, right: u32) -> bool
     month.delivered[right as usize] < month.want[right as usize]
 }
 
-/// Puts why a right got no more in a month whose sets are the reaches: the book of its reach, or that it is met. It takes no
-/// memory.
+/// Puts why a right got no more in a month whose sets are the reaches: the book of its reach, or that it is met. It
+/// takes no memory.
 fn put_answer<K: Sink>(
     sink: &mut K,
     basin: &Basin,
@@ -143,7 +145,8 @@ fn put_answer<K: Sink>(
     requires month { FitsText basin.now month.now }
     requires reaches { HasReaches basin.now month.now }
     requires right { right < length basin.now.rights }
-    ensures text { (text : List ℕ) × Explains basin.now month.now right text × Puts (K.taken sink.old) (K.taken sink.new) result text }
+    ensures text { (text : List ℕ) × Explains basin.now month.now right text ×
+        Puts (K.taken sink.old) (K.taken sink.new) result text }
     ensures cause { HasCause (K.faults sink.old) (K.faults sink.new) (IsErr result) }
 {
     if is_short(month, right) {
@@ -181,7 +184,8 @@ fn answer<K: Sink>(
     requires reaches { HasReaches basin.now month.now }
     requires right { right < length basin.now.rights }
     ensures ends { EndsExplaining month.now right result (Rose (K.faults out.old) (K.faults out.new)) }
-    ensures leaves { (text : List ℕ) × Explains basin.now month.now right text × Leaves (status_of result) text (K.taken out.old) (K.taken out.new) }
+    ensures leaves { (text : List ℕ) × Explains basin.now month.now right text ×
+        Leaves (status_of result) text (K.taken out.old) (K.taken out.new) }
     ensures idle { IsRefusal (status_of result) → ⊥ }
     ensures handed { IsQuiet (status_of result) → K.handed out.new ≡ K.taken out.new }
 {
@@ -255,8 +259,8 @@ fn explain_at<K: Sink, L: Ledger>(
     explain_in(&mut run, basin, &roll, index, right, out, searches)
 }
 
-/// Puts why the right of this name got no more in a month: the account book of its reach where it is short, and else that it
-/// is met. Months are solved up to this one and no further, and nothing is put before it is solved.
+/// Puts why the right of this name got no more in a month: the account book of its reach where it is short, and else
+/// that it is met. Months are solved up to this one and no further, and nothing is put before it is solved.
 pub fn explain_right<K: Sink, L: Ledger>(
     alloc: Global,
     basin: &Basin,

@@ -1,5 +1,6 @@
 //! The files of a command: a basin, and a series of its gauged inflows.
-ghost use Rattle.std.specs.Prelude.{◌≡◌, ◌≢◌, ◌<◌, ◌≤◌, ℕ, List, Some, None, IfOk, OnOk, IfErr, IfSome, length, option_map};
+ghost use Rattle.std.specs.Prelude.{◌≡◌, ◌≢◌, ◌<◌, ◌≤◌, ℕ, List, Some, None, IfOk, OnOk, IfErr, IfSome, length};
+ghost use Rattle.std.specs.Prelude.{option_map};
 ghost use Rattle.water_edge.specs.Edge.{AsksFor, Rose, SameShelf, HasCause};
 ghost use Rattle.basin_file.specs.BasinFaults.{Spells, file_fault};
 ghost use Rattle.index_seq.specs.Traces.{HasWholeYears};
@@ -13,7 +14,8 @@ ghost use Rattle.basin_cli.specs.Header.{header};
 ghost use Rattle.basin_cli.specs.Bytes.{file_limit, series_told};
 ghost use Rattle.basin_cli.specs.Outcome.{StopsReadingYears};
 ghost use Rattle.basin_cli.specs.Reading.{StopsReading};
-ghost use Rattle.basin_cli.specs.Series.{AreLoaded, FileEnds, BasinEnds, BasinReadEnds, SeriesEnds, SeriesReadEnds, YearsReadEnds, IsBasinText, IsSeriesText};
+ghost use Rattle.basin_cli.specs.Series.{AreLoaded, FileEnds, BasinEnds, BasinReadEnds, SeriesEnds, SeriesReadEnds};
+ghost use Rattle.basin_cli.specs.Series.{YearsReadEnds, IsBasinText, IsSeriesText};
 
 use crate::command::Inputs;
 use crate::ending::{Ending, File, SeriesFinding};
@@ -41,7 +43,8 @@ pub fn read_file<S: Shelf>(
     ensures asked { AsksFor (S.asked shelf.old) (S.asked shelf.new) name.now }
     ensures within { IfOk result (λ text. length text.items ≤ file_limit) }
     ensures bytes { IfOk result (λ text. IfSome (S.told shelf.old name.now) (λ bytes. text.items ≡ bytes)) }
-    ensures ends { IfErr result (λ e. FileEnds file (S.told shelf.old name.now) (Rose (S.faults shelf.old) (S.faults shelf.new)) e) }
+    ensures ends { IfErr result
+        (λ e. FileEnds file (S.told shelf.old name.now) (Rose (S.faults shelf.old) (S.faults shelf.new)) e) }
 {
     match shelf.read_whole(alloc, name, FILE_LIMIT) {
         Ok(text) => Ok(text),
@@ -83,7 +86,8 @@ pub fn read_basin_file<S: Shelf>(alloc: Global, shelf: &mut S, name: &str) -> Re
     ensures asked { AsksFor (S.asked shelf.old) (S.asked shelf.new) name.now }
     ensures valid { IfOk result IsValidBasin }
     ensures text { IfOk result (λ basin. IfSome (S.told shelf.old name.now) (IsBasinText basin)) }
-    ensures ends { IfErr result (λ e. BasinReadEnds (S.told shelf.old name.now) (Rose (S.faults shelf.old) (S.faults shelf.new)) e) }
+    ensures ends { IfErr result
+        (λ e. BasinReadEnds (S.told shelf.old name.now) (Rose (S.faults shelf.old) (S.faults shelf.new)) e) }
 {
     let text = read_file(alloc, shelf, name, File::Basin)?;
     accept_basin(alloc, &text)
@@ -160,10 +164,15 @@ fn read_series<S: Shelf>(
     requires serves { ServesSeries (S.serves shelf.old) (option_map (λ n. n.now) name) }
     ensures same { SameShelf (S.told shelf.old) (S.told shelf.new) (S.serves shelf.old) (S.serves shelf.new) }
     ensures later { S.faults shelf.old ≤ S.faults shelf.new }
-    ensures asked { (other : List ℕ) → Some other ≢ option_map (λ n. n.now) name.entry → S.asked shelf.new other ≡ S.asked shelf.old other }
+    ensures asked { (other : List ℕ) → Some other ≢ option_map (λ n. n.now) name.entry →
+        S.asked shelf.new other ≡ S.asked shelf.old other }
     ensures fits { IfOk result (λ series. IsSeriesOf basin.now series) }
-    ensures text { IfOk result (λ series. IfSome (series_told (S.told shelf.old) (option_map (λ n. n.now) name.entry)) (IsSeriesText basin.now series)) }
-    ensures ends { IfErr result (λ e. SeriesReadEnds basin.now (option_map (λ n. n.now) name.entry) (series_told (S.told shelf.old) (option_map (λ n. n.now) name.entry))
+    ensures text { IfOk result
+        (λ series. IfSome (series_told (S.told shelf.old) (option_map (λ n. n.now) name.entry))
+        (IsSeriesText basin.now series)) }
+    ensures ends { IfErr result
+        (λ e. SeriesReadEnds basin.now (option_map (λ n. n.now) name.entry)
+        (series_told (S.told shelf.old) (option_map (λ n. n.now) name.entry))
         (Rose (S.faults shelf.old) (S.faults shelf.new)) e) }
     ensures told { IfErr result CanBeTold }
 {
@@ -194,7 +203,8 @@ pub fn read_inputs<S: Shelf>(alloc: Global, shelf: &mut S, inputs: Inputs) -> Re
     ensures valid { IfOk result (λ files. IsValidBasin files.basin) }
     ensures fits { IfOk result (λ files. IsSeriesOf files.basin files.series) }
     ensures loaded { IfOk result (λ files. AreLoaded (S.told shelf.old) (named inputs.entry) files.basin files.series) }
-    ensures stops { IfErr result (λ e. StopsReading (named inputs.entry) e (S.told shelf.old) (Rose (S.faults shelf.old) (S.faults shelf.new))) }
+    ensures stops { IfErr result
+        (λ e. StopsReading (named inputs.entry) e (S.told shelf.old) (Rose (S.faults shelf.old) (S.faults shelf.new))) }
     ensures told { IfErr result CanBeTold }
 {
     let basin = read_basin_file(alloc, shelf, inputs.basin)?;
@@ -210,7 +220,8 @@ fn read_years<S: Shelf>(alloc: Global, shelf: &mut S, name: &str) -> Result<Basi
     ensures valid { IfOk result IsValidBasin }
     ensures whole { IfOk result HasWholeYears }
     ensures text { IfOk result (λ basin. IfSome (S.told shelf.old name.now) (IsBasinText basin)) }
-    ensures ends { IfErr result (λ e. YearsReadEnds (S.told shelf.old name.now) (Rose (S.faults shelf.old) (S.faults shelf.new)) e) }
+    ensures ends { IfErr result
+        (λ e. YearsReadEnds (S.told shelf.old name.now) (Rose (S.faults shelf.old) (S.faults shelf.new)) e) }
 {
     let basin = read_basin_file(alloc, shelf, name)?;
     if basin.months % 12 == 0 {
@@ -230,7 +241,9 @@ pub fn read_record<S: Shelf>(alloc: Global, shelf: &mut S, inputs: Inputs) -> Re
     ensures whole { IfOk result (λ files. HasWholeYears files.basin) }
     ensures fits { IfOk result (λ files. IsSeriesOf files.basin files.series) }
     ensures loaded { IfOk result (λ files. AreLoaded (S.told shelf.old) (named inputs.entry) files.basin files.series) }
-    ensures stops { IfErr result (λ e. StopsReadingYears (named inputs.entry) e (S.told shelf.old) (Rose (S.faults shelf.old) (S.faults shelf.new))) }
+    ensures stops { IfErr result
+        (λ e. StopsReadingYears (named inputs.entry) e (S.told shelf.old)
+        (Rose (S.faults shelf.old) (S.faults shelf.new))) }
     ensures told { IfErr result CanBeTold }
 {
     let basin = read_years(alloc, shelf, inputs.basin)?;

@@ -33,10 +33,10 @@ fn refusal(ending: &Ending) -> Found
     }
 }
 
-/// Checks the bytes of a result against those of a basin file and of a series: the whole meaning of a yes and of a no, without
-/// files, statuses and limits. A yes or a no comes only where nothing is at fault in basin and series. The command `check`
-/// answers the same of files within its limits, and names the line at fault. It takes memory, and OutOfMemory comes only
-/// where that is lacking.
+/// Checks the bytes of a result against those of a basin file and of a series: the whole meaning of a yes and of a no,
+/// without files, statuses and limits. A yes or a no comes only where nothing is at fault in basin and series. The
+/// command `check` answers the same of files within its limits, and names the line at fault. It takes memory, and
+/// OutOfMemory comes only where that is lacking.
 pub fn check_result(alloc: Global, basin: &[u8], series: &[u8], text: &[u8]) -> Found
     ensures { IsFound result basin.now series.now text.now }
 {

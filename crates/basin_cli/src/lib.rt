@@ -1,5 +1,5 @@
-//! The top call of the program: it reads BASIN and SERIES, solves the months of the basin and writes their result, or says
-//! why not.
+//! The top call of the program: it reads BASIN and SERIES, solves the months of the basin and writes their result, or
+//! says why not.
 #![tactic(auto)]
 
 mod actions;

@@ -1,5 +1,6 @@
 //! The files of a comparison: two basins whose runs have the same months, and one series for both.
-ghost use Rattle.std.specs.Prelude.{◌≡◌, ◌≤◌, ◌↔◌, None, IfOk, OnOk, IfErr, IfSome, IsTrue, MatchResult, length, option_map};
+ghost use Rattle.std.specs.Prelude.{◌≡◌, ◌≤◌, ◌↔◌, None, IfOk, OnOk, IfErr, IfSome, IsTrue, MatchResult, length};
+ghost use Rattle.std.specs.Prelude.{option_map};
 ghost use Rattle.water_edge.specs.Edge.{Rose, SameShelf};
 ghost use Rattle.water_model.specs.Valid.{IsValidBasin, IsSeriesOf};
 ghost use Rattle.basin_cli.specs.Bytes.{file_limit, series_told};
@@ -7,7 +8,8 @@ ghost use Rattle.basin_cli.specs.Command.{ServesSeries, named};
 ghost use Rattle.basin_cli.specs.Comparison.{HaveSameMonths, StopsComparing};
 ghost use Rattle.basin_cli.specs.Ending.{CanBeTold};
 ghost use Rattle.basin_cli.specs.Header.{header};
-ghost use Rattle.basin_cli.specs.Pairs.{ArePaired, BothSeriesEnd, BothSeriesReadEnd, IsOtherRun, SecondEnds, SecondReadEnds};
+ghost use Rattle.basin_cli.specs.Pairs.{ArePaired, BothSeriesEnd, BothSeriesReadEnd, IsOtherRun, SecondEnds};
+ghost use Rattle.basin_cli.specs.Pairs.{SecondReadEnds};
 ghost use Rattle.basin_cli.specs.Series.{AreLoaded, IsBasinText, IsSeriesText};
 
 use crate::command::Inputs;
@@ -45,7 +47,8 @@ fn read_second<S: Shelf>(alloc: Global, shelf: &mut S, name: &str) -> Result<Bas
     ensures later { S.faults shelf.old ≤ S.faults shelf.new }
     ensures valid { IfOk result IsValidBasin }
     ensures text { IfOk result (λ basin. IfSome (S.told shelf.old name.now) (IsBasinText basin)) }
-    ensures ends { IfErr result (SecondReadEnds (S.told shelf.old name.now) (Rose (S.faults shelf.old) (S.faults shelf.new))) }
+    ensures ends { IfErr result
+        (SecondReadEnds (S.told shelf.old name.now) (Rose (S.faults shelf.old) (S.faults shelf.new))) }
 {
     let text = read_file(alloc, shelf, name, File::SecondBasin)?;
     accept_second(alloc, &text)
@@ -85,7 +88,9 @@ fn read_basins<S: Shelf>(
     ensures text { IfOk result (λ basins. IfSome (S.told shelf.old inputs.entry.basin.now) (IsBasinText basins.0)) }
     ensures second_text { IfOk result (λ basins. IfSome (S.told shelf.old second.now) (IsBasinText basins.1)) }
     ensures months { IfOk result (λ basins. HaveSameMonths basins.0 basins.1) }
-    ensures stops { IfErr result (λ e. StopsComparing (named inputs.entry) second.now e (S.told shelf.old) (Rose (S.faults shelf.old) (S.faults shelf.new))) }
+    ensures stops { IfErr result
+        (λ e. StopsComparing (named inputs.entry) second.now e (S.told shelf.old)
+        (Rose (S.faults shelf.old) (S.faults shelf.new))) }
     ensures told { IfErr result CanBeTold }
 {
     let basin = read_basin_file(alloc, shelf, inputs.basin)?;
@@ -152,9 +157,15 @@ fn read_for_both<S: Shelf>(
     ensures later { S.faults shelf.old ≤ S.faults shelf.new }
     ensures fits { IfOk result (λ both. IsSeriesOf first.now both.0) }
     ensures second_fits { IfOk result (λ both. IsSeriesOf second.now both.1) }
-    ensures text { IfOk result (λ both. IfSome (series_told (S.told shelf.old) (option_map (λ n. n.now) name.entry)) (IsSeriesText first.now both.0)) }
-    ensures second_text { IfOk result (λ both. IfSome (series_told (S.told shelf.old) (option_map (λ n. n.now) name.entry)) (IsSeriesText second.now both.1)) }
-    ensures ends { IfErr result (BothSeriesReadEnd first.now second.now (option_map (λ n. n.now) name.entry) (series_told (S.told shelf.old) (option_map (λ n. n.now) name.entry))
+    ensures text { IfOk result
+        (λ both. IfSome (series_told (S.told shelf.old) (option_map (λ n. n.now) name.entry))
+        (IsSeriesText first.now both.0)) }
+    ensures second_text { IfOk result
+        (λ both. IfSome (series_told (S.told shelf.old) (option_map (λ n. n.now) name.entry))
+        (IsSeriesText second.now both.1)) }
+    ensures ends { IfErr result
+        (BothSeriesReadEnd first.now second.now (option_map (λ n. n.now) name.entry)
+        (series_told (S.told shelf.old) (option_map (λ n. n.now) name.entry))
         (Rose (S.faults shelf.old) (S.faults shelf.new))) }
     ensures told { IfErr result CanBeTold }
 {
@@ -178,7 +189,9 @@ pub fn read_pair<S: Shelf>(
     requires series { ServesSeries (S.serves shelf.old) (option_map (λ n. n.now) inputs.series) }
     requires second { S.serves shelf.old second.now }
     ensures paired { IfOk result (λ pair. ArePaired (S.told shelf.old) (named inputs.entry) second.now pair) }
-    ensures stops { IfErr result (λ e. StopsComparing (named inputs.entry) second.now e (S.told shelf.old) (Rose (S.faults shelf.old) (S.faults shelf.new))) }
+    ensures stops { IfErr result
+        (λ e. StopsComparing (named inputs.entry) second.now e (S.told shelf.old)
+        (Rose (S.faults shelf.old) (S.faults shelf.new))) }
     ensures told { IfErr result CanBeTold }
 {
     let (basin, other) = read_basins(alloc, shelf, inputs, second)?;

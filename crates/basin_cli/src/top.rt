@@ -2,7 +2,8 @@
 ghost use Rattle.std.specs.Prelude.{◌≡◌, ◌+◌, ◌*◌, ◌≤◌, Some, map, option_map, string_bytes};
 ghost use Rattle.water_edge.specs.Edge.{Rose};
 ghost use Rattle.water_text.specs.Months.{IsMonth};
-ghost use Rattle.basin_cli.specs.Command.{IsInForm, ServesFiles, ServesSeries, check, command_named, command_of, edit, named, ensemble, report, run, why};
+ghost use Rattle.basin_cli.specs.Command.{IsInForm, ServesFiles, ServesSeries, check, command_named, command_of, edit};
+ghost use Rattle.basin_cli.specs.Command.{named, ensemble, report, run, why};
 ghost use Rattle.basin_cli.specs.Ending.{status_of, CanBeTold};
 ghost use Rattle.basin_cli.specs.Out.{IsIdle, IsUnread, MayLeave};
 ghost use Rattle.basin_cli.specs.Outcome.{EndingHasCause, Ends, Completes, WritesFor, PushesFor, IsQuiet};
@@ -34,7 +35,8 @@ fn do_run<S: Shelf, K: Sink, L: Ledger>(
     requires { ServesFiles (S.serves shelf.old) (Some (run (named inputs))) }
     ensures cause { EndingHasCause (Some (run (named inputs.entry))) result (S.told shelf.old)
         (Rose (S.faults shelf.old) (S.faults shelf.new)) (Rose (K.faults out.old) (K.faults out.new)) }
-    ensures writes { WritesFor (Some (run (named inputs.entry))) (status_of result) (S.told shelf.old) (K.taken out.old) (K.taken out.new) searches.old searches.new }
+    ensures writes { WritesFor (Some (run (named inputs.entry))) (status_of result) (S.told shelf.old) (K.taken out.old)
+        (K.taken out.new) searches.old searches.new }
     ensures out_stays { (MayLeave (Some (run (named inputs.entry))) (status_of result) → ⊥) → out.new ≡ out.old }
     ensures idle { IsIdle (Some (run (named inputs.entry))) (status_of result) → searches.new ≡ searches.old }
     ensures pushes { PushesFor (Some (run (named inputs.entry))) (S.told shelf.old) searches.old searches.new }
@@ -59,7 +61,8 @@ fn do_report<S: Shelf, K: Sink, L: Ledger>(
     requires { ServesFiles (S.serves shelf.old) (Some (report (named inputs))) }
     ensures cause { EndingHasCause (Some (report (named inputs.entry))) result (S.told shelf.old)
         (Rose (S.faults shelf.old) (S.faults shelf.new)) (Rose (K.faults out.old) (K.faults out.new)) }
-    ensures writes { WritesFor (Some (report (named inputs.entry))) (status_of result) (S.told shelf.old) (K.taken out.old) (K.taken out.new) searches.old searches.new }
+    ensures writes { WritesFor (Some (report (named inputs.entry))) (status_of result) (S.told shelf.old)
+        (K.taken out.old) (K.taken out.new) searches.old searches.new }
     ensures out_stays { (MayLeave (Some (report (named inputs.entry))) (status_of result) → ⊥) → out.new ≡ out.old }
     ensures idle { IsIdle (Some (report (named inputs.entry))) (status_of result) → searches.new ≡ searches.old }
     ensures pushes { PushesFor (Some (report (named inputs.entry))) (S.told shelf.old) searches.old searches.new }
@@ -73,7 +76,8 @@ fn do_report<S: Shelf, K: Sink, L: Ledger>(
     report_basin(alloc, &files.basin, &files.series, out, searches)
 }
 
-/// `check`: reads a result, in parts, and puts whether it is the text of a history of a basin with its series, or why not.
+/// `check`: reads a result, in parts, and puts whether it is the text of a history of a basin with its series, or why
+/// not.
 fn do_check<S: Shelf, K: Sink>(
     alloc: Global,
     inputs: Inputs,
@@ -84,9 +88,12 @@ fn do_check<S: Shelf, K: Sink>(
     requires { ServesFiles (S.serves shelf.old) (Some (check (named inputs) result_name.now)) }
     ensures cause { EndingHasCause (Some (check (named inputs.entry) result_name.now)) result (S.told shelf.old)
         (Rose (S.faults shelf.old) (S.faults shelf.new)) (Rose (K.faults out.old) (K.faults out.new)) }
-    ensures writes { WritesFor (Some (check (named inputs.entry) result_name.now)) (status_of result) (S.told shelf.old) (K.taken out.old) (K.taken out.new) 0 0 }
-    ensures out_stays { (MayLeave (Some (check (named inputs.entry) result_name.now)) (status_of result) → ⊥) → out.new ≡ out.old }
-    ensures unread { IsUnread (Some (check (named inputs.entry) result_name.now)) (status_of result) (S.asked shelf.old) (S.asked shelf.new) }
+    ensures writes { WritesFor (Some (check (named inputs.entry) result_name.now)) (status_of result) (S.told shelf.old)
+        (K.taken out.old) (K.taken out.new) 0 0 }
+    ensures out_stays { (MayLeave (Some (check (named inputs.entry) result_name.now)) (status_of result) → ⊥) →
+        out.new ≡ out.old }
+    ensures unread { IsUnread (Some (check (named inputs.entry) result_name.now)) (status_of result) (S.asked shelf.old)
+        (S.asked shelf.new) }
     ensures told { CanBeTold result }
     ensures handed { IsQuiet (status_of result) → K.handed out.new ≡ K.taken out.new }
 {
@@ -97,7 +104,8 @@ fn do_check<S: Shelf, K: Sink>(
     check_file(alloc, &files.basin, &files.series, shelf, result_name, out)
 }
 
-/// `why`: solves the months of a basin with its series up to one month, and puts why the right of this name got no more in it.
+/// `why`: solves the months of a basin with its series up to one month, and puts why the right of this name got no more
+/// in it.
 fn do_why<S: Shelf, K: Sink, L: Ledger>(
     alloc: Global,
     inputs: Inputs,
@@ -111,10 +119,14 @@ fn do_why<S: Shelf, K: Sink, L: Ledger>(
     requires month { IsMonth month }
     ensures cause { EndingHasCause (Some (why (named inputs.entry) month right.now)) result (S.told shelf.old)
         (Rose (S.faults shelf.old) (S.faults shelf.new)) (Rose (K.faults out.old) (K.faults out.new)) }
-    ensures writes { WritesFor (Some (why (named inputs.entry) month right.now)) (status_of result) (S.told shelf.old) (K.taken out.old) (K.taken out.new) searches.old searches.new }
-    ensures out_stays { (MayLeave (Some (why (named inputs.entry) month right.now)) (status_of result) → ⊥) → out.new ≡ out.old }
-    ensures idle { IsIdle (Some (why (named inputs.entry) month right.now)) (status_of result) → searches.new ≡ searches.old }
-    ensures pushes { PushesFor (Some (why (named inputs.entry) month right.now)) (S.told shelf.old) searches.old searches.new }
+    ensures writes { WritesFor (Some (why (named inputs.entry) month right.now)) (status_of result) (S.told shelf.old)
+        (K.taken out.old) (K.taken out.new) searches.old searches.new }
+    ensures out_stays { (MayLeave (Some (why (named inputs.entry) month right.now)) (status_of result) → ⊥) →
+        out.new ≡ out.old }
+    ensures idle { IsIdle (Some (why (named inputs.entry) month right.now)) (status_of result) →
+        searches.new ≡ searches.old }
+    ensures pushes { PushesFor (Some (why (named inputs.entry) month right.now)) (S.told shelf.old) searches.old
+        searches.new }
     ensures told { CanBeTold result }
     ensures handed { IsQuiet (status_of result) → K.handed out.new ≡ K.taken out.new }
 {
@@ -133,7 +145,8 @@ fn do_why<S: Shelf, K: Sink, L: Ledger>(
     )
 }
 
-/// `ensemble`: solves the record of a basin's gauges once from each of its years, and puts how often each yearly delivery came.
+/// `ensemble`: solves the record of a basin's gauges once from each of its years, and puts how often each yearly
+/// delivery came.
 fn do_ensemble<S: Shelf, K: Sink, L: Ledger>(
     alloc: Global,
     inputs: Inputs,
@@ -144,7 +157,8 @@ fn do_ensemble<S: Shelf, K: Sink, L: Ledger>(
     requires { ServesFiles (S.serves shelf.old) (Some (ensemble (named inputs))) }
     ensures cause { EndingHasCause (Some (ensemble (named inputs.entry))) result (S.told shelf.old)
         (Rose (S.faults shelf.old) (S.faults shelf.new)) (Rose (K.faults out.old) (K.faults out.new)) }
-    ensures writes { WritesFor (Some (ensemble (named inputs.entry))) (status_of result) (S.told shelf.old) (K.taken out.old) (K.taken out.new) searches.old searches.new }
+    ensures writes { WritesFor (Some (ensemble (named inputs.entry))) (status_of result) (S.told shelf.old)
+        (K.taken out.old) (K.taken out.new) searches.old searches.new }
     ensures out_stays { (MayLeave (Some (ensemble (named inputs.entry))) (status_of result) → ⊥) → out.new ≡ out.old }
     ensures idle { IsIdle (Some (ensemble (named inputs.entry))) (status_of result) → searches.new ≡ searches.old }
     ensures pushes { PushesFor (Some (ensemble (named inputs.entry))) (S.told shelf.old) searches.old searches.new }
@@ -170,10 +184,14 @@ fn do_edit<S: Shelf, K: Sink, L: Ledger>(
     requires { ServesFiles (S.serves shelf.old) (Some (edit (named inputs) script.now)) }
     ensures cause { EndingHasCause (Some (edit (named inputs.entry) script.now)) result (S.told shelf.old)
         (Rose (S.faults shelf.old) (S.faults shelf.new)) (Rose (K.faults out.old) (K.faults out.new)) }
-    ensures writes { WritesFor (Some (edit (named inputs.entry) script.now)) (status_of result) (S.told shelf.old) (K.taken out.old) (K.taken out.new) searches.old searches.new }
-    ensures out_stays { (MayLeave (Some (edit (named inputs.entry) script.now)) (status_of result) → ⊥) → out.new ≡ out.old }
-    ensures idle { IsIdle (Some (edit (named inputs.entry) script.now)) (status_of result) → searches.new ≡ searches.old }
-    ensures pushes { PushesFor (Some (edit (named inputs.entry) script.now)) (S.told shelf.old) searches.old searches.new }
+    ensures writes { WritesFor (Some (edit (named inputs.entry) script.now)) (status_of result) (S.told shelf.old)
+        (K.taken out.old) (K.taken out.new) searches.old searches.new }
+    ensures out_stays { (MayLeave (Some (edit (named inputs.entry) script.now)) (status_of result) → ⊥) →
+        out.new ≡ out.old }
+    ensures idle { IsIdle (Some (edit (named inputs.entry) script.now)) (status_of result) →
+        searches.new ≡ searches.old }
+    ensures pushes { PushesFor (Some (edit (named inputs.entry) script.now)) (S.told shelf.old) searches.old
+        searches.new }
     ensures told { CanBeTold result }
     ensures handed { IsQuiet (status_of result) → K.handed out.new ≡ K.taken out.new }
 {
@@ -199,11 +217,14 @@ fn decide<S: Shelf, K: Sink, L: Ledger>(
     requires { ServesFiles (S.serves shelf.old) (command_of (map string_bytes words.now)) }
     ensures cause { EndingHasCause (command_of (map string_bytes words.now)) result (S.told shelf.old)
         (Rose (S.faults shelf.old) (S.faults shelf.new)) (Rose (K.faults out.old) (K.faults out.new)) }
-    ensures writes { WritesFor (command_of (map string_bytes words.now)) (status_of result) (S.told shelf.old) (K.taken out.old) (K.taken out.new) searches.old searches.new }
-    ensures out_stays { (MayLeave (command_of (map string_bytes words.now)) (status_of result) → ⊥) → out.new ≡ out.old }
+    ensures writes { WritesFor (command_of (map string_bytes words.now)) (status_of result) (S.told shelf.old)
+        (K.taken out.old) (K.taken out.new) searches.old searches.new }
+    ensures out_stays { (MayLeave (command_of (map string_bytes words.now)) (status_of result) → ⊥) →
+        out.new ≡ out.old }
     ensures idle { IsIdle (command_of (map string_bytes words.now)) (status_of result) → searches.new ≡ searches.old }
     ensures pushes { PushesFor (command_of (map string_bytes words.now)) (S.told shelf.old) searches.old searches.new }
-    ensures unread { IsUnread (command_of (map string_bytes words.now)) (status_of result) (S.asked shelf.old) (S.asked shelf.new) }
+    ensures unread { IsUnread (command_of (map string_bytes words.now)) (status_of result) (S.asked shelf.old)
+        (S.asked shelf.new) }
     ensures told { CanBeTold result }
     ensures handed { IsQuiet (status_of result) → K.handed out.new ≡ K.taken out.new }
 {
@@ -231,7 +252,8 @@ fn decide<S: Shelf, K: Sink, L: Ledger>(
     }
 }
 
-/// All that the program does. The words are those behind the program's name, and `searches` counts the pushes of searches.
+/// All that the program does. The words are those behind the program's name, and `searches` counts the pushes of
+/// searches.
 pub fn basin_main<S: Shelf, K: Sink, E: Sink, L: Ledger>(
     alloc: Global,
     words: &[String],
@@ -247,28 +269,30 @@ pub fn basin_main<S: Shelf, K: Sink, E: Sink, L: Ledger>(
     ensures ends { Ends (command_of (map string_bytes words.now)) result (S.told shelf.old)
         (Rose (S.faults shelf.old) (S.faults shelf.new)) (Rose (K.faults out.old) (K.faults out.new))
         (E.taken err.old) (E.taken err.new) (E.faults err.old) (E.faults err.new) }
-    // Where nothing is refused and nothing fails, the call is done; a result that is checked is judged as what it is, and a
-    // comparison answers no exactly where somebody is injured.
+    // Where nothing is refused and nothing fails, the call is done; a result that is checked is judged as what it is,
+    // and a comparison answers no exactly where somebody is injured.
     ensures complete { Completes (command_of (map string_bytes words.now)) result (S.told shelf.old)
         (Rose (S.faults shelf.old) (S.faults shelf.new)) (Rose (K.faults out.old) (K.faults out.new)) }
 
-    // The text of records that keep the priority of rights, a report on them, the answer to a result, the comparison of two
-    // such lists of records, or the months that a script shows; or after a fault of out a front of it. The months of a run
-    // are written as they are solved.
-    ensures writes { WritesFor (command_of (map string_bytes words.now)) result (S.told shelf.old) (K.taken out.old) (K.taken out.new) searches.old searches.new }
+    // The text of records that keep the priority of rights, a report on them, the answer to a result, the comparison of
+    // two such lists of records, or the months that a script shows; or after a fault of out a front of it. The months
+    // of a run are written as they are solved.
+    ensures writes { WritesFor (command_of (map string_bytes words.now)) result (S.told shelf.old) (K.taken out.old)
+        (K.taken out.new) searches.old searches.new }
     ensures out_stays { (MayLeave (command_of (map string_bytes words.now)) result → ⊥) → out.new ≡ out.old }
     ensures err_stays { IsQuiet result → err.new ≡ err.old }
 
     // Done and no come only where all that was put was handed on; err got its line handed on unless it failed.
     ensures handed { IsQuiet result → K.handed out.new ≡ K.taken out.new }
-    ensures err_handed { (IsQuiet result → ⊥) → (Rose (E.faults err.old) (E.faults err.new) → ⊥) → E.handed err.new ≡ E.taken err.new }
+    ensures err_handed { (IsQuiet result → ⊥) → (Rose (E.faults err.old) (E.faults err.new) → ⊥) →
+        E.handed err.new ≡ E.taken err.new }
 
     // Want of memory says nothing of a result: nobody asked for it.
     ensures unread { IsUnread (command_of (map string_bytes words.now)) result (S.asked shelf.old) (S.asked shelf.new) }
 
-    // Where words, a file or a script are refused or not read, nothing is solved; of a run, a report, a trial and an account
-    // want of memory comes before a month is solved, or not at all. Each month that is solved has at most so many pushes as
-    // its bound allows, and a check has none.
+    // Where words, a file or a script are refused or not read, nothing is solved; of a run, a report, a trial and an
+    // account want of memory comes before a month is solved, or not at all. Each month that is solved has at most so
+    // many pushes as its bound allows, and a check has none.
     ensures idle { IsIdle (command_of (map string_bytes words.now)) result → searches.new ≡ searches.old }
     ensures pushes { PushesFor (command_of (map string_bytes words.now)) (S.told shelf.old) searches.old searches.new }
 {

@@ -23,7 +23,8 @@ pub fn do_upgrade<S: Shelf, K: Sink>(
     requires { ServesFiles (S.serves shelf.old) (Some (upgrade name.now)) }
     ensures cause { EndingHasCause (Some (upgrade name.now)) result (S.told shelf.old)
         (Rose (S.faults shelf.old) (S.faults shelf.new)) (Rose (K.faults out.old) (K.faults out.new)) }
-    ensures writes { WritesFor (Some (upgrade name.now)) (status_of result) (S.told shelf.old) (K.taken out.old) (K.taken out.new) 0 0 }
+    ensures writes { WritesFor (Some (upgrade name.now)) (status_of result) (S.told shelf.old) (K.taken out.old)
+        (K.taken out.new) 0 0 }
     ensures out_stays { (MayLeave (Some (upgrade name.now)) (status_of result) → ⊥) → out.new ≡ out.old }
     ensures told { CanBeTold result }
     ensures handed { IsQuiet (status_of result) → K.handed out.new ≡ K.taken out.new }

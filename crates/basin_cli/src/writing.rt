@@ -15,7 +15,8 @@ use steps::Steps;
 use water_edge::{Sink, SinkFailed};
 use water_model::types::Basin;
 
-/// Solves the next month, puts its lines and hands them on. `start` is what out had taken before the head. It takes no memory.
+/// Solves the next month, puts its lines and hands them on. `start` is what out had taken before the head. It takes no
+/// memory.
 fn write_month<K: Sink, L: Ledger>(
     out: &mut K,
     basin: &Basin,
@@ -57,7 +58,8 @@ fn write_months<K: Sink, L: Ledger>(
     ensures series { run.new.series ≡ run.old.series }
     ensures done { OnOk result (run.new.done ≡ basin.now.months) }
     ensures written { OnOk result (IsWritten basin.now run.new start (K.taken out.new)) }
-    ensures stops { OnErr result (StopsWriting basin.now run.old.series start (K.taken out.new) searches.old searches.new) }
+    ensures stops { OnErr result
+        (StopsWriting basin.now run.old.series start (K.taken out.new) searches.old searches.new) }
     ensures cause { HasCause (K.faults out.old) (K.faults out.new) (IsErr result) }
     ensures pushes { searches.new ≤ searches.old + run_pushes basin.now }
 {
@@ -82,7 +84,8 @@ pub fn write_run<K: Sink, L: Ledger>(
     requires first { StandsFor run.old [] }
     requires start { start ≡ K.taken out.old }
     ensures written { OnOk result (IsWrittenRun basin.now run.old.series start (K.taken out.new)) }
-    ensures stops { OnErr result (StopsWriting basin.now run.old.series start (K.taken out.new) searches.old searches.new) }
+    ensures stops { OnErr result
+        (StopsWriting basin.now run.old.series start (K.taken out.new) searches.old searches.new) }
     ensures cause { HasCause (K.faults out.old) (K.faults out.new) (IsErr result) }
     ensures pushes { searches.new ≤ searches.old + run_pushes basin.now }
     ensures handed { OnOk result (K.handed out.new ≡ K.taken out.new) }

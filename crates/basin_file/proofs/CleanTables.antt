@@ -1,5 +1,7 @@
 -- The table of a valid basin has no fault by itself: each of its entries is clean.
-use Rattle.std.proofs.Common.{◌≡◌, ◌≢◌, ℕ, zero, suc, ◌+◌, ◌-◌, ◌*◌, ◌^◌, ◌<◌, ◌≤◌, ◌∙◌, Bool, true, false, not, ◌&&◌, nat_lt, ap, sym, subst, refl, inl, inr, arith, List, [], ◌∷◌, ◌++◌, length, length-append, map, take, slice_get, count_by, is_some, codes}
+use Rattle.std.proofs.Common.{◌≡◌, ◌≢◌, ℕ, zero, suc, ◌+◌, ◌-◌, ◌*◌, ◌^◌, ◌<◌, ◌≤◌, ◌∙◌, Bool, true, false, not, ◌&&◌}
+use Rattle.std.proofs.Common.{nat_lt, ap, sym, subst, refl, inl, inr, arith, List, [], ◌∷◌, ◌++◌, length, length-append}
+use Rattle.std.proofs.Common.{map, take, slice_get, count_by, is_some, codes}
 use Rattle.std.specs.Prelude.{Option, Some, None, option_map, option_and_then, unwrap_or, if◌then◌else◌}
 use Rattle.std.proofs.lemmas.Bool.{cases_Bool}
 use Rattle.std.proofs.lemmas.Bool.Decides.{nat_tests}
@@ -14,7 +16,8 @@ use Rattle.toml_tree.specs.Texts.{texts_behind, is_the_text, first_from}
 use Rattle.toml_tree.specs.Values.{text_at, whole_of}
 use Rattle.water_text.specs.Days.{is_date}
 use Rattle.water_model.specs.Basin.{is_outlet, node_name, link_name, reservoir_name, right_name}
-use Rattle.water_model.specs.Valid.{IsValidBasin, IsValidCarry, IsValidInflow, IsValidLink, IsValidNode, IsValidReservoir, IsValidRight}
+use Rattle.water_model.specs.Valid.{IsValidBasin, IsValidCarry, IsValidInflow, IsValidLink, IsValidNode}
+use Rattle.water_model.specs.Valid.{IsValidReservoir, IsValidRight}
 use Rattle.water_model.specs.declared.types.Basin.{Basin}
 use Rattle.water_model.specs.declared.types.Carry.{Carry}
 use Rattle.water_model.specs.declared.types.Carry.TheVariants.{River, Canal}
@@ -35,9 +38,12 @@ use Rattle.basin_tree.specs.NameFaults.{is_outlet_at, own_space, repeats_name, r
 use Rattle.basin_tree.specs.Places.{named_at, own_key, texts_of}
 use Rattle.basin_tree.specs.Tables.{KeyRow, keys_of}
 use Rattle.basin_file.specs.BasinFaults.{is_in_table}
-use Rattle.basin_file.specs.Upgraded.{basin_table, closed_data, inflow_data, link_row, listed, node_row, per_day_data, point_data, reservoir_row, return_row, right_row, rights_in, with_some}
+use Rattle.basin_file.specs.Upgraded.{basin_table, closed_data, inflow_data, link_row, listed, node_row, per_day_data}
+use Rattle.basin_file.specs.Upgraded.{point_data, reservoir_row, return_row, right_row, rights_in, with_some}
 use Rattle.basin_file.proofs.Counts.{count_by-cons}
-use Rattle.basin_file.proofs.Fitting.{Fits, IsClean, and_false, clean_by, fits_gauged, fits_inflow, fits_monthly, fits_months, fits_name, fits_none, fits_number, fits_points, fits_reference, fits_truth, len_items, names_some}
+use Rattle.basin_file.proofs.Fitting.{Fits, IsClean, and_false, clean_by, fits_gauged, fits_inflow, fits_monthly}
+use Rattle.basin_file.proofs.Fitting.{fits_months, fits_name, fits_none, fits_number, fits_points, fits_reference}
+use Rattle.basin_file.proofs.Fitting.{fits_truth, len_items, names_some}
 use Rattle.basin_file.proofs.Listed.{all_each, each_filter, items_in, place_found, rights_by_table, texts_listed}
 use Rattle.basin_file.proofs.Lists.{each_at, each_then}
 use Rattle.basin_file.proofs.TableKeys.{HasKeysOf, skip, table_keys, there}
@@ -50,21 +56,26 @@ pub fits_at : (tree : Members) (key : KeyRow) (o p : Option Data) → o ≡ p �
 fits_at tree key o p e f = subst (Fits tree key) (sym e) f
 
 -- a name that is first at its place is no earlier entry's
-pub owns : (tree : Members) (e : Entry) (space : Space) (q : List ℕ) (k : ℕ) → own_space e.table ≡ Some space → text_at (own_key e.table) e.row ≡ Some q →
+pub owns : (tree : Members) (e : Entry) (space : Space) (q : List ℕ) (k : ℕ) → own_space e.table ≡ Some space →
+    text_at (own_key e.table) e.row ≡ Some q →
     named_at tree space q ≡ Some k → rights_before tree e.table + (e.number - 1) ≤ k → same_name tree e ≡ false
 owns tree e space q k own text named low =
     ap (λ (o : Option Space). option_map_or (repeats_name tree e) o false) own
-    ∙ (ap (λ (o : Option (List ℕ)). option_map_or (stands_before tree space (rights_before tree e.table + (e.number - 1))) o false) text
-    ∙ (ap (λ (o : Option ℕ). option_map_or (λ at. nat_lt at (rights_before tree e.table + (e.number - 1))) o false) named
+    ∙ (ap (λ (o : Option (List ℕ)). option_map_or
+    (stands_before tree space (rights_before tree e.table + (e.number - 1))) o false) text
+    ∙ (ap (λ (o : Option ℕ). option_map_or (λ at. nat_lt at (rights_before tree e.table + (e.number - 1))) o false)
+    named
     ∙ not_over k (rights_before tree e.table + (e.number - 1)) low))
 
 -- the item at a place of what is listed
-item_there : {X : Type 0} (row : X → Members) (xs : List X) (at : ℕ) → get_item at (items_of (map (λ x. table (row x)) xs)) ≡ option_map (λ x. table (row x)) (slice_get xs at)
+item_there : {X : Type 0} (row : X → Members) (xs : List X) (at : ℕ) →
+    get_item at (items_of (map (λ x. table (row x)) xs)) ≡ option_map (λ x. table (row x)) (slice_get xs at)
 item_there row [] at = refl
 item_there row (x ∷ xs) zero = refl
 item_there row (x ∷ xs) (suc at) = item_there row xs at
 
-item_listed : {X : Type 0} (row : X → Members) (xs : List X) (at : ℕ) → get_item at (items_in (listed row xs)) ≡ option_map (λ x. table (row x)) (slice_get xs at)
+item_listed : {X : Type 0} (row : X → Members) (xs : List X) (at : ℕ) →
+    get_item at (items_in (listed row xs)) ≡ option_map (λ x. table (row x)) (slice_get xs at)
 item_listed row [] at = refl
 item_listed row (x ∷ xs) at = item_there row (x ∷ xs) at
 
@@ -73,12 +84,14 @@ len_listed row [] = refl
 len_listed row (x ∷ xs) = len_items (λ x. table (row x)) (x ∷ xs)
 
 -- entries of two lists, one behind the other
-pub there_left : {X : Type 0} (xs ys : List X) (k : ℕ) (x : X) → slice_get xs k ≡ Some x → slice_get (xs ++ ys) k ≡ Some x
+pub there_left : {X : Type 0} (xs ys : List X) (k : ℕ) (x : X) → slice_get xs k ≡ Some x →
+    slice_get (xs ++ ys) k ≡ Some x
 there_left [] ys k x e = cc
 there_left (y ∷ xs) ys zero x e = e
 there_left (y ∷ xs) ys (suc k) x e = there_left xs ys k x e
 
-pub there_right : {X : Type 0} (xs ys : List X) (k : ℕ) (x : X) → slice_get ys k ≡ Some x → slice_get (xs ++ ys) (length xs + k) ≡ Some x
+pub there_right : {X : Type 0} (xs ys : List X) (k : ℕ) (x : X) → slice_get ys k ≡ Some x →
+    slice_get (xs ++ ys) (length xs + k) ≡ Some x
 there_right {X = X} [] ys k x e = subst (λ (n : ℕ). slice_get ys n ≡ Some x) (omega arith) e
 there_right {X = X} (y ∷ xs) ys k x e =
     let rest : slice_get (xs ++ ys) (length xs + k) ≡ Some x = there_right xs ys k x e in
@@ -93,14 +106,17 @@ one_passes false e m n h = cc
 one_more : (t m n front whole : ℕ) → front ≡ t + m → whole ≡ t + n → m + 1 ≤ n → front + 1 ≤ whole
 one_more t m n front whole e f l = omega arith
 
-pub before_less : {X : Type 0} (p : X → Bool) (xs : List X) (k : ℕ) (x : X) → slice_get xs k ≡ Some x → p x ≡ true → count_by p (take k xs) + 1 ≤ count_by p xs
+pub before_less : {X : Type 0} (p : X → Bool) (xs : List X) (k : ℕ) (x : X) → slice_get xs k ≡ Some x → p x ≡ true →
+    count_by p (take k xs) + 1 ≤ count_by p xs
 before_less p [] k x e passes = cc
 before_less p (y ∷ xs) zero x e passes =
     let same : y ≡ x = cc in
-    let least : 1 ≤ count_by p (y ∷ xs) = one_passes (p y) (ap p same ∙ passes) (count_by p xs) (count_by p (y ∷ xs)) (count_by-cons p y xs) in
+    let least : 1 ≤ count_by p (y ∷ xs) =
+    one_passes (p y) (ap p same ∙ passes) (count_by p xs) (count_by p (y ∷ xs)) (count_by-cons p y xs) in
     omega arith
 before_less p (y ∷ xs) (suc k) x e passes =
-    one_more (if p y then 1 else 0) (count_by p (take k xs)) (count_by p xs) (count_by p (y ∷ take k xs)) (count_by p (y ∷ xs))
+    one_more (if p y then 1 else 0) (count_by p (take k xs)) (count_by p xs) (count_by p (y ∷ take k xs))
+    (count_by p (y ∷ xs))
     (count_by-cons p y (take k xs)) (count_by-cons p y xs) (before_less p xs k x e passes)
 
 pub map_same : {X : Type 0} (xs : List X) → map (λ x. x) xs ≡ xs
@@ -108,7 +124,8 @@ map_same [] = refl
 map_same (x ∷ xs) = ap (λ ys. x ∷ ys) (map_same xs)
 
 -- where names are all other, a name is that of one place
-pub once : (name : ℕ → List ℕ) (len : ℕ) → ((i j : ℕ) → i < j → j < len → name i ≢ name j) → (m n : ℕ) → m < len → n < len → name m ≡ name n → m ≡ n
+pub once : (name : ℕ → List ℕ) (len : ℕ) → ((i j : ℕ) → i < j → j < len → name i ≢ name j) → (m n : ℕ) → m < len →
+    n < len → name m ≡ name n → m ≡ n
 once name len own m n lm ln same =
     elim (cases_Bool (nat_lt m n)) [
       | inl before ↦ absurd (own m n (less m n before) ln same)
@@ -148,7 +165,8 @@ module _ (b : Basin) (valid : IsValidBasin b) where
   pub format : format_of (basin_table b) ≡ 2
   format = ap (whole_of 1 2 1) keys.format
 
-  pub node_clean : (k : ℕ) (n : node.Node) → slice_get b.nodes k ≡ Some n → IsClean (basin_table b) (record { table = which.Node; number = k + 1; row = node_row n })
+  pub node_clean : (k : ℕ) (n : node.Node) → slice_get b.nodes k ≡ Some n →
+      IsClean (basin_table b) (record { table = which.Node; number = k + 1; row = node_row n })
   node_clean k n at =
       let h = each_at IsValidNode b.nodes k n at (all_each IsValidNode b.nodes valid.nodes) in
       let within = slice_get_within b.nodes k n at in
@@ -163,45 +181,62 @@ module _ (b : Basin) (valid : IsValidBasin b) where
         canal = refl;
         late = refl;
         many = not_over 2000 (k + 1) (omega (arith, within, valid.few.nodes));
-        same = owns (basin_table b) (record { table = which.Node; number = k + 1; row = node_row n }) Nodes n.name k refl refl
+        same = owns (basin_table b) (record { table = which.Node; number = k + 1; row = node_row n }) Nodes n.name k
+            refl refl
             (ap (named_at (basin_table b) Nodes) (sym name) ∙ node_named b valid k within) (omega arith);
         outlets = refl;
       })
     where
       inflow_fits : (i : inflow.Inflow) → IsValidInflow i →
-          Fits (basin_table b) (record { name = codes "inflow"; is_required = false; kind = Inflow; since = 1 }) (Some (inflow_data i))
+          Fits (basin_table b) (record { name = codes "inflow"; is_required = false; kind = Inflow; since = 1 })
+          (Some (inflow_data i))
       inflow_fits (inflows.Monthly amounts) h = fits_inflow (basin_table b) (codes "inflow") false 1 amounts h
       inflow_fits inflows.Gauged h = fits_gauged (basin_table b) (codes "inflow") false 1
 
-  pub link_clean : (k : ℕ) (l : link.Link) → slice_get b.links k ≡ Some l → IsClean (basin_table b) (record { table = which.Link; number = k + 1; row = link_row b l })
+  pub link_clean : (k : ℕ) (l : link.Link) → slice_get b.links k ≡ Some l →
+      IsClean (basin_table b) (record { table = which.Link; number = k + 1; row = link_row b l })
   link_clean k l at =
       let h = each_at (IsValidLink b) b.links k l at (all_each (IsValidLink b) b.links valid.links) in
       let within = slice_get_within b.links k l at in
       let name : link_name b k ≡ l.name = ap (λ (o : Option link.Link). unwrap_or (option_map (λ x. x.name) o) []) at in
       clean_by (basin_table b) (record { table = which.Link; number = k + 1; row = link_row b l }) format (
-        fits_at (basin_table b) _ _ (Some (string l.name)) (skip (codes "name") (codes "closed") (closed_data l.carry) _ refl) (fits_name (basin_table b) (codes "name") true 1 l.name h.name),
+        fits_at (basin_table b) _ _ (Some (string l.name))
+            (skip (codes "name") (codes "closed") (closed_data l.carry) _ refl)
+            (fits_name (basin_table b) (codes "name") true 1 l.name h.name),
         (
-          fits_at (basin_table b) _ _ (Some (string (node_name b l.from))) (skip (codes "from") (codes "closed") (closed_data l.carry) _ refl)
-              (fits_reference (basin_table b) (codes "from") true 1 Nodes (node_name b l.from) l.from (node_named b valid l.from h.ends.from)),
+          fits_at (basin_table b) _ _ (Some (string (node_name b l.from)))
+              (skip (codes "from") (codes "closed") (closed_data l.carry) _ refl)
+              (fits_reference (basin_table b) (codes "from") true 1 Nodes (node_name b l.from) l.from
+              (node_named b valid l.from h.ends.from)),
           (
-            fits_at (basin_table b) _ _ (Some (string (node_name b l.to))) (skip (codes "to") (codes "closed") (closed_data l.carry) _ refl ∙ skip (codes "to") (codes "per_day") (per_day_data l.carry) last refl)
-                (fits_reference (basin_table b) (codes "to") true 1 Nodes (node_name b l.to) l.to (node_named b valid l.to h.ends.to)),
-            (fits_at (basin_table b) _ _ (per_day_data l.carry) per_day (per_day_fits l.carry h.carry), (fits_at (basin_table b) _ _ (closed_data l.carry) closed (closed_fits l.carry h.carry), tt)),
+            fits_at (basin_table b) _ _ (Some (string (node_name b l.to)))
+                (skip (codes "to") (codes "closed") (closed_data l.carry) _ refl
+                ∙ skip (codes "to") (codes "per_day") (per_day_data l.carry) last refl)
+                (fits_reference (basin_table b) (codes "to") true 1 Nodes (node_name b l.to) l.to
+                (node_named b valid l.to h.ends.to)),
+            (
+              fits_at (basin_table b) _ _ (per_day_data l.carry) per_day (per_day_fits l.carry h.carry),
+              (fits_at (basin_table b) _ _ (closed_data l.carry) closed (closed_fits l.carry h.carry), tt),
+            ),
           ),
         ),
       )
       (record {
         known =
-            names_some (λ name. not (is_known 2 (keys_of which.Link) name)) (codes "closed") (closed_data l.carry) _ refl
-            (names_some (λ name. not (is_known 2 (keys_of which.Link) name)) (codes "per_day") (per_day_data l.carry) last refl refl);
+            names_some (λ name. not (is_known 2 (keys_of which.Link) name)) (codes "closed") (closed_data l.carry) _
+            refl
+            (names_some (λ name. not (is_known 2 (keys_of which.Link) name)) (codes "per_day") (per_day_data l.carry)
+            last refl refl);
         nodes = refl;
         canal =
             ap (λ (o : Option Data). is_some o && not (is_some (get_member (codes "per_day") (link_row b l)))) closed
             ∙ (ap (λ (o : Option Data). is_some (closed_data l.carry) && not (is_some o)) per_day ∙ canal l.carry);
         late = refl;
         many = not_over 4000 (k + 1) (omega (arith, within, valid.few.links));
-        same = owns (basin_table b) (record { table = which.Link; number = k + 1; row = link_row b l }) Links l.name k refl
-            (text_there (codes "name") (link_row b l) l.name (skip (codes "name") (codes "closed") (closed_data l.carry) _ refl))
+        same = owns (basin_table b) (record { table = which.Link; number = k + 1; row = link_row b l }) Links l.name k
+            refl
+            (text_there (codes "name") (link_row b l) l.name
+            (skip (codes "name") (codes "closed") (closed_data l.carry) _ refl))
             (ap (named_at (basin_table b) Links) (sym name) ∙ link_named b valid k within) (omega arith);
         outlets = refl;
       })
@@ -210,18 +245,25 @@ module _ (b : Basin) (valid : IsValidBasin b) where
       last = member (codes "to") (string (node_name b l.to)) no_members
 
       per_day : get_member (codes "per_day") (link_row b l) ≡ per_day_data l.carry
-      per_day = skip (codes "per_day") (codes "closed") (closed_data l.carry) _ refl ∙ there (codes "per_day") (per_day_data l.carry) last refl refl
+      per_day =
+          skip (codes "per_day") (codes "closed") (closed_data l.carry) _ refl
+          ∙ there (codes "per_day") (per_day_data l.carry) last refl refl
 
       closed : get_member (codes "closed") (link_row b l) ≡ closed_data l.carry
-      closed = there (codes "closed") (closed_data l.carry) _ refl (skip (codes "closed") (codes "per_day") (per_day_data l.carry) last refl)
+      closed = there (codes "closed") (closed_data l.carry) _ refl
+          (skip (codes "closed") (codes "per_day") (per_day_data l.carry) last refl)
 
       per_day_fits : (c : Carry) → IsValidCarry c →
-          Fits (basin_table b) (record { name = codes "per_day"; is_required = false; kind = Whole 0 (10 ^ 9); since = 1 }) (per_day_data c)
+          Fits (basin_table b)
+          (record { name = codes "per_day"; is_required = false; kind = Whole 0 (10 ^ 9); since = 1 })
+          (per_day_data c)
       per_day_fits River h = fits_none (basin_table b) (codes "per_day") (Whole 0 (10 ^ 9)) 1
-      per_day_fits (Canal per_day shut) h = fits_number (basin_table b) (codes "per_day") false 1 0 (10 ^ 9) per_day (omega arith) h.0
+      per_day_fits (Canal per_day shut) h =
+          fits_number (basin_table b) (codes "per_day") false 1 0 (10 ^ 9) per_day (omega arith) h.0
 
       closed_fits : (c : Carry) → IsValidCarry c →
-          Fits (basin_table b) (record { name = codes "closed"; is_required = false; kind = CalendarMonths; since = 2 }) (closed_data c)
+          Fits (basin_table b) (record { name = codes "closed"; is_required = false; kind = CalendarMonths; since = 2 })
+          (closed_data c)
       closed_fits River h = fits_none (basin_table b) (codes "closed") CalendarMonths 2
       closed_fits (Canal per_day shut) h = fits_months (basin_table b) (codes "closed") 2 shut h.1
 
@@ -235,24 +277,31 @@ module _ (b : Basin) (valid : IsValidBasin b) where
       ∙ (ap (λ (o : Option Data). truth o) (item_listed node_row b.nodes at) ∙ by (slice_get b.nodes at))
     where
       truth : Option Data → Bool
-      truth o = option_map_or (λ outlet. outlet) (option_and_then as_bool (option_and_then (get (codes "outlet")) o)) false
+      truth o =
+          option_map_or (λ outlet. outlet) (option_and_then as_bool (option_and_then (get (codes "outlet")) o)) false
 
-      by : (o : Option node.Node) → truth (option_map (λ n. table (node_row n)) o) ≡ unwrap_or (option_map (λ n. n.outlet) o) false
+      by : (o : Option node.Node) →
+          truth (option_map (λ n. table (node_row n)) o) ≡ unwrap_or (option_map (λ n. n.outlet) o) false
       by None = refl
       by (Some n) = refl
 
   pub reservoir_clean : (k : ℕ) (v : reservoir.Reservoir) → slice_get b.reservoirs k ≡ Some v →
       IsClean (basin_table b) (record { table = which.Reservoir; number = k + 1; row = reservoir_row b v })
   reservoir_clean k v at =
-      let h = each_at (IsValidReservoir b) b.reservoirs k v at (all_each (IsValidReservoir b) b.reservoirs valid.reservoirs) in
+      let h = each_at (IsValidReservoir b) b.reservoirs k v at
+      (all_each (IsValidReservoir b) b.reservoirs valid.reservoirs) in
       let within = slice_get_within b.reservoirs k v at in
-      let name : reservoir_name b k ≡ node_name b v.node = ap (λ (o : Option reservoir.Reservoir). unwrap_or (option_map (λ x. node_name b x.node) o) []) at in
+      let name : reservoir_name b k ≡ node_name b v.node =
+      ap (λ (o : Option reservoir.Reservoir). unwrap_or (option_map (λ x. node_name b x.node) o) []) at in
       let named = node_named b valid v.node h.node in
       clean_by (basin_table b) (record { table = which.Reservoir; number = k + 1; row = reservoir_row b v }) format (
         fits_reference (basin_table b) (codes "node") true 1 Nodes (node_name b v.node) v.node named,
         (
           fits_number (basin_table b) (codes "opening") true 1 0 (16 * 10 ^ 9) v.opening (omega arith) h.opening,
-          (fits_points (basin_table b) (codes "area") false 1 v.area h.points, (fits_monthly (basin_table b) (codes "rate") false 1 10000 v.rate h.rate, tt)),
+          (
+            fits_points (basin_table b) (codes "area") false 1 v.area h.points,
+            (fits_monthly (basin_table b) (codes "rate") false 1 10000 v.rate h.rate, tt),
+          ),
         ),
       )
       (record {
@@ -260,10 +309,13 @@ module _ (b : Basin) (valid : IsValidBasin b) where
         nodes = refl;
         canal = refl;
         late = refl;
-        many = not_over 64 (items_len (items_of (map point_data v.area))) (omega (arith, len_items point_data v.area, h.few_points));
-        same = owns (basin_table b) (record { table = which.Reservoir; number = k + 1; row = reservoir_row b v }) Reservoirs (node_name b v.node) k refl refl
+        many = not_over 64 (items_len (items_of (map point_data v.area)))
+            (omega (arith, len_items point_data v.area, h.few_points));
+        same = owns (basin_table b) (record { table = which.Reservoir; number = k + 1; row = reservoir_row b v })
+            Reservoirs (node_name b v.node) k refl refl
             (ap (named_at (basin_table b) Reservoirs) (sym name) ∙ reservoir_named b valid k within) (omega arith);
-        outlets = ap (λ (o : Option ℕ). option_map_or (is_outlet_at (basin_table b)) o false) named ∙ (outlet_same v.node ∙ h.inner);
+        outlets = ap (λ (o : Option ℕ). option_map_or (is_outlet_at (basin_table b)) o false) named
+            ∙ (outlet_same v.node ∙ h.inner);
       })
 
   -- rights by their tables
@@ -286,21 +338,27 @@ module _ (b : Basin) (valid : IsValidBasin b) where
 
   right_texts : texts_of (basin_table b) Rights ≡ map (λ r. Some r.name) b.rights
   right_texts =
-      three _ _ _ (texts which.Diversion d keys.diversions) (texts which.Instream i keys.instreams) (texts which.Zone z keys.zones)
+      three _ _ _ (texts which.Diversion d keys.diversions) (texts which.Instream i keys.instreams)
+      (texts which.Zone z keys.zones)
       ∙ ap (λ rs. map (λ (r : Right). Some r.name) rs) all_rights
     where
       names : List Right → List (Option (List ℕ))
       names rs = map (λ r. Some r.name) rs
 
-      texts : (t : BasinTable) (rs : List Right) {o : Option Data} → o ≡ listed (right_row b) rs → texts_behind (codes "name") (items_in o) ≡ names rs
-      texts t rs e = ap (λ (o : Option Data). texts_behind (codes "name") (items_in o)) e ∙ texts_listed (codes "name") (right_row b) (λ r. r.name) rs (λ r. kind_name b r r.kind)
+      texts : (t : BasinTable) (rs : List Right) {o : Option Data} → o ≡ listed (right_row b) rs →
+          texts_behind (codes "name") (items_in o) ≡ names rs
+      texts t rs e =
+          ap (λ (o : Option Data). texts_behind (codes "name") (items_in o)) e
+          ∙ texts_listed (codes "name") (right_row b) (λ r. r.name) rs (λ r. kind_name b r r.kind)
 
-      three : (p q r : List (Option (List ℕ))) → p ≡ names d → q ≡ names i → r ≡ names z → p ++ q ++ r ≡ names (d ++ i ++ z)
+      three : (p q r : List (Option (List ℕ))) → p ≡ names d → q ≡ names i → r ≡ names z →
+          p ++ q ++ r ≡ names (d ++ i ++ z)
       three p q r e f g =
           rw (e, f, g) (sym (map-append (λ (r : Right). Some r.name) (d ++ i) z
           ∙ ap (λ xs. xs ++ names z) (map-append (λ (r : Right). Some r.name) d i)))
 
-  pub right_named : (k : ℕ) (r : Right) → slice_get b.rights k ≡ Some r → named_at (basin_table b) Rights r.name ≡ Some k
+  pub right_named : (k : ℕ) (r : Right) → slice_get b.rights k ≡ Some r →
+      named_at (basin_table b) Rights r.name ≡ Some k
   right_named k r at =
       let name : right_name b k ≡ r.name = ap (λ (o : Option Right). unwrap_or (option_map (λ x. x.name) o) []) at in
       ap (named_at (basin_table b) Rights) (sym name)
@@ -310,7 +368,10 @@ module _ (b : Basin) (valid : IsValidBasin b) where
   pub sound_at : (t : BasinTable) (k : ℕ) (r : Right) → slice_get (rights_in t b.rights) k ≡ Some r →
       (IsValidRight b r × (is_date r.date ≡ true)) × (is_in_table t r.kind ≡ true)
   sound_at t k r at =
-      each_at (λ r. (IsValidRight b r × (is_date r.date ≡ true)) × (is_in_table t r.kind ≡ true)) (rights_in t b.rights) k r at
-      (each_filter (λ r. is_in_table t r.kind) (λ r. (IsValidRight b r × (is_date r.date ≡ true)) × (is_in_table t r.kind ≡ true)) b.rights
-      (each_then (λ r. IsValidRight b r × (is_date r.date ≡ true)) (λ r. is_in_table t r.kind ≡ true → (IsValidRight b r × (is_date r.date ≡ true)) × (is_in_table t r.kind ≡ true))
+      each_at (λ r. (IsValidRight b r × (is_date r.date ≡ true)) × (is_in_table t r.kind ≡ true)) (rights_in t b.rights)
+      k r at
+      (each_filter (λ r. is_in_table t r.kind) (λ r. (IsValidRight b r × (is_date r.date ≡ true)) ×
+      (is_in_table t r.kind ≡ true)) b.rights
+      (each_then (λ r. IsValidRight b r × (is_date r.date ≡ true)) (λ r. is_in_table t r.kind ≡ true →
+      (IsValidRight b r × (is_date r.date ≡ true)) × (is_in_table t r.kind ≡ true))
       b.rights (λ r h e. (h, e)) (each_right b valid)))

@@ -1,5 +1,6 @@
 -- Counts of entries and of return rows.
-use Rattle.std.proofs.Common.{nat_lt, ◌≡◌, ℕ, zero, suc, ◌+◌, ◌<◌, ◌≤◌, List, [], ◌∷◌, length, map, take, Bool, true, false, Some, slice_get, if◌then◌else◌, count_by, refl, sym, ap, ◌∙◌, arith, nat_lt}
+use Rattle.std.proofs.Common.{nat_lt, ◌≡◌, ℕ, zero, suc, ◌+◌, ◌<◌, ◌≤◌, List, [], ◌∷◌, length, map, take, Bool, true}
+use Rattle.std.proofs.Common.{false, Some, slice_get, if◌then◌else◌, count_by, refl, sym, ap, ◌∙◌, arith, nat_lt}
 use Rattle.std.proofs.lemmas.Bool.Decides.{nat_tests}
 use Rattle.std.proofs.lemmas.List.Sums.{sum_by-cons}
 use Rattle.place_sums.specs.Sums.{count_where}
@@ -7,7 +8,8 @@ use Rattle.place_sums.proofs.Totals.{total_start, total_first}
 use Rattle.water_model.specs.Lookups.{of_entry}
 use Rattle.basin_file.proofs.Lists.{Each, EachFrom}
 
-pub count_by-cons : {X : Type 0} (p : X → Bool) (x : X) (xs : List X) → count_by p (x ∷ xs) ≡ (if p x then 1 else 0) + count_by p xs
+pub count_by-cons : {X : Type 0} (p : X → Bool) (x : X) (xs : List X) →
+    count_by p (x ∷ xs) ≡ (if p x then 1 else 0) + count_by p xs
 count_by-cons p x xs = sum_by-cons (λ y. if p y then 1 else 0) x xs
 
 -- how many places of a list have an entry that passes is how many entries pass
@@ -20,14 +22,16 @@ count_where-entries p (x ∷ xs) =
 
 -- where fewer than the limit pass before each entry that passes, at most the limit pass
 pub few_pass : {X : Type 0} (p : X → Bool) (limit n : ℕ) (xs : List X) →
-    ((k : ℕ) (x : X) → slice_get xs k ≡ Some x → p x ≡ true → n + count_by p (take k xs) < limit) → n ≤ limit → n + count_by p xs ≤ limit
+    ((k : ℕ) (x : X) → slice_get xs k ≡ Some x → p x ≡ true → n + count_by p (take k xs) < limit) → n ≤ limit →
+    n + count_by p xs ≤ limit
 few_pass p limit n [] each low = omega arith
 few_pass p limit n (x ∷ xs) each low =
     let one : ℕ = if p x then 1 else 0 in
     let rest : n + one + count_by p xs ≤ limit =
     few_pass p limit (n + one) xs
     (λ k y there passes. (let h : n + count_by p (take (suc k) (x ∷ xs)) < limit = each (suc k) y there passes in
-    let same : count_by p (x ∷ take k xs) ≡ one + count_by p (take k xs) = count_by-cons p x (take k xs) in omega arith))
+    let same : count_by p (x ∷ take k xs) ≡ one + count_by p (take k xs) = count_by-cons p x (take k xs) in
+    omega arith))
     (at_most (p x) refl) in
     let same : count_by p (x ∷ xs) ≡ one + count_by p xs = count_by-cons p x xs in
     omega arith

@@ -1,5 +1,6 @@
 -- How the parts of the order join.
-use Rattle.std.proofs.Common.{◌≡◌, ◌≢◌, ℕ, ◌+◌, List, [], ◌∷◌, Option, Some, None, option_and_then, IfOk, IfNone, All, Result, Ok, Err, refl, sym, ap, ◌∙◌, inl, inr, nat_le, nat_lt, eqb}
+use Rattle.std.proofs.Common.{◌≡◌, ◌≢◌, ℕ, ◌+◌, List, [], ◌∷◌, Option, Some, None, option_and_then, IfOk, IfNone, All}
+use Rattle.std.proofs.Common.{Result, Ok, Err, refl, sym, ap, ◌∙◌, inl, inr, nat_le, nat_lt, eqb}
 use Rattle.std.proofs.lemmas.Bool.{cases_Bool}
 use Rattle.std.specs.Option.{option_or}
 use Rattle.toml.specs.Data.{Members}
@@ -31,14 +32,19 @@ use Rattle.basin_file.proofs.Whole.{sound_basin}
 pub roll_found : (rights : List Right) (returns : List ReturnRow) (e : RollRefused) (finding : Finding) →
     IsRollRefusal e rights returns → Some finding ≡ roll_finding rights e →
     Some finding ≡ option_and_then (roll_finding rights) (roll_fault rights returns)
-roll_found rights returns (roll.BadDate right) finding refusal f = f ∙ ap (option_and_then (roll_finding rights)) (sym refusal)
-roll_found rights returns (roll.SameSeniority first later) finding refusal f = f ∙ ap (option_and_then (roll_finding rights)) (sym refusal)
-roll_found rights returns (roll.ZoneOrder right) finding refusal f = f ∙ ap (option_and_then (roll_finding rights)) (sym refusal)
-roll_found rights returns (roll.ReturnParts right) finding refusal f = f ∙ ap (option_and_then (roll_finding rights)) (sym refusal)
+roll_found rights returns (roll.BadDate right) finding refusal f =
+    f ∙ ap (option_and_then (roll_finding rights)) (sym refusal)
+roll_found rights returns (roll.SameSeniority first later) finding refusal f =
+    f ∙ ap (option_and_then (roll_finding rights)) (sym refusal)
+roll_found rights returns (roll.ZoneOrder right) finding refusal f =
+    f ∙ ap (option_and_then (roll_finding rights)) (sym refusal)
+roll_found rights returns (roll.ReturnParts right) finding refusal f =
+    f ∙ ap (option_and_then (roll_finding rights)) (sym refusal)
 roll_found rights returns roll.OutOfMemory finding refusal f = cc
 
 -- an area table that is told as no fault has none
-no_memory_behind : (before : AreaPoint) (n : ℕ) (points : List AreaPoint) → fault_behind before n points ≢ Some area.OutOfMemory
+no_memory_behind : (before : AreaPoint) (n : ℕ) (points : List AreaPoint) →
+    fault_behind before n points ≢ Some area.OutOfMemory
 no_memory_behind before n [] e = cc
 no_memory_behind before n (p ∷ points) e =
     elim (cases_Bool (nat_le p.storage before.storage)) [
@@ -57,10 +63,12 @@ no_memory (p ∷ points) e =
       | inr other ↦ (let h = rw other at e in cc)
     ]
 
-area_none : (number : ℕ) (points : List AreaPoint) → option_and_then (area_finding number) (table_fault points) ≡ None → table_fault points ≡ None
+area_none : (number : ℕ) (points : List AreaPoint) → option_and_then (area_finding number) (table_fault points) ≡ None →
+    table_fault points ≡ None
 area_none number points e = by (table_fault points) refl e
   where
-    by : (o : Option TableRefused) → table_fault points ≡ o → option_and_then (area_finding number) o ≡ None → table_fault points ≡ None
+    by : (o : Option TableRefused) → table_fault points ≡ o → option_and_then (area_finding number) o ≡ None →
+        table_fault points ≡ None
     by None same e = same
     by (Some area.Empty) same e = cc
     by (Some area.FirstNotZero) same e = cc
@@ -68,10 +76,12 @@ area_none number points e = by (table_fault points) refl e
     by (Some (area.AreaFalls point)) same e = cc
     by (Some area.OutOfMemory) same e = absurd (no_memory points same)
 
-each_table : (n : ℕ) (reservoirs : List Reservoir) → areas_fault n reservoirs ≡ None → Each (λ v. IsAreaTable v.area) reservoirs
+each_table : (n : ℕ) (reservoirs : List Reservoir) → areas_fault n reservoirs ≡ None →
+    Each (λ v. IsAreaTable v.area) reservoirs
 each_table n [] e = tt
 each_table n (v ∷ reservoirs) e =
-    let both = or_none (option_and_then (area_finding (n + 1)) (table_fault v.area)) (areas_fault (n + 1) reservoirs) e in
+    let both =
+    or_none (option_and_then (area_finding (n + 1)) (table_fault v.area)) (areas_fault (n + 1) reservoirs) e in
     (is_table v.area (area_none (n + 1) v.area both.0), each_table (n + 1) reservoirs both.1)
   where
     or_none : {X : Type 0} (a b : Option X) → option_or a b ≡ None → (a ≡ None) × (b ≡ None)
@@ -111,11 +121,14 @@ valid_by b sound network roll tables = record {
 }
 
 -- a document that has no fault by itself has that of its basin
-pub behind_tree : (tree : Members) (basin : Basin) (fault : Option Finding) → None ≡ tree_fault tree → basin ≡ basin_of tree →
+pub behind_tree : (tree : Members) (basin : Basin) (fault : Option Finding) → None ≡ tree_fault tree →
+    basin ≡ basin_of tree →
     fault ≡ basin_fault basin → document_fault (Some tree) ≡ fault
-behind_tree tree basin fault e b f = ap (λ o. option_or o (basin_fault (basin_of tree))) (sym e) ∙ (ap basin_fault (sym b) ∙ sym f)
+behind_tree tree basin fault e b f =
+    ap (λ o. option_or o (basin_fault (basin_of tree))) (sym e) ∙ (ap basin_fault (sym b) ∙ sym f)
 
 -- the basin that is spelled is sound
-pub sound_of : {E : Type 0} (tree : Members) (r : Result Basin E) → tree_fault tree ≡ None → IfOk r (λ basin. basin ≡ basin_of tree) → IfOk r IsSoundBasin
+pub sound_of : {E : Type 0} (tree : Members) (r : Result Basin E) → tree_fault tree ≡ None →
+    IfOk r (λ basin. basin ≡ basin_of tree) → IfOk r IsSoundBasin
 sound_of tree (Ok basin) e b = rw b (sound_basin tree (no_fault tree e))
 sound_of tree (Err e2) e b = tt

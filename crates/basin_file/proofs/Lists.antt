@@ -1,5 +1,6 @@
 -- Facts of each member of a list.
-use Rattle.std.proofs.Common.{◌≡◌, ℕ, ◌+◌, suc, zero, List, [], ◌∷◌, ◌++◌, length, map, Some, slice_get, All, arith, sym, subst, add-zero}
+use Rattle.std.proofs.Common.{◌≡◌, ℕ, ◌+◌, suc, zero, List, [], ◌∷◌, ◌++◌, length, map, Some, slice_get, All, arith}
+use Rattle.std.proofs.Common.{sym, subst, add-zero}
 
 -- a fact for each of a list
 abbrev pub Each : {X : Type 0} → (X → Type 0) → List X → Type 0
@@ -36,7 +37,8 @@ each_any P [] f = tt
 each_any P (x ∷ xs) f = (f x, each_any P xs f)
 
 -- what holds of each at its place holds of each
-pub each_from : {X : Type 0} (P : ℕ → X → Type 0) (Q : X → Type 0) (n : ℕ) (xs : List X) → ((k : ℕ) (x : X) → P k x → Q x) →
+pub each_from : {X : Type 0} (P : ℕ → X → Type 0) (Q : X → Type 0) (n : ℕ) (xs : List X) →
+    ((k : ℕ) (x : X) → P k x → Q x) →
     EachFrom P n xs → Each Q xs
 each_from P Q n [] f each = tt
 each_from P Q n (x ∷ xs) f each = (f n x each.0, each_from P Q (n + 1) xs f each.1)
@@ -57,8 +59,10 @@ pub from_map : {X Y : Type 0} (P : ℕ → X → Type 0) (Q : ℕ → Y → Type
 from_map P Q f m n [] g each = tt
 from_map {X = X} P Q f m n (x ∷ xs) g each =
     let here : ℕ → Type 0 = λ i. P i x in
-    let there : ℕ → Type 0 = λ i. Q i (f x) in
-    (subst there (add-zero m) (g 0 x (subst here (sym (add-zero n)) each.0)), from_map P Q f (m + 1) (n + 1) xs rest each.1)
+    let there : ℕ → Type 0 = λ i. Q i (f x) in (
+      subst there (add-zero m) (g 0 x (subst here (sym (add-zero n)) each.0)),
+      from_map P Q f (m + 1) (n + 1) xs rest each.1,
+    )
   where
     rest : (k : ℕ) (y : X) → P (n + 1 + k) y → Q (m + 1 + k) (f y)
     rest k y p =

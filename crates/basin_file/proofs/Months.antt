@@ -1,5 +1,6 @@
 -- Lists of calendar months, and wants that stand in the series.
-use Rattle.std.proofs.Common.{◌≡◌, ◌+◌, ◌^◌, List, [], ◌∷◌, length, Bool, true, false, ◌||◌, Option, Some, None, is_some, refl, ap, ◌∙◌}
+use Rattle.std.proofs.Common.{◌≡◌, ◌+◌, ◌^◌, List, [], ◌∷◌, length, Bool, true, false, ◌||◌, Option, Some, None}
+use Rattle.std.proofs.Common.{is_some, refl, ap, ◌∙◌}
 use Rattle.std.specs.Prelude.{replicate}
 use Rattle.std.specs.List.{list_any}
 use Rattle.std.specs.Option.{option_map_or}
@@ -13,7 +14,8 @@ use Rattle.basin_tree.specs.Kinds.{is_want}
 use Rattle.water_model.specs.Valid.{IsAlwaysOpen}
 use Rattle.basin_file.specs.Spelled.{items_any, lists_month, shut_of, carry_of, is_series}
 
-items_any-view : (test : Data → Bool) (vs : List Value) → items_any test (items_view vs) ≡ list_any (λ v. test (view v)) vs
+items_any-view : (test : Data → Bool) (vs : List Value) →
+    items_any test (items_view vs) ≡ list_any (λ v. test (view v)) vs
 items_any-view test [] = refl
 items_any-view test (v ∷ vs) = ap (λ t. test (view v) || t) (items_any-view test vs)
 

@@ -1,5 +1,7 @@
 -- In a document without faults no two entries of one space have one name.
-use Rattle.std.proofs.Common.{◌≡◌, ◌≢◌, ℕ, zero, suc, ◌+◌, ◌<◌, ◌≤◌, List, [], ◌∷◌, ◌++◌, length, map, Bool, true, false, Option, Some, None, slice_get, refl, sym, ◌∙◌, inl, inr, arith, nat_lt, codes, subst, length-append, zero-add}
+use Rattle.std.proofs.Common.{◌≡◌, ◌≢◌, ℕ, zero, suc, ◌+◌, ◌<◌, ◌≤◌, List, [], ◌∷◌, ◌++◌, length, map, Bool, true}
+use Rattle.std.proofs.Common.{false, Option, Some, None, slice_get, refl, sym, ◌∙◌, inl, inr, arith, nat_lt, codes}
+use Rattle.std.proofs.Common.{subst, length-append, zero-add}
 use Rattle.std.proofs.lemmas.Bool.{cases_Bool}
 use Rattle.std.proofs.lemmas.Bool.Decides.{nat_tests}
 use Rattle.std.proofs.lemmas.List.{length-map}
@@ -26,7 +28,8 @@ use Rattle.basin_file.proofs.Passed.{IsListed, HasNoFault, IsFine, fine_rows}
 use Rattle.basin_file.proofs.Refers.{texts_in-rows, length-rows_in}
 
 -- a place that passes is not before the first
-pub first_le : {X : Type 0} (p : X → Bool) (n : ℕ) (xs : List X) (i : ℕ) (x : X) → slice_get xs i ≡ Some x → p x ≡ true →
+pub first_le : {X : Type 0} (p : X → Bool) (n : ℕ) (xs : List X) (i : ℕ) (x : X) → slice_get xs i ≡ Some x →
+    p x ≡ true →
     (at : ℕ) × (first_from p n xs ≡ Some at) × (at ≤ n + i)
 first_le p n [] i x there passes = cc
 first_le p n (y ∷ xs) zero x there passes =
@@ -46,12 +49,14 @@ first_at p n [] at e = cc
 first_at p n (y ∷ xs) at e =
     elim (cases_Bool (p y)) [
       | inl here ↦ (let same : n ≡ at = (let w = rw here at e in cc) in (0, y, omega arith, refl, here))
-      | inr other ↦ (let rest = first_at p (n + 1) xs at (rw other at e) in (suc rest.0, rest.1, omega arith, rest.3, rest.4))
+      | inr other ↦
+          (let rest = first_at p (n + 1) xs at (rw other at e) in (suc rest.0, rest.1, omega arith, rest.3, rest.4))
     ]
 
 -- a text that is the first of no place before its own
 abbrev pub IsOwn : List (Option (List ℕ)) → ℕ → Option (List ℕ) → Type 0
-IsOwn texts k text = option_map_or (λ q. option_map_or (λ at. nat_lt at k) (first_from (is_the_text q) 0 texts) false) text false ≡ false
+IsOwn texts k text =
+    option_map_or (λ q. option_map_or (λ at. nat_lt at k) (first_from (is_the_text q) 0 texts) false) text false ≡ false
 
 -- where each text is, no two places have one text
 pub own_texts : (texts : List (Option (List ℕ))) → EachFrom (IsOwn texts) 0 texts → (i j : ℕ) (q : List ℕ) → i < j →
@@ -66,7 +71,8 @@ own_texts texts own i j q before one other =
     not_before n m h e = grind (arith, nat_tests)
 
 -- what is named at one place is one text
-pub same_text : (tree : Members) (space : Space) (q r : List ℕ) (at : ℕ) → named_at tree space q ≡ Some at → named_at tree space r ≡ Some at → q ≡ r
+pub same_text : (tree : Members) (space : Space) (q r : List ℕ) (at : ℕ) → named_at tree space q ≡ Some at →
+    named_at tree space r ≡ Some at → q ≡ r
 same_text tree space q r at one other =
     let a = first_at (is_the_text q) 0 (texts_of tree space) at one in
     let b = first_at (is_the_text r) 0 (texts_of tree space) at other in
@@ -80,18 +86,23 @@ same_text tree space q r at one other =
     by (Some t) one other = (bytes_eq-Decides q t).0 one ∙ sym ((bytes_eq-Decides r t).0 other)
 
 -- the text of a fine row in a space is the first of no place before its own
-row_own : (tree : Members) (table : BasinTable) (space : Space) → own_space table ≡ Some space → (k : ℕ) (row : Members) → IsFine tree table k row →
+row_own : (tree : Members) (table : BasinTable) (space : Space) → own_space table ≡ Some space →
+    (k : ℕ) (row : Members) → IsFine tree table k row →
     IsOwn (texts_of tree space) (rights_before tree table + k) (text_at (own_key table) row)
 row_own tree table space is_space k row fine =
-    let at : ℕ → Type 0 = λ n. IsOwn (texts_of tree space) (rights_before tree table + n) (text_at (own_key table) row) in
+    let at : ℕ → Type 0 =
+    λ n. IsOwn (texts_of tree space) (rights_before tree table + n) (text_at (own_key table) row) in
     subst at (omega arith) (rw is_space at fine.own)
 
-pub table_own : (tree : Members) → HasNoFault tree → (table : BasinTable) → IsListed table → (space : Space) → own_space table ≡ Some space →
+pub table_own : (tree : Members) → HasNoFault tree → (table : BasinTable) → IsListed table → (space : Space) →
+    own_space table ≡ Some space →
     EachFrom (IsOwn (texts_of tree space)) (rights_before tree table) (texts_in tree table)
 table_own tree none table is_listed space is_space =
     rw (texts_in-rows tree none table is_listed)
-    (from_map (IsFine tree table) (IsOwn (texts_of tree space)) (text_at (own_key table)) (rights_before tree table) 0 (rows_in tree table)
-    (λ k row fine. row_own tree table space is_space k row (subst (λ (n : ℕ). IsFine tree table n row) (zero-add k) fine))
+    (from_map (IsFine tree table) (IsOwn (texts_of tree space)) (text_at (own_key table)) (rights_before tree table) 0
+    (rows_in tree table)
+    (λ k row fine. row_own tree table space is_space k row
+    (subst (λ (n : ℕ). IsFine tree table n row) (zero-add k) fine))
     (fine_rows tree none table is_listed))
 
 -- the names of rights, over their three tables
@@ -108,10 +119,13 @@ rights_own tree none =
   where
     len : (table : BasinTable) → IsListed table → items_len (items_at tree table) ≡ 0 + length (texts_in tree table)
     len table is_listed =
-        let texts : length (texts_in tree table) ≡ length (rows_in tree table) = rw (texts_in-rows tree none table is_listed) (length-map (rows_in tree table) (text_at (own_key table))) in
-        let rows : length (rows_in tree table) ≡ items_len (items_at tree table) = length-rows_in tree none table is_listed in omega arith
+        let texts : length (texts_in tree table) ≡ length (rows_in tree table) =
+        rw (texts_in-rows tree none table is_listed) (length-map (rows_in tree table) (text_at (own_key table))) in
+        let rows : length (rows_in tree table) ≡ items_len (items_at tree table) =
+        length-rows_in tree none table is_listed in omega arith
 
-    both : items_len (items_at tree Diversion) + items_len (items_at tree Instream) ≡ 0 + length (texts_in tree Diversion ++ texts_in tree Instream)
+    both : items_len (items_at tree Diversion) + items_len (items_at tree Instream) ≡ 0 + length
+        (texts_in tree Diversion ++ texts_in tree Instream)
     both =
         let a = len Diversion tt in
         let b = len Instream tt in
@@ -130,13 +144,15 @@ own_names {X = X} name entries texts same own i j before within equal =
     let one = entry_at entries i (omega arith) in
     let other = entry_at entries j within in
     let names : name one.0 ≡ name other.0 = rw (one.1, other.1) at equal in
-    own_texts texts own i j (name one.0) before (text_at_place i one.0 one.1) (rw names (text_at_place j other.0 other.1))
+    own_texts texts own i j (name one.0) before (text_at_place i one.0 one.1)
+    (rw names (text_at_place j other.0 other.1))
   where
     text_at_place : (k : ℕ) (x : X) → slice_get entries k ≡ Some x → slice_get texts k ≡ Some (Some (name x))
     text_at_place k x there = rw (← same) (rw (slice_get-map (λ y. Some (name y)) entries k) (rw there refl))
 
 -- the names of the entries that rows spell
 pub names_of_rows : {X : Type 0} (spells : Members → X) (name : X → List ℕ) (key : List ℕ) (rows : List Members) →
-    Each (λ row. text_at key row ≡ Some (name (spells row))) rows → map (λ x. Some (name x)) (map spells rows) ≡ map (text_at key) rows
+    Each (λ row. text_at key row ≡ Some (name (spells row))) rows →
+    map (λ x. Some (name x)) (map spells rows) ≡ map (text_at key) rows
 names_of_rows spells name key [] each = refl
 names_of_rows spells name key (row ∷ rows) each = rw (each.0, names_of_rows spells name key rows each.1) refl

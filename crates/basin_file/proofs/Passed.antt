@@ -1,5 +1,7 @@
 -- What it means that no pass found anything.
-use Rattle.std.proofs.Common.{◌≡◌, ℕ, zero, suc, ◌+◌, List, [], ◌∷◌, ◌++◌, Bool, true, false, not, ◌&&◌, ◌||◌, Option, Some, None, option_map, option_and_then, unwrap_or, is_some, slice_get, Ordering, Less, Equal, Greater, refl, sym, ap, ◌∙◌, inl, inr, option_to_list}
+use Rattle.std.proofs.Common.{◌≡◌, ℕ, zero, suc, ◌+◌, List, [], ◌∷◌, ◌++◌, Bool, true, false, not, ◌&&◌, ◌||◌, Option}
+use Rattle.std.proofs.Common.{Some, None, option_map, option_and_then, unwrap_or, is_some, slice_get, Ordering, Less}
+use Rattle.std.proofs.Common.{Equal, Greater, refl, sym, ap, ◌∙◌, inl, inr, option_to_list}
 use Rattle.std.proofs.lemmas.Bool.{cases_Bool}
 use Rattle.std.proofs.lemmas.Map.Text.{is_eq-slice_cmp}
 use Rattle.std.proofs.lemmas.Slice.Eq.{bytes_eq-Decides}
@@ -11,12 +13,15 @@ use Rattle.std.specs.Str.{bytes_eq}
 use Rattle.toml.specs.Data.{Data, Items, no_items, item, Members, no_members, member, get_member, as_array, as_table}
 use Rattle.toml_tree.specs.Items.{items_all}
 use Rattle.basin_tree.specs.declared.tables.BasinTable.{BasinTable}
-use Rattle.basin_tree.specs.declared.tables.BasinTable.TheVariants.{Top, Node, Link, Reservoir, Diversion, Instream, Zone, Return}
+use Rattle.basin_tree.specs.declared.tables.BasinTable.TheVariants.{Top, Node, Link, Reservoir, Diversion, Instream}
+use Rattle.basin_tree.specs.declared.tables.BasinTable.TheVariants.{Zone, Return}
 use Rattle.basin_tree.specs.declared.tables.Kind.TheVariants.{Tables}
 use Rattle.basin_tree.specs.Entries.{Entry, entry_at, entries_behind, entries_in, entries_of, items_at, found_at}
-use Rattle.basin_tree.specs.KeyFaults.{format_of, is_known, has_unknown, unknown_key, missing_key, wrong_kind, out_of_range, lacks_key, has_no_nodes, shuts_no_canal, any_value}
+use Rattle.basin_tree.specs.KeyFaults.{format_of, is_known, has_unknown, unknown_key, missing_key, wrong_kind}
+use Rattle.basin_tree.specs.KeyFaults.{out_of_range, lacks_key, has_no_nodes, shuts_no_canal, any_value}
 use Rattle.basin_tree.specs.Kinds.{has_kind}
-use Rattle.basin_tree.specs.NameFaults.{is_bad_name, bad_name, too_many, same_name, names_none, no_such_name, stands_at_outlet, outlet_reservoir}
+use Rattle.basin_tree.specs.NameFaults.{is_bad_name, bad_name, too_many, same_name, names_none, no_such_name}
+use Rattle.basin_tree.specs.NameFaults.{stands_at_outlet, outlet_reservoir}
 use Rattle.basin_tree.specs.Order.{Pass, found_by, first_fault, passes, tree_fault}
 use Rattle.basin_tree.specs.Tables.{keys_of, table_name, listed}
 use Rattle.basin_file.specs.Spelled.{rows_behind, rows_in}
@@ -43,7 +48,8 @@ bool_not true e = refl
 bool_not false e = cc
 
 -- a test that holds of none of a list
-pub any_none : {X : Type 0} (p : X → Bool) (xs : List X) (i : ℕ) (x : X) → slice_get xs i ≡ Some x → list_any p xs ≡ false → p x ≡ false
+pub any_none : {X : Type 0} (p : X → Bool) (xs : List X) (i : ℕ) (x : X) → slice_get xs i ≡ Some x →
+    list_any p xs ≡ false → p x ≡ false
 any_none p [] i x there e = cc
 any_none p (y ∷ xs) zero x there e = let same : y ≡ x = cc in rw (← same) (bool_or (p y) (list_any p xs) e).0
 any_none p (y ∷ xs) (suc i) x there e = any_none p xs i x there (bool_or (p y) (list_any p xs) e).1
@@ -84,23 +90,27 @@ no_fault tree e =
     }
 
 -- a test that finds nothing in a list
-pub find_cons : {X : Type 0} (f : X → Bool) (x : X) (xs : List X) → find f (x ∷ xs) ≡ None → (f x ≡ false) × (find f xs ≡ None)
+pub find_cons : {X : Type 0} (f : X → Bool) (x : X) (xs : List X) → find f (x ∷ xs) ≡ None → (f x ≡ false) ×
+    (find f xs ≡ None)
 find_cons f x xs e =
     elim (cases_Bool (f x)) [
       | inl there ↦ (let h = rw there at e in cc)
       | inr other ↦ (other, rw other at e)
     ]
 
-find_append : {X : Type 0} (f : X → Bool) (xs ys : List X) → find f (xs ++ ys) ≡ None → (find f xs ≡ None) × (find f ys ≡ None)
+find_append : {X : Type 0} (f : X → Bool) (xs ys : List X) → find f (xs ++ ys) ≡ None → (find f xs ≡ None) ×
+    (find f ys ≡ None)
 find_append f [] ys e = (refl, e)
 find_append f (x ∷ xs) ys e =
     let here = find_cons f x (xs ++ ys) e in
     let rest = find_append f xs ys here.1 in
     (rw here.0 rest.0, rest.1)
 
-find_each : {A X : Type 0} (f : X → Bool) (g : A → List X) (lists : List A) → find f (flat_map g lists) ≡ None → Each (λ a. find f (g a) ≡ None) lists
+find_each : {A X : Type 0} (f : X → Bool) (g : A → List X) (lists : List A) → find f (flat_map g lists) ≡ None →
+    Each (λ a. find f (g a) ≡ None) lists
 find_each f g [] e = tt
-find_each f g (a ∷ lists) e = let both = find_append f (g a) (flat_map g lists) e in (both.0, find_each f g lists both.1)
+find_each f g (a ∷ lists) e = let both = find_append f (g a) (flat_map g lists) e in
+    (both.0, find_each f g lists both.1)
 
 -- the tables that the top lists
 abbrev pub IsListed : BasinTable → Type 0
@@ -108,15 +118,19 @@ IsListed Top = ⊥
 IsListed _ = Unit {0}
 
 -- a test that finds nothing finds nothing at the top, and nothing in a table
-pub top_passes : (f : Entry → Bool) (tree : Members) → find f (entries_of tree) ≡ None → f (record { table = Top; number = 0; row = tree }) ≡ false
-top_passes f tree e = (find_cons f (record { table = Top; number = 0; row = tree }) (flat_map (entries_in tree) listed) e).0
+pub top_passes : (f : Entry → Bool) (tree : Members) → find f (entries_of tree) ≡ None →
+    f (record { table = Top; number = 0; row = tree }) ≡ false
+top_passes f tree e =
+    (find_cons f (record { table = Top; number = 0; row = tree }) (flat_map (entries_in tree) listed) e).0
 
-table_passes : (f : Entry → Bool) (tree : Members) (table : BasinTable) → IsListed table → find f (entries_of tree) ≡ None →
+table_passes : (f : Entry → Bool) (tree : Members) (table : BasinTable) → IsListed table →
+    find f (entries_of tree) ≡ None →
     find f (entries_in tree table) ≡ None
 table_passes f tree table is_listed e = by table is_listed
   where
     each : Each (λ table. find f (entries_in tree table) ≡ None) listed
-    each = find_each f (entries_in tree) listed (find_cons f (record { table = Top; number = 0; row = tree }) (flat_map (entries_in tree) listed) e).1
+    each = find_each f (entries_in tree) listed
+        (find_cons f (record { table = Top; number = 0; row = tree }) (flat_map (entries_in tree) listed) e).1
 
     by : (table : BasinTable) → IsListed table → find f (entries_in tree table) ≡ None
     by Top h = absurd h
@@ -140,11 +154,13 @@ tables_in format (Some d) k = by (as_array d) (bool_not _ k)
     by (Some items) e = e
 
 tables_at : (tree : Members) → HasNoFault tree → (table : BasinTable) (i : ℕ) (required : Bool) →
-    slice_get (keys_of Top) i ≡ Some (record { name = table_name table; is_required = required; kind = Tables; since = 1 }) →
+    slice_get (keys_of Top) i ≡ Some
+    (record { name = table_name table; is_required = required; kind = Tables; since = 1 }) →
     items_all (λ x. is_some (as_table x)) (items_at tree table) ≡ true
 tables_at tree none table i required there =
     tables_in (format_of tree) (get_member (table_name table) tree)
-    (any_none (λ k. option_map_or (λ d. not (has_kind (format_of tree) k.kind d)) (get_member k.name tree) false) (keys_of Top) i _ there
+    (any_none (λ k. option_map_or (λ d. not (has_kind (format_of tree) k.kind d)) (get_member k.name tree) false)
+    (keys_of Top) i _ there
     (top_passes (wrong_kind tree) tree none.kinds))
 
 -- what a table lists are tables
@@ -160,7 +176,8 @@ all_tables tree none Zone h = tables_at tree none Zone 8 false refl
 all_tables tree none Return h = tables_at tree none Return 9 false refl
 
 -- each entry of a table passes a test that finds nothing, by its place
-rows_pass : (f : Entry → Bool) (table : BasinTable) (n : ℕ) (items : Items) → items_all (λ x. is_some (as_table x)) items ≡ true →
+rows_pass : (f : Entry → Bool) (table : BasinTable) (n : ℕ) (items : Items) →
+    items_all (λ x. is_some (as_table x)) items ≡ true →
     find f (entries_behind table n items) ≡ None →
     EachFrom (λ k row. f (record { table = table; number = k + 1; row = row }) ≡ false) n (rows_behind items)
 rows_pass f table n no_items tables e = tt
@@ -172,7 +189,8 @@ rows_pass f table n (item d ds) tables e =
     by : (o : Option Members) → is_some o ≡ true →
         find f (option_map_or (λ row. record { table = table; number = n + 1; row = row } ∷ []) o []) ≡ None →
         EachFrom (λ k row. f (record { table = table; number = k + 1; row = row }) ≡ false) (n + 1) (rows_behind ds) →
-        EachFrom (λ k row. f (record { table = table; number = k + 1; row = row }) ≡ false) n (option_to_list o ++ rows_behind ds)
+        EachFrom (λ k row. f (record { table = table; number = k + 1; row = row }) ≡ false) n
+        (option_to_list o ++ rows_behind ds)
     by None some here rest = cc
     by (Some row) some here rest = ((find_cons f (record { table = table; number = n + 1; row = row }) [] here).0, rest)
 
@@ -180,7 +198,8 @@ pub each_passes : (tree : Members) → HasNoFault tree → (f : Entry → Bool) 
     (table : BasinTable) → IsListed table →
     EachFrom (λ k row. f (record { table = table; number = k + 1; row = row }) ≡ false) 0 (rows_in tree table)
 each_passes tree none f e table is_listed =
-    rows_pass f table 0 (items_at tree table) (all_tables tree none table is_listed) (table_passes f tree table is_listed e)
+    rows_pass f table 0 (items_at tree table) (all_tables tree none table is_listed)
+    (table_passes f tree table is_listed e)
 
 -- an entry that has none of the faults of keys and names
 pub record IsFine (tree : Members) (table : BasinTable) (k : ℕ) (row : Members) : Type 0 where
@@ -199,7 +218,9 @@ fine_rows tree none table is_listed =
     from_then _ (IsFine tree table) 0 (rows_in tree table)
     (λ k row p. record {
       keys = p.0.0.0.0;
-      present = (bool_or (lacks_key table row) (has_no_nodes table row) (bool_or (lacks_key table row || has_no_nodes table row) (shuts_no_canal table row) p.0.0.0.1).0).0;
+      present =
+          (bool_or (lacks_key table row) (has_no_nodes table row)
+          (bool_or (lacks_key table row || has_no_nodes table row) (shuts_no_canal table row) p.0.0.0.1).0).0;
       kinds = p.0.0.1;
       names = p.0.1.0;
       few = p.0.1.1;
@@ -210,10 +231,12 @@ fine_rows tree none table is_listed =
     (from_with _ _ 0 (rows_in tree table)
     (from_with _ _ 0 (rows_in tree table)
     (from_with _ _ 0 (rows_in tree table)
-    (from_with _ _ 0 (rows_in tree table) (each (unknown_key tree) none.keys) (each (missing_key tree) none.missing)) (each (wrong_kind tree) none.kinds))
+    (from_with _ _ 0 (rows_in tree table) (each (unknown_key tree) none.keys) (each (missing_key tree) none.missing))
+    (each (wrong_kind tree) none.kinds))
     (from_with _ _ 0 (rows_in tree table) (each (bad_name tree) none.names) (each (too_many tree) none.many)))
     (from_with _ _ 0 (rows_in tree table) (each (same_name tree) none.same)
-    (from_with _ _ 0 (rows_in tree table) (each (no_such_name tree) none.unknown) (each (outlet_reservoir tree) none.outlets))))
+    (from_with _ _ 0 (rows_in tree table) (each (no_such_name tree) none.unknown)
+    (each (outlet_reservoir tree) none.outlets))))
   where
     each : (f : Entry → Bool) → find f (entries_of tree) ≡ None →
         EachFrom (λ k row. f (record { table = table; number = k + 1; row = row }) ≡ false) 0 (rows_in tree table)
@@ -225,9 +248,11 @@ pub absent : (format : ℕ) (table : BasinTable) (key : List ℕ) (row : Members
 absent format table key no_members e other = refl
 absent format table key (member name d ms) e other =
     let both = bool_or (not (is_known format (keys_of table) name)) (has_unknown format table ms) e in
-    by (slice_cmp nat_cmp key name) refl (bool_not (is_known format (keys_of table) name) both.0) (absent format table key ms both.1 other)
+    by (slice_cmp nat_cmp key name) refl (bool_not (is_known format (keys_of table) name) both.0)
+    (absent format table key ms both.1 other)
   where
-    by : (o : Ordering) → slice_cmp nat_cmp key name ≡ o → is_known format (keys_of table) name ≡ true → get_member key ms ≡ None →
+    by : (o : Ordering) → slice_cmp nat_cmp key name ≡ o → is_known format (keys_of table) name ≡ true →
+        get_member key ms ≡ None →
         match_ordering o (get_member key ms) (Some d) (get_member key ms) ≡ None
     by Less e known rest = rest
     by Greater e known rest = rest

@@ -1,5 +1,7 @@
 -- Each number that is spelled lies in its range.
-use Rattle.std.proofs.Common.{◌≡◌, ℕ, suc, ◌+◌, ◌*◌, ◌-◌, ◌/◌, ◌^◌, ◌≤◌, List, length, map, Bool, true, false, ◌&&◌, Option, Some, None, option_and_then, unwrap_or, is_none, refl, ap, inl, inr, arith, All, nat_le, nat_lt, ℤ, pos, negsuc, codes, slice_range, if◌then◌else◌}
+use Rattle.std.proofs.Common.{◌≡◌, ℕ, suc, ◌+◌, ◌*◌, ◌-◌, ◌/◌, ◌^◌, ◌≤◌, List, length, map, Bool, true, false, ◌&&◌}
+use Rattle.std.proofs.Common.{Option, Some, None, option_and_then, unwrap_or, is_none, refl, ap, inl, inr, arith, All}
+use Rattle.std.proofs.Common.{nat_le, nat_lt, ℤ, pos, negsuc, codes, slice_range, if◌then◌else◌}
 use Rattle.std.proofs.lemmas.Bool.{cases_Bool}
 use Rattle.std.proofs.lemmas.Bool.Decides.{nat_tests}
 use Rattle.std.proofs.lemmas.List.FromFn.{length-map-range_with_len}
@@ -12,7 +14,8 @@ use Rattle.toml_tree.specs.Values.{is_between, ranged, whole_of, month_number, m
 use Rattle.water_text.specs.Shapes.{has_shape}
 use Rattle.water_text.specs.Months.{IsMonth, is_month, read_month, month_after, month_within}
 use Rattle.water_text.specs.declared.month.Month.{Month}
-use Rattle.water_model.specs.Valid.{IsMonthly, IsValidInflow, IsValidCarry, IsValidPoint, IsValidVolume, is_diversion_kind}
+use Rattle.water_model.specs.Valid.{IsMonthly, IsValidInflow, IsValidCarry, IsValidPoint, IsValidVolume}
+use Rattle.water_model.specs.Valid.{is_diversion_kind}
 use Rattle.water_model.specs.declared.types.Inflow.TheVariants.{Monthly, Gauged}
 use Rattle.water_model.specs.declared.types.RightKind.{RightKind}
 use Rattle.basin_file.specs.Spelled.{inflow_of, carry_of, volume_of, point_in, points_in, no_area, area_of, first_of}
@@ -36,14 +39,16 @@ pub whole_in : (least most default : ℕ) (value : Option Data) → least ≤ de
     (least ≤ whole_of least most default value) × (whole_of least most default value ≤ most)
 whole_in least most default value low high = by (option_and_then as_integer value)
   where
-    by : (o : Option ℤ) → (least ≤ option_map_or (ranged least most default) o default) × (option_map_or (ranged least most default) o default ≤ most)
+    by : (o : Option ℤ) → (least ≤ option_map_or (ranged least most default) o default) ×
+        (option_map_or (ranged least most default) o default ≤ most)
     by None = (low, high)
     by (Some z) = ranged_in least most default z low high
 
 month_number_most : (most : ℕ) (value : Option Data) (month : ℕ) → month_number most value month ≤ most
 month_number_most most value month = by (option_and_then as_array value)
   where
-    by : (o : Option Items) → option_map_or (λ items. whole_of 0 most 0 (get_item month items)) o (whole_of 0 most 0 value) ≤ most
+    by : (o : Option Items) →
+        option_map_or (λ items. whole_of 0 most 0 (get_item month items)) o (whole_of 0 most 0 value) ≤ most
     by None = (whole_in 0 most 0 value (omega arith) (omega arith)).1
     by (Some items) = (whole_in 0 most 0 (get_item month items) (omega arith) (omega arith)).1
 
@@ -74,7 +79,8 @@ points_valid value = each_all IsValidPoint (area_of value) (by (option_and_then 
     by (Some items) = points items
 
 -- an area table has at most 64 points where its list has
-pub few_points : (value : Option Data) → option_map_or (λ points. nat_lt 64 (items_len points)) (option_and_then as_array value) false ≡ false →
+pub few_points : (value : Option Data) →
+    option_map_or (λ points. nat_lt 64 (items_len points)) (option_and_then as_array value) false ≡ false →
     length (area_of value) ≤ 64
 few_points value e = by (option_and_then as_array value) e
   where
@@ -85,7 +91,8 @@ few_points value e = by (option_and_then as_array value) e
     len no_items = refl
     len (item d ds) = ap suc (len ds)
 
-    by : (a : Option Items) → option_map_or (λ points. nat_lt 64 (items_len points)) a false ≡ false → length (option_map_or points_in a no_area) ≤ 64
+    by : (a : Option Items) → option_map_or (λ points. nat_lt 64 (items_len points)) a false ≡ false →
+        length (option_map_or points_in a no_area) ≤ 64
     by None e = omega arith
     by (Some items) e = rw (len items) (few (items_len items) e)
 
@@ -96,7 +103,8 @@ inflow_valid value = by (option_and_then as_str value)
     by None = monthly_in (10 ^ 9) value
     by (Some text) = tt
 
-pub volume_valid : (kind : RightKind) → is_diversion_kind kind ≡ true → (value : Option Data) → IsValidVolume kind (volume_of value)
+pub volume_valid : (kind : RightKind) → is_diversion_kind kind ≡ true → (value : Option Data) →
+    IsValidVolume kind (volume_of value)
 volume_valid kind is None = tt
 volume_valid kind is (Some d) = (is, (whole_in 0 (16 * 10 ^ 9) 0 (Some d) (omega arith) (omega arith)).1)
 
@@ -107,7 +115,8 @@ carry_valid (Some d) closed = ((whole_in 0 (10 ^ 9) 0 (Some d) (omega arith) (om
 is_month_means : (m : Month) → is_month m ≡ true → IsMonth m
 is_month_means m e = let h = both m.year m.month e in record { year = h.0; month = h.1 }
   where
-    both : (y m : ℕ) → ((nat_le 1800 y && nat_le y 2999) && (nat_le 1 m && nat_le m 12)) ≡ true → ((1800 ≤ y) × (y ≤ 2999)) × ((1 ≤ m) × (m ≤ 12))
+    both : (y m : ℕ) → ((nat_le 1800 y && nat_le y 2999) && (nat_le 1 m && nat_le m 12)) ≡ true →
+        ((1800 ≤ y) × (y ≤ 2999)) × ((1 ≤ m) × (m ≤ 12))
     both y m e = grind (arith, nat_tests)
 
 read_is_month : (text : List ℕ) (m : Month) → read_month text ≡ Some m → IsMonth m
@@ -141,7 +150,8 @@ run_ends text months low high e = by (read_month text) refl e
     ends : (y m : ℕ) → 1 ≤ m → y + (m - 1 + (months - 1)) / 12 ≤ 2999 → 12 * y + m + months ≤ 36001
     ends y m first h = omega arith
 
-    within : (m : Month) (b : Bool) → nat_le (month_after m (months - 1)).year 2999 ≡ b → is_none (if b then Some (month_after m (months - 1)) else None) ≡ false →
+    within : (m : Month) (b : Bool) → nat_le (month_after m (months - 1)).year 2999 ≡ b →
+        is_none (if b then Some (month_after m (months - 1)) else None) ≡ false →
         (month_after m (months - 1)).year ≤ 2999
     within m true t e = at_most (month_after m (months - 1)).year t
       where
@@ -149,7 +159,9 @@ run_ends text months low high e = by (read_month text) refl e
         at_most n t = grind (arith, nat_tests)
     within m false t e = cc
 
-    by : (o : Option Month) → read_month text ≡ o → option_map_or (λ first. is_none (month_within first (months - 1))) o false ≡ false →
-        12 * (unwrap_or o (record { year = 1800; month = 1 })).year + (unwrap_or o (record { year = 1800; month = 1 })).month + months ≤ 36001
+    by : (o : Option Month) → read_month text ≡ o →
+        option_map_or (λ first. is_none (month_within first (months - 1))) o false ≡ false →
+        12 * (unwrap_or o (record { year = 1800; month = 1 })).year +
+        (unwrap_or o (record { year = 1800; month = 1 })).month + months ≤ 36001
     by None same e = omega arith
     by (Some m) same e = ends m.year m.month (read_is_month text m same).month.0 (within m _ refl e)

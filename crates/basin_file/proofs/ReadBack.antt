@@ -1,5 +1,6 @@
 -- Values that stand in the table of a basin are read back: numbers, lists of them, texts and dates.
-use Rattle.std.proofs.Common.{◌≡◌, ℕ, zero, suc, ◌+◌, ◌*◌, ◌/◌, ◌%◌, ◌^◌, ◌<◌, ◌≤◌, ◌∙◌, Bool, true, false, ap, sym, refl, arith, List, [], ◌∷◌, length, map, get_or, nat_le, ◌&&◌, ◌==◌, codes, All}
+use Rattle.std.proofs.Common.{◌≡◌, ℕ, zero, suc, ◌+◌, ◌*◌, ◌/◌, ◌%◌, ◌^◌, ◌<◌, ◌≤◌, ◌∙◌, Bool, true, false, ap, sym}
+use Rattle.std.proofs.Common.{refl, arith, List, [], ◌∷◌, length, map, get_or, nat_le, ◌&&◌, ◌==◌, codes, All}
 use Rattle.std.specs.Prelude.{Option, Some, None, option_map}
 use Rattle.std.proofs.lemmas.Bool.Decides.{nat_tests}
 use Rattle.std.proofs.lemmas.List.Elements.{All-tail}
@@ -25,8 +26,10 @@ use Rattle.water_model.specs.declared.types.Carry.TheVariants.{River, Canal}
 use Rattle.water_model.specs.declared.types.Inflow.{Inflow}
 use Rattle.water_model.specs.declared.types.Inflow.TheVariants.{Monthly, Gauged}
 use Rattle.water_model.specs.declared.types.RightKind.{RightKind}
-use Rattle.basin_file.specs.Spelled.{carry_of, date_of, first_of, inflow_of, items_any, lists_month, name_of, points_in, shut_of, volume_of}
-use Rattle.basin_file.specs.Upgraded.{closed_data, day_text, inflow_data, number, numbers, per_day_data, point_data, shut_months, some_items}
+use Rattle.basin_file.specs.Spelled.{carry_of, date_of, first_of, inflow_of, items_any, lists_month, name_of, points_in}
+use Rattle.basin_file.specs.Spelled.{shut_of, volume_of}
+use Rattle.basin_file.specs.Upgraded.{closed_data, day_text, inflow_data, number, numbers, per_day_data, point_data}
+use Rattle.basin_file.specs.Upgraded.{shut_months, some_items}
 use Rattle.basin_file.proofs.Texts.{short_date}
 
 -- a number within its range
@@ -37,7 +40,8 @@ whole_read least most default n low high = rw (between least n most low high) re
     between least n most low high = grind (arith, nat_tests)
 
 -- twelve numbers, each at its place
-item_read : (most : ℕ) (ns : List ℕ) (k : ℕ) → k < length ns → get_or ns k 0 ≤ most → whole_of 0 most 0 (get_item k (numbers ns)) ≡ get_or ns k 0
+item_read : (most : ℕ) (ns : List ℕ) (k : ℕ) → k < length ns → get_or ns k 0 ≤ most →
+    whole_of 0 most 0 (get_item k (numbers ns)) ≡ get_or ns k 0
 item_read most [] k within few = absurd (omega arith)
 item_read most (n ∷ ns) zero within few = whole_read 0 most 0 n (omega arith) few
 item_read most (n ∷ ns) (suc k) within few = item_read most ns k (omega arith) few
@@ -46,13 +50,15 @@ pub monthly_read : (most : ℕ) (ns : List ℕ) → IsMonthly most ns → monthl
 unfolding monthly_of
 monthly_read most ns h =
     sym (fill_by_all (month_number most (Some (array (numbers ns)))) ns 12 0 h.twelve
-    (λ k l. let within : k < length ns = omega (arith, h.twelve) in sym (item_read most ns k within (h.each k 0 within))))
+    (λ k l. let within : k < length ns = omega (arith, h.twelve) in
+    sym (item_read most ns k within (h.each k 0 within))))
 
 pub inflow_read : (i : Inflow) → IsValidInflow i → inflow_of (Some (inflow_data i)) ≡ i
 inflow_read (Monthly amounts) h = ap Monthly (monthly_read (10 ^ 9) amounts h)
 inflow_read Gauged h = refl
 
-pub volume_read : (kind : RightKind) (volume : Option ℕ) → IsValidVolume kind volume → volume_of (option_map number volume) ≡ volume
+pub volume_read : (kind : RightKind) (volume : Option ℕ) → IsValidVolume kind volume →
+    volume_of (option_map number volume) ≡ volume
 volume_read kind None h = refl
 volume_read kind (Some n) h = ap Some (whole_read 0 (16 * 10 ^ 9) 0 n (omega arith) h.1)
 
@@ -90,10 +96,13 @@ not_behind : (from month : ℕ) (shut : List Bool) → 1 ≤ from → from + len
     items_any (λ x. whole_of 1 12 0 (Some x) == month) (numbers (shut_months from shut)) ≡ false
 not_behind from month [] low high less = refl
 not_behind from month (true ∷ shut) low high less =
-    rw (other_month from month low (omega arith) less) (not_behind (from + 1) month shut (omega arith) (omega arith) (omega arith))
-not_behind from month (false ∷ shut) low high less = not_behind (from + 1) month shut (omega arith) (omega arith) (omega arith)
+    rw (other_month from month low (omega arith) less)
+    (not_behind (from + 1) month shut (omega arith) (omega arith) (omega arith))
+not_behind from month (false ∷ shut) low high less =
+    not_behind (from + 1) month shut (omega arith) (omega arith) (omega arith)
 
-month_read : (from k month : ℕ) (shut : List Bool) → 1 ≤ from → from + length shut ≤ 13 → k < length shut → month ≡ from + k →
+month_read : (from k month : ℕ) (shut : List Bool) → 1 ≤ from → from + length shut ≤ 13 → k < length shut →
+    month ≡ from + k →
     get_or shut k false ≡ items_any (λ x. whole_of 1 12 0 (Some x) == month) (numbers (shut_months from shut))
 month_read from k month [] low high within is = absurd (omega arith)
 month_read from zero month (true ∷ shut) low high within is =
@@ -101,18 +110,21 @@ month_read from zero month (true ∷ shut) low high within is =
 month_read from zero month (false ∷ shut) low high within is =
     sym (not_behind (from + 1) month shut (omega arith) (omega arith) (omega arith))
 month_read from (suc k) month (true ∷ shut) low high within is =
-    rw (later_month from month low (omega arith) (omega arith)) (month_read (from + 1) k month shut (omega arith) (omega arith) (omega arith) (omega arith))
+    rw (later_month from month low (omega arith) (omega arith))
+    (month_read (from + 1) k month shut (omega arith) (omega arith) (omega arith) (omega arith))
 month_read from (suc k) month (false ∷ shut) low high within is =
     month_read (from + 1) k month shut (omega arith) (omega arith) (omega arith) (omega arith)
 
-listed_month : (month : ℕ) (ds : Items) → option_map_or (lists_month month) (some_items ds) false ≡ items_any (λ x. whole_of 1 12 0 (Some x) == month) ds
+listed_month : (month : ℕ) (ds : Items) →
+    option_map_or (lists_month month) (some_items ds) false ≡ items_any (λ x. whole_of 1 12 0 (Some x) == month) ds
 listed_month month no_items = refl
 listed_month month (item d ds) = refl
 
 pub shut_read : (shut : List Bool) → length shut ≡ 12 → shut_of (some_items (numbers (shut_months 1 shut))) ≡ shut
 unfolding shut_of
 shut_read shut len =
-    sym (fill_by_all (λ i. option_map_or (lists_month (i + 1)) (some_items (numbers (shut_months 1 shut))) false) shut 12 false len
+    sym (fill_by_all (λ i. option_map_or (lists_month (i + 1)) (some_items (numbers (shut_months 1 shut))) false) shut
+    12 false len
     (λ k l. month_read 1 k (k + 1) shut (omega arith) (omega (arith, len)) (omega (arith, len)) (omega arith)
     ∙ sym (listed_month (k + 1) (numbers (shut_months 1 shut)))))
 
@@ -129,7 +141,8 @@ first_read m h = rw (read_month-month_digits m h) refl
 
 -- digits have the value that they spell
 digit_read : (n : ℕ) → n < 10 → digit_value (48 + n) ≡ n
-digit_read n l = let is : digit_value (48 + n) + 48 ≡ 48 + n = digit_value_digit (48 + n) (omega arith, omega arith) in omega arith
+digit_read n l = let is : digit_value (48 + n) + 48 ≡ 48 + n = digit_value_digit (48 + n) (omega arith, omega arith) in
+    omega arith
 
 two_read : (n : ℕ) → n ≤ 99 → digits_value 10 ((48 + n / 10) ∷ (48 + n % 10) ∷ []) ≡ n
 two_read n l =
@@ -137,7 +150,8 @@ two_read n l =
     let ones = digit_read (n % 10) (omega arith) in
     omega arith
 
-four_read : (n : ℕ) → n ≤ 2999 → digits_value 10 ((48 + n / 100 / 10) ∷ (48 + n / 100 % 10) ∷ (48 + n % 100 / 10) ∷ (48 + n % 100 % 10) ∷ []) ≡ n
+four_read : (n : ℕ) → n ≤ 2999 →
+    digits_value 10 ((48 + n / 100 / 10) ∷ (48 + n / 100 % 10) ∷ (48 + n % 100 / 10) ∷ (48 + n % 100 % 10) ∷ []) ≡ n
 four_read n l =
     let thousands = digit_read (n / 100 / 10) (omega arith) in
     let hundreds = digit_read (n / 100 % 10) (omega arith) in
@@ -149,23 +163,40 @@ is_digit : (n : ℕ) → n < 10 → is_ascii_digit (48 + n) ≡ true
 is_digit n l = grind (arith, nat_tests)
 
 day_shape : (a b c d e f g h : ℕ) → a < 10 → b < 10 → c < 10 → d < 10 → e < 10 → f < 10 → g < 10 → h < 10 →
-    has_shape (codes "dddd-dd-dd") ((48 + a) ∷ (48 + b) ∷ (48 + c) ∷ (48 + d) ∷ 45 ∷ (48 + e) ∷ (48 + f) ∷ 45 ∷ (48 + g) ∷ (48 + h) ∷ []) ≡ true
+    has_shape (codes "dddd-dd-dd")
+    ((48 + a) ∷ (48 + b) ∷ (48 + c) ∷ (48 + d) ∷ 45 ∷ (48 + e) ∷ (48 + f) ∷ 45 ∷ (48 + g) ∷ (48 + h) ∷ []) ≡ true
 unfolding has_shape
 day_shape a b c d e f g h la lb lc ld le lf lg lh =
-    rw (is_digit a la, is_digit b lb, is_digit c lc, is_digit d ld, is_digit e le, is_digit f lf, is_digit g lg, is_digit h lh) refl
+    rw (
+      is_digit a la,
+      is_digit b lb,
+      is_digit c lc,
+      is_digit d ld,
+      is_digit e le,
+      is_digit f lf,
+      is_digit g lg,
+      is_digit h lh,
+    ) refl
 
 pub date_shape : (d : Day) → is_date d ≡ true → has_shape (codes "dddd-dd-dd") (day_text d) ≡ true
 unfolding day_text
 date_shape d h =
     let its = short_date d h in
-    day_shape (d.year / 100 / 10) (d.year / 100 % 10) (d.year % 100 / 10) (d.year % 100 % 10) (d.month / 10) (d.month % 10) (d.day / 10) (d.day % 10)
-    (omega (arith, its.year)) (omega arith) (omega arith) (omega arith) (omega (arith, its.month)) (omega arith) (omega (arith, its.day)) (omega arith)
+    day_shape (d.year / 100 / 10) (d.year / 100 % 10) (d.year % 100 / 10) (d.year % 100 % 10) (d.month / 10)
+    (d.month % 10) (d.day / 10) (d.day % 10)
+    (omega (arith, its.year)) (omega arith) (omega arith) (omega arith) (omega (arith, its.month)) (omega arith)
+    (omega (arith, its.day)) (omega arith)
 
 day_read : (d : Day) → is_date d ≡ true → read_day (day_text d) ≡ Some d
 unfolding read_day day_text
 day_read d h =
     let its = short_date d h in
-    rw (date_shape d h, four_read d.year its.year, two_read d.month (omega (arith, its.month)), two_read d.day (omega (arith, its.day))) refl
+    rw (
+      date_shape d h,
+      four_read d.year its.year,
+      two_read d.month (omega (arith, its.month)),
+      two_read d.day (omega (arith, its.day)),
+    ) refl
 
 pub date_read : (d : Day) → is_date d ≡ true → date_of (day_text d) ≡ d
 date_read d h = rw (day_read d h) refl

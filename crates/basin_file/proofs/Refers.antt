@@ -1,5 +1,7 @@
 -- In a document without faults each text that should be a name is one, and each that should name an entry does.
-use Rattle.std.proofs.Common.{◌≡◌, ℕ, zero, suc, ◌+◌, ◌<◌, ◌≤◌, List, [], ◌∷◌, ◌++◌, length, map, Bool, true, false, not, ◌&&◌, Option, Some, None, option_and_then, is_some, slice_get, refl, ap, inl, inr, arith, option_to_list}
+use Rattle.std.proofs.Common.{◌≡◌, ℕ, zero, suc, ◌+◌, ◌<◌, ◌≤◌, List, [], ◌∷◌, ◌++◌, length, map, Bool, true, false}
+use Rattle.std.proofs.Common.{not, ◌&&◌, Option, Some, None, option_and_then, is_some, slice_get, refl, ap, inl, inr}
+use Rattle.std.proofs.Common.{arith, option_to_list}
 use Rattle.std.proofs.lemmas.Bool.{cases_Bool}
 use Rattle.std.proofs.lemmas.Bool.Decides.{nat_tests}
 use Rattle.std.specs.Option.{option_map_or}
@@ -28,7 +30,8 @@ pub there_at : (tree : Members) (table : BasinTable) (k : ℕ) (row : Members) (
 there_at tree table k row i key at required fine =
     by (get_member key.name row) refl
     (any_none (λ key. key.is_required && not (is_some (get_member key.name row))) (keys_of table) i key at fine.present)
-    (any_none (λ key. option_map_or (λ d. not (has_kind (format_of tree) key.kind d)) (get_member key.name row) false) (keys_of table) i key at fine.kinds)
+    (any_none (λ key. option_map_or (λ d. not (has_kind (format_of tree) key.kind d)) (get_member key.name row) false)
+    (keys_of table) i key at fine.kinds)
   where
     by : (o : Option Data) → get_member key.name row ≡ o → (key.is_required && not (is_some o)) ≡ false →
         option_map_or (λ d. not (has_kind (format_of tree) key.kind d)) o false ≡ false →
@@ -45,23 +48,30 @@ text_in d e = by (as_str d) refl e
 
 -- a text of a fine row that should be a name is one
 pub name_there : (tree : Members) (table : BasinTable) (k : ℕ) (row : Members) (i : ℕ) (key : List ℕ) →
-    slice_get (keys_of table) i ≡ Some (record { name = key; is_required = true; kind = Name; since = 1 }) → IsFine tree table k row →
+    slice_get (keys_of table) i ≡ Some (record { name = key; is_required = true; kind = Name; since = 1 }) →
+    IsFine tree table k row →
     (q : List ℕ) × (text_at key row ≡ Some q) × (is_name q ≡ true)
 name_there tree table k row i key at fine =
     let d = there_at tree table k row i _ at refl fine in
     let q = text_in d.0 d.2 in
-    let good = any_none (λ key. option_map_or (is_bad_name key.kind) (get_member key.name row) false) (keys_of table) i _ at fine.names in
+    let good =
+    any_none (λ key. option_map_or (is_bad_name key.kind) (get_member key.name row) false) (keys_of table) i _ at
+    fine.names in
     let same : text_at key row ≡ Some q.0 = rw (d.1) q.1 in
     (q.0, same, bool_not _ (rw (d.1, q.1) at good))
 
 -- a text of a fine row that should name an entry does
-pub refers_there : (tree : Members) (table : BasinTable) (k : ℕ) (row : Members) (i : ℕ) (key : List ℕ) (space : Space) →
-    slice_get (keys_of table) i ≡ Some (record { name = key; is_required = true; kind = Refers space; since = 1 }) → IsFine tree table k row →
+pub refers_there : (tree : Members) (table : BasinTable) (k : ℕ) (row : Members) (i : ℕ) (key : List ℕ)
+    (space : Space) →
+    slice_get (keys_of table) i ≡ Some (record { name = key; is_required = true; kind = Refers space; since = 1 }) →
+    IsFine tree table k row →
     (q : List ℕ) × (at : ℕ) × (text_at key row ≡ Some q) × (named_at tree space q ≡ Some at)
 refers_there tree table k row i key space at fine =
     let d = there_at tree table k row i _ at refl fine in
     let q = text_in d.0 d.2 in
-    let good = any_none (λ key. option_map_or (names_none tree key.kind) (get_member key.name row) false) (keys_of table) i _ at fine.refers in
+    let good =
+    any_none (λ key. option_map_or (names_none tree key.kind) (get_member key.name row) false) (keys_of table) i _
+    at fine.refers in
     let same : text_at key row ≡ Some q.0 = rw (d.1) q.1 in
     by q.0 (named_at tree space q.0) refl same (bool_not _ (rw (d.1, q.1) at good))
   where
@@ -83,13 +93,15 @@ texts_behind-rows key (item d ds) e =
     by (toml.table row) some rest = ap (λ texts. text_at key row ∷ texts) rest
     by _ some rest = cc
 
-pub length-rows : (items : Items) → items_all (λ x. is_some (as_table x)) items ≡ true → length (rows_behind items) ≡ items_len items
+pub length-rows : (items : Items) → items_all (λ x. is_some (as_table x)) items ≡ true →
+    length (rows_behind items) ≡ items_len items
 length-rows no_items e = refl
 length-rows (item d ds) e =
     let each = bool_and (is_some (as_table d)) (items_all (λ x. is_some (as_table x)) ds) e in
     by (as_table d) each.0 (length-rows ds each.1)
   where
-    by : (o : Option Members) → is_some o ≡ true → length (rows_behind ds) ≡ items_len ds → length (option_to_list o ++ rows_behind ds) ≡ suc (items_len ds)
+    by : (o : Option Members) → is_some o ≡ true → length (rows_behind ds) ≡ items_len ds →
+        length (option_to_list o ++ rows_behind ds) ≡ suc (items_len ds)
     by None some rest = cc
     by (Some row) some rest = ap suc rest
 
@@ -101,7 +113,8 @@ get_item-rows n (item d ds) e =
     let each = bool_and (is_some (as_table d)) (items_all (λ x. is_some (as_table x)) ds) e in
     by n (as_table d) refl each.0 (λ m. get_item-rows m ds each.1)
   where
-    by : (n : ℕ) (o : Option Members) → as_table d ≡ o → is_some o ≡ true → ((m : ℕ) → option_and_then as_table (get_item m ds) ≡ slice_get (rows_behind ds) m) →
+    by : (n : ℕ) (o : Option Members) → as_table d ≡ o → is_some o ≡ true →
+        ((m : ℕ) → option_and_then as_table (get_item m ds) ≡ slice_get (rows_behind ds) m) →
         option_and_then as_table (get_item n (item d ds)) ≡ slice_get (option_to_list o ++ rows_behind ds) n
     by n None same some rest = cc
     by zero (Some row) same some rest = same
@@ -112,20 +125,24 @@ first_in p n [] at e = cc
 first_in p n (x ∷ xs) at e =
     elim (cases_Bool (p x)) [
       | inl here ↦ (let h : n ≡ at = (let w = rw here at e in cc) in omega arith)
-      | inr other ↦ (let w = rw other at e in let h : at < n + 1 + length xs = first_in p (n + 1) xs at w in omega arith)
+      | inr other ↦
+          (let w = rw other at e in let h : at < n + 1 + length xs = first_in p (n + 1) xs at w in omega arith)
     ]
 
 -- the texts that name the entries of a table
 pub texts_in-rows : (tree : Members) → HasNoFault tree → (table : BasinTable) → IsListed table →
     texts_in tree table ≡ map (text_at (own_key table)) (rows_in tree table)
-texts_in-rows tree none table is_listed = texts_behind-rows (own_key table) (items_at tree table) (all_tables tree none table is_listed)
+texts_in-rows tree none table is_listed =
+    texts_behind-rows (own_key table) (items_at tree table) (all_tables tree none table is_listed)
 
-pub length-rows_in : (tree : Members) → HasNoFault tree → (table : BasinTable) → IsListed table → length (rows_in tree table) ≡ items_len (items_at tree table)
+pub length-rows_in : (tree : Members) → HasNoFault tree → (table : BasinTable) → IsListed table →
+    length (rows_in tree table) ≡ items_len (items_at tree table)
 length-rows_in tree none table is_listed = length-rows (items_at tree table) (all_tables tree none table is_listed)
 
 -- the number of what is named is in range
 pub number_within : (tree : Members) (space : Space) (key : List ℕ) (row : Members) (q : List ℕ) (at : ℕ) →
-    text_at key row ≡ Some q → named_at tree space q ≡ Some at → number_at tree space key row < length (texts_of tree space)
+    text_at key row ≡ Some q → named_at tree space q ≡ Some at →
+    number_at tree space key row < length (texts_of tree space)
 number_within tree space key row q at text named =
     let within : at < 0 + length (texts_of tree space) = first_in (is_the_text q) 0 (texts_of tree space) at named in
     rw (text, named) (small_within at (length (texts_of tree space)) (omega arith))

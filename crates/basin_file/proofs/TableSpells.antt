@@ -1,5 +1,6 @@
 -- The table of a basin spells the basin: each entry is read back from its row.
-use Rattle.std.proofs.Common.{◌≡◌, ℕ, suc, ◌*◌, ◌^◌, ◌<◌, ◌≤◌, ◌∙◌, Bool, true, false, ap, sym, refl, inl, inr, arith, List, [], ◌∷◌, length, map, slice_get, replicate, nat_lt, codes}
+use Rattle.std.proofs.Common.{◌≡◌, ℕ, suc, ◌*◌, ◌^◌, ◌<◌, ◌≤◌, ◌∙◌, Bool, true, false, ap, sym, refl, inl, inr, arith}
+use Rattle.std.proofs.Common.{List, [], ◌∷◌, length, map, slice_get, replicate, nat_lt, codes}
 use Rattle.std.specs.Prelude.{Option, Some, None, option_map, option_and_then, unwrap_or, if◌then◌else◌}
 use Rattle.std.proofs.lemmas.Bool.{cases_Bool}
 use Rattle.std.proofs.lemmas.Bool.Decides.{nat_tests}
@@ -13,7 +14,8 @@ use Rattle.water_text.specs.declared.month.Month.{Month}
 use Rattle.water_model.specs.Basin.{node_name, link_name, reservoir_name, right_name}
 use Rattle.water_model.specs.Lookups.{of_entry}
 use Rattle.water_model.specs.Rights.{has_bad_date}
-use Rattle.water_model.specs.Valid.{HasValidPlace, IsMonthly, IsValidBasin, IsValidLink, IsValidNode, IsValidReservoir, IsValidReturn, IsValidRight, IsValidVolume, is_diversion_kind}
+use Rattle.water_model.specs.Valid.{HasValidPlace, IsMonthly, IsValidBasin, IsValidLink, IsValidNode, IsValidReservoir}
+use Rattle.water_model.specs.Valid.{IsValidReturn, IsValidRight, IsValidVolume, is_diversion_kind}
 use Rattle.water_model.specs.declared.types.AreaPoint.{AreaPoint}
 use Rattle.water_model.specs.declared.types.Basin.{Basin}
 use Rattle.water_model.specs.declared.types.Carry.{Carry}
@@ -32,53 +34,83 @@ use Rattle.basin_tree.specs.declared.tables.BasinTable.{BasinTable}
 use Rattle.basin_tree.specs.declared.tables.BasinTable.TheVariants as which
 use Rattle.basin_tree.specs.declared.tables.Space.TheVariants.{Nodes, Links, Reservoirs, Diversions}
 use Rattle.basin_file.specs.BasinFaults.{is_in_table}
-use Rattle.basin_file.specs.Spelled.{basin_of, carry_of, date_of, diversion_of, first_of, instream_of, is_series, link_of, name_at, name_of, node_of, number_at, reservoir_of, return_of, right_of, rights_of, rows_behind, rows_in, volume_of, zone_of}
-use Rattle.basin_file.specs.Upgraded.{basin_table, closed_data, day_text, link_row, listed, node_row, number, numbers, per_day_data, reservoir_row, return_row, right_row, rights_in, row_of_kind, want_data}
-use Rattle.basin_file.proofs.Listed.{HaveOwn, all_each, diversion_same, diversion_within, diversions_own, each_filter, items_in, joined, map_back, number_read, place_found, rights_by_table, rows_listed, texts_listed}
+use Rattle.basin_file.specs.Spelled.{basin_of, carry_of, date_of, diversion_of, first_of, instream_of, is_series}
+use Rattle.basin_file.specs.Spelled.{link_of, name_at, name_of, node_of, number_at, reservoir_of, return_of, right_of}
+use Rattle.basin_file.specs.Spelled.{rights_of, rows_behind, rows_in, volume_of, zone_of}
+use Rattle.basin_file.specs.Upgraded.{basin_table, closed_data, day_text, link_row, listed, node_row, number, numbers}
+use Rattle.basin_file.specs.Upgraded.{per_day_data, reservoir_row, return_row, right_row, rights_in, row_of_kind}
+use Rattle.basin_file.specs.Upgraded.{want_data}
+use Rattle.basin_file.proofs.Listed.{HaveOwn, all_each, diversion_same, diversion_within, diversions_own, each_filter}
+use Rattle.basin_file.proofs.Listed.{items_in, joined, map_back, number_read, place_found, rights_by_table, rows_listed}
+use Rattle.basin_file.proofs.Listed.{texts_listed}
 use Rattle.basin_file.proofs.Lists.{Each, each_at, each_then}
 use Rattle.basin_file.proofs.Months.{series_wants}
 use Rattle.basin_file.proofs.Passed.{bool_not}
-use Rattle.basin_file.proofs.ReadBack.{area_read, carry_read, date_read, first_read, inflow_read, monthly_read, name_read, volume_read, whole_read}
+use Rattle.basin_file.proofs.ReadBack.{area_read, carry_read, date_read, first_read, inflow_read, monthly_read}
+use Rattle.basin_file.proofs.ReadBack.{name_read, volume_read, whole_read}
 use Rattle.basin_file.proofs.TableKeys.{HasKeysOf, skip, table_keys, there}
 
 -- entries whose fields are the same
-same_node : (n : node.Node) (name : List ℕ) (outlet : Bool) (inflow : Inflow) → name ≡ n.name → outlet ≡ n.outlet → inflow ≡ n.inflow →
+same_node : (n : node.Node) (name : List ℕ) (outlet : Bool) (inflow : Inflow) → name ≡ n.name → outlet ≡ n.outlet →
+    inflow ≡ n.inflow →
     (let made : node.Node = record { name = name; outlet = outlet; inflow = inflow } in made ≡ n)
 same_node n name outlet inflow p q r = rw (p, q, r) refl
 
-same_link : (l : link.Link) (name : List ℕ) (from to : ℕ) (carry : Carry) → name ≡ l.name → from ≡ l.from → to ≡ l.to → carry ≡ l.carry →
+same_link : (l : link.Link) (name : List ℕ) (from to : ℕ) (carry : Carry) → name ≡ l.name → from ≡ l.from → to ≡ l.to →
+    carry ≡ l.carry →
     (let made : link.Link = record { name = name; from = from; to = to; carry = carry } in made ≡ l)
 same_link l name from to carry p q r s = rw (p, q, r, s) refl
 
-same_reservoir : (v : reservoir.Reservoir) (node opening : ℕ) (area : List AreaPoint) (rate : List ℕ) → node ≡ v.node → opening ≡ v.opening → area ≡ v.area → rate ≡ v.rate →
+same_reservoir : (v : reservoir.Reservoir) (node opening : ℕ) (area : List AreaPoint) (rate : List ℕ) → node ≡ v.node →
+    opening ≡ v.opening → area ≡ v.area → rate ≡ v.rate →
     (let made : reservoir.Reservoir = record { node = node; opening = opening; area = area; rate = rate } in made ≡ v)
 same_reservoir v node opening area rate p q r s = rw (p, q, r, s) refl
 
-same_right : (r : Right) (name : List ℕ) (date : Day) (order : ℕ) (kind : RightKind) (want : List ℕ) (volume : Option ℕ) (series : Bool) →
-    name ≡ r.name → date ≡ r.date → order ≡ r.order → kind ≡ r.kind → want ≡ r.want → volume ≡ r.volume → series ≡ r.series →
-    (let made : Right = record { name = name; date = date; order = order; kind = kind; want = want; volume = volume; series = series } in made ≡ r)
+same_right : (r : Right) (name : List ℕ) (date : Day) (order : ℕ) (kind : RightKind) (want : List ℕ) (volume : Option ℕ)
+    (series : Bool) →
+    name ≡ r.name → date ≡ r.date → order ≡ r.order → kind ≡ r.kind → want ≡ r.want → volume ≡ r.volume →
+    series ≡ r.series →
+    (let made : Right =
+    record {
+      name = name;
+      date = date;
+      order = order;
+      kind = kind;
+      want = want;
+      volume = volume;
+      series =
+          series;
+    } in made ≡ r)
 same_right r name date order kind want volume series p q s t u v w = rw (p, q, s, t, u, v, w) refl
 
-same_return : (row : ReturnRow) (right node part lag : ℕ) → right ≡ row.right → node ≡ row.node → part ≡ row.part → lag ≡ row.lag →
+same_return : (row : ReturnRow) (right node part lag : ℕ) → right ≡ row.right → node ≡ row.node → part ≡ row.part →
+    lag ≡ row.lag →
     (let made : ReturnRow = record { right = right; node = node; part = part; lag = lag } in made ≡ row)
 same_return row right node part lag p q r s = rw (p, q, r, s) refl
 
 -- a text at a key
-pub text_there : (key : List ℕ) (row : Members) (text : List ℕ) → get_member key row ≡ Some (string text) → text_at key row ≡ Some text
+pub text_there : (key : List ℕ) (row : Members) (text : List ℕ) → get_member key row ≡ Some (string text) →
+    text_at key row ≡ Some text
 text_there key row text at = ap (λ (o : Option Data). option_and_then as_str o) at
 
-pub name_there : (key : List ℕ) (row : Members) (text : List ℕ) → get_member key row ≡ Some (string text) → is_name text ≡ true → name_at key row ≡ text
-name_there key row text at good = ap (λ (o : Option Data). name_of (unwrap_or (option_and_then as_str o) [])) at ∙ name_read text good
+pub name_there : (key : List ℕ) (row : Members) (text : List ℕ) → get_member key row ≡ Some (string text) →
+    is_name text ≡ true → name_at key row ≡ text
+name_there key row text at good = ap (λ (o : Option Data). name_of (unwrap_or (option_and_then as_str o) [])) at
+    ∙ name_read text good
 
-pub whole_there : (key : List ℕ) (least most default : ℕ) (row : Members) (n : ℕ) → get_member key row ≡ Some (number n) → least ≤ n → n ≤ most →
+pub whole_there : (key : List ℕ) (least most default : ℕ) (row : Members) (n : ℕ) →
+    get_member key row ≡ Some (number n) → least ≤ n → n ≤ most →
     whole_at key least most default row ≡ n
-whole_there key least most default row n at low high = ap (whole_of least most default) at ∙ whole_read least most default n low high
+whole_there key least most default row n at low high =
+    ap (whole_of least most default) at ∙ whole_read least most default n low high
 
 -- wants, which stand in the table or in the series
-want_read : (r : Right) → IsMonthly (10 ^ 9) r.want → (r.series ≡ true → r.want ≡ replicate 12 0) → monthly_of (10 ^ 9) (Some (want_data r)) ≡ r.want
+want_read : (r : Right) → IsMonthly (10 ^ 9) r.want → (r.series ≡ true → r.want ≡ replicate 12 0) →
+    monthly_of (10 ^ 9) (Some (want_data r)) ≡ r.want
 want_read r monthly zeros = by r.series refl
   where
-    by : (t : Bool) → r.series ≡ t → monthly_of (10 ^ 9) (Some (if t then string (codes "series") else array (numbers r.want))) ≡ r.want
+    by : (t : Bool) → r.series ≡ t →
+        monthly_of (10 ^ 9) (Some (if t then string (codes "series") else array (numbers r.want))) ≡ r.want
     by true e = series_wants (Some (string (codes "series"))) refl ∙ sym (zeros e)
     by false e = monthly_read (10 ^ 9) r.want monthly
 
@@ -89,14 +121,18 @@ series_read r = by r.series
     by true = refl
     by false = refl
 
-no_volume : (its : RightKind) (volume : Option ℕ) → is_diversion_kind its ≡ false → IsValidVolume its volume → None ≡ volume
+no_volume : (its : RightKind) (volume : Option ℕ) → is_diversion_kind its ≡ false → IsValidVolume its volume →
+    None ≡ volume
 no_volume its None other valid = refl
 no_volume its (Some n) other valid = let both : true ≡ false = sym valid.0 ∙ other in cc
 
 -- the keys that each right has make it
-right_there : (kind : RightKind) (volume : Option ℕ) (row : Members) (b : Basin) (r : Right) → IsValidRight b r → is_date r.date ≡ true →
-    get_member (codes "name") row ≡ Some (string r.name) → get_member (codes "date") row ≡ Some (string (day_text r.date)) →
-    get_member (codes "order") row ≡ Some (number r.order) → get_member (codes "want") row ≡ Some (want_data r) → kind ≡ r.kind → volume ≡ r.volume →
+right_there : (kind : RightKind) (volume : Option ℕ) (row : Members) (b : Basin) (r : Right) → IsValidRight b r →
+    is_date r.date ≡ true →
+    get_member (codes "name") row ≡ Some (string r.name) →
+    get_member (codes "date") row ≡ Some (string (day_text r.date)) →
+    get_member (codes "order") row ≡ Some (number r.order) → get_member (codes "want") row ≡ Some (want_data r) →
+    kind ≡ r.kind → volume ≡ r.volume →
     right_of kind volume row ≡ r
 right_there kind volume row b r valid date name at order want is has =
     same_right r _ _ _ _ _ _ _
@@ -115,9 +151,11 @@ kind_name b r (kind.Instream link) = refl
 kind_name b r (kind.Zone reservoir level) = refl
 
 -- every date of a valid basin is a day
-each_date : (rights : List Right) → ((k : ℕ) → k < length rights → of_entry rights k has_bad_date false ≡ false) → Each (λ r. is_date r.date ≡ true) rights
+each_date : (rights : List Right) → ((k : ℕ) → k < length rights → of_entry rights k has_bad_date false ≡ false) →
+    Each (λ r. is_date r.date ≡ true) rights
 each_date [] h = tt
-each_date (r ∷ rights) h = (bool_not (is_date r.date) (h 0 (omega arith)), each_date rights (λ k l. h (suc k) (omega arith)))
+each_date (r ∷ rights) h =
+    (bool_not (is_date r.date) (h 0 (omega arith)), each_date rights (λ k l. h (suc k) (omega arith)))
 
 each_with : {X : Type 0} (P Q : X → Type 0) (xs : List X) → Each P xs → Each Q xs → Each (λ x. P x × Q x) xs
 each_with P Q [] a b = tt
@@ -129,7 +167,9 @@ module _ (b : Basin) (valid : IsValidBasin b) where
 
   -- names stand at their places
   pub node_named : (k : ℕ) → k < length b.nodes → named_at (basin_table b) Nodes (node_name b k) ≡ Some k
-  node_named k within = ap (λ texts. first_from (is_the_text (node_name b k)) 0 texts) texts ∙ place_found (λ n. n.name) b.nodes k within valid.names.nodes
+  node_named k within =
+      ap (λ texts. first_from (is_the_text (node_name b k)) 0 texts) texts
+      ∙ place_found (λ n. n.name) b.nodes k within valid.names.nodes
     where
       texts : texts_of (basin_table b) Nodes ≡ map (λ n. Some n.name) b.nodes
       texts =
@@ -137,10 +177,13 @@ module _ (b : Basin) (valid : IsValidBasin b) where
           ∙ texts_listed (codes "name") node_row (λ n. n.name) b.nodes (λ n. refl)
 
   pub link_named : (k : ℕ) → k < length b.links → named_at (basin_table b) Links (link_name b k) ≡ Some k
-  link_named k within = ap (λ texts. first_from (is_the_text (link_name b k)) 0 texts) texts ∙ place_found (λ l. l.name) b.links k within valid.names.links
+  link_named k within =
+      ap (λ texts. first_from (is_the_text (link_name b k)) 0 texts) texts
+      ∙ place_found (λ l. l.name) b.links k within valid.names.links
     where
       each : (l : link.Link) → text_at (codes "name") (link_row b l) ≡ Some l.name
-      each l = text_there (codes "name") (link_row b l) l.name (skip (codes "name") (codes "closed") (closed_data l.carry) _ refl)
+      each l = text_there (codes "name") (link_row b l) l.name
+          (skip (codes "name") (codes "closed") (closed_data l.carry) _ refl)
 
       texts : texts_of (basin_table b) Links ≡ map (λ l. Some l.name) b.links
       texts =
@@ -169,24 +212,30 @@ module _ (b : Basin) (valid : IsValidBasin b) where
       let one = entry_at b.reservoirs i (omega arith) in
       let other = entry_at b.reservoirs j within in
       let names : node_name b one.0.node ≡ node_name b other.0.node = rw (one.1, other.1) at same in
-      let at : one.0.node ≡ other.0.node = node_once one.0.node other.0.node (its i one.0 one.1).node (its j other.0 other.1).node names in
+      let at : one.0.node ≡ other.0.node =
+      node_once one.0.node other.0.node (its i one.0 one.1).node (its j other.0 other.1).node names in
       valid.names.reservoirs i j before within (rw (one.1, other.1) (ap Some at))
     where
       its : (k : ℕ) (v : reservoir.Reservoir) → slice_get b.reservoirs k ≡ Some v → IsValidReservoir b v
-      its k v at = each_at (IsValidReservoir b) b.reservoirs k v at (all_each (IsValidReservoir b) b.reservoirs valid.reservoirs)
+      its k v at =
+          each_at (IsValidReservoir b) b.reservoirs k v at (all_each (IsValidReservoir b) b.reservoirs valid.reservoirs)
 
-  pub reservoir_named : (k : ℕ) → k < length b.reservoirs → named_at (basin_table b) Reservoirs (reservoir_name b k) ≡ Some k
+  pub reservoir_named : (k : ℕ) → k < length b.reservoirs →
+      named_at (basin_table b) Reservoirs (reservoir_name b k) ≡ Some k
   reservoir_named k within =
-      ap (λ texts. first_from (is_the_text (reservoir_name b k)) 0 texts) texts ∙ place_found (λ v. node_name b v.node) b.reservoirs k within reservoirs_own
+      ap (λ texts. first_from (is_the_text (reservoir_name b k)) 0 texts) texts
+      ∙ place_found (λ v. node_name b v.node) b.reservoirs k within reservoirs_own
     where
       texts : texts_of (basin_table b) Reservoirs ≡ map (λ v. Some (node_name b v.node)) b.reservoirs
       texts =
           ap (λ (o : Option Data). texts_behind (codes "node") (items_in o)) keys.reservoirs
           ∙ texts_listed (codes "node") (reservoir_row b) (λ v. node_name b v.node) b.reservoirs (λ v. refl)
 
-  pub diversion_named : (k : ℕ) → of_entry b.rights k (λ r. is_diversion_kind r.kind) false ≡ true → named_at (basin_table b) Diversions (right_name b k) ≡ Some k
+  pub diversion_named : (k : ℕ) → of_entry b.rights k (λ r. is_diversion_kind r.kind) false ≡ true →
+      named_at (basin_table b) Diversions (right_name b k) ≡ Some k
   diversion_named k is =
-      ap (λ (o : Option Right). first_from (is_the_text (unwrap_or (option_map (λ r. r.name) o) [])) 0 (texts_of (basin_table b) Diversions))
+      ap (λ (o : Option Right). first_from (is_the_text (unwrap_or (option_map (λ r. r.name) o) [])) 0
+      (texts_of (basin_table b) Diversions))
       (sym (diversion_same 0 b.rights valid.ranked k within))
       ∙ (ap (λ texts. first_from (is_the_text (of_entry ours k (λ r. r.name) [])) 0 texts) texts
       ∙ place_found (λ r. r.name) ours k within (diversions_own 0 b.rights valid.ranked valid.names.rights))
@@ -203,33 +252,44 @@ module _ (b : Basin) (valid : IsValidBasin b) where
           ∙ texts_listed (codes "name") (right_row b) (λ r. r.name) ours (λ r. kind_name b r r.kind)
 
   -- so a text that is such a name is read as the place
-  node_at : (key : List ℕ) (row : Members) (k : ℕ) → get_member key row ≡ Some (string (node_name b k)) → k < length b.nodes →
+  node_at : (key : List ℕ) (row : Members) (k : ℕ) → get_member key row ≡ Some (string (node_name b k)) →
+      k < length b.nodes →
       number_at (basin_table b) Nodes key row ≡ k
   node_at key row k at within =
-      number_read (basin_table b) Nodes key row (node_name b k) k (text_there key row (node_name b k) at) (node_named k within) (omega (arith, valid.few.nodes))
+      number_read (basin_table b) Nodes key row (node_name b k) k (text_there key row (node_name b k) at)
+      (node_named k within) (omega (arith, valid.few.nodes))
 
   node_back : (n : node.Node) → IsValidNode n → node_of (node_row n) ≡ n
-  node_back n h = same_node n _ _ _ (name_there (codes "name") (node_row n) n.name refl h.name) refl (inflow_read n.inflow h.inflow)
+  node_back n h =
+      same_node n _ _ _ (name_there (codes "name") (node_row n) n.name refl h.name) refl (inflow_read n.inflow h.inflow)
 
   link_back : (l : link.Link) → IsValidLink b l → link_of (basin_table b) (link_row b l) ≡ l
   link_back l h =
       same_link l _ _ _ _
-      (name_there (codes "name") (link_row b l) l.name (skip (codes "name") (codes "closed") (closed_data l.carry) _ refl) h.name)
-      (node_at (codes "from") (link_row b l) l.from (skip (codes "from") (codes "closed") (closed_data l.carry) _ refl) h.ends.from)
+      (name_there (codes "name") (link_row b l) l.name
+      (skip (codes "name") (codes "closed") (closed_data l.carry) _ refl) h.name)
+      (node_at (codes "from") (link_row b l) l.from (skip (codes "from") (codes "closed") (closed_data l.carry) _ refl)
+      h.ends.from)
       (node_at (codes "to") (link_row b l) l.to
-      (skip (codes "to") (codes "closed") (closed_data l.carry) _ refl ∙ skip (codes "to") (codes "per_day") (per_day_data l.carry) last refl) h.ends.to)
-      (ap (λ (o : Option Data). carry_of o (get_member (codes "closed") (link_row b l))) per_day ∙ (ap (carry_of (per_day_data l.carry)) closed ∙ carry_read l.carry h.carry))
+      (skip (codes "to") (codes "closed") (closed_data l.carry) _ refl
+      ∙ skip (codes "to") (codes "per_day") (per_day_data l.carry) last refl) h.ends.to)
+      (ap (λ (o : Option Data). carry_of o (get_member (codes "closed") (link_row b l))) per_day
+      ∙ (ap (carry_of (per_day_data l.carry)) closed ∙ carry_read l.carry h.carry))
     where
       last : Members
       last = member (codes "to") (string (node_name b l.to)) no_members
 
       per_day : get_member (codes "per_day") (link_row b l) ≡ per_day_data l.carry
-      per_day = skip (codes "per_day") (codes "closed") (closed_data l.carry) _ refl ∙ there (codes "per_day") (per_day_data l.carry) last refl refl
+      per_day =
+          skip (codes "per_day") (codes "closed") (closed_data l.carry) _ refl
+          ∙ there (codes "per_day") (per_day_data l.carry) last refl refl
 
       closed : get_member (codes "closed") (link_row b l) ≡ closed_data l.carry
-      closed = there (codes "closed") (closed_data l.carry) _ refl (skip (codes "closed") (codes "per_day") (per_day_data l.carry) last refl)
+      closed = there (codes "closed") (closed_data l.carry) _ refl
+          (skip (codes "closed") (codes "per_day") (per_day_data l.carry) last refl)
 
-  reservoir_back : (v : reservoir.Reservoir) → IsValidReservoir b v → reservoir_of (basin_table b) (reservoir_row b v) ≡ v
+  reservoir_back : (v : reservoir.Reservoir) → IsValidReservoir b v →
+      reservoir_of (basin_table b) (reservoir_row b v) ≡ v
   reservoir_back v h =
       same_reservoir v _ _ _ _
       (node_at (codes "node") (reservoir_row b v) v.node refl h.node)
@@ -239,7 +299,8 @@ module _ (b : Basin) (valid : IsValidBasin b) where
 
   pub each_right : Each (λ r. IsValidRight b r × (is_date r.date ≡ true)) b.rights
   each_right =
-      each_with (IsValidRight b) (λ r. is_date r.date ≡ true) b.rights (all_each (IsValidRight b) b.rights valid.rights) (each_date b.rights valid.roll.dates)
+      each_with (IsValidRight b) (λ r. is_date r.date ≡ true) b.rights (all_each (IsValidRight b) b.rights valid.rights)
+      (each_date b.rights valid.roll.dates)
 
   diversion_back : (r : Right) → IsValidRight b r → is_date r.date ≡ true → is_in_table which.Diversion r.kind ≡ true →
       diversion_of (basin_table b) (right_row b r) ≡ r
@@ -248,12 +309,16 @@ module _ (b : Basin) (valid : IsValidBasin b) where
       last : Members
       last = member (codes "want") (want_data r) no_members
 
-      by : (its : RightKind) → r.kind ≡ its → HasValidPlace b its → IsValidVolume its r.volume → is_in_table which.Diversion its ≡ true →
+      by : (its : RightKind) → r.kind ≡ its → HasValidPlace b its → IsValidVolume its r.volume →
+          is_in_table which.Diversion its ≡ true →
           diversion_of (basin_table b) (row_of_kind b r its) ≡ r
       by (kind.Diversion node) e place volume is =
-          right_there _ _ (row_of_kind b r (kind.Diversion node)) b r h date refl refl refl (skip (codes "want") (codes "volume") (option_map number r.volume) last refl)
-          (ap (λ (n : ℕ). kind.Diversion n) (node_at (codes "node") (row_of_kind b r (kind.Diversion node)) node refl place) ∙ sym e)
-          (ap volume_of (there (codes "volume") (option_map number r.volume) last refl refl) ∙ volume_read (kind.Diversion node) r.volume volume)
+          right_there _ _ (row_of_kind b r (kind.Diversion node)) b r h date refl refl refl
+          (skip (codes "want") (codes "volume") (option_map number r.volume) last refl)
+          (ap (λ (n : ℕ). kind.Diversion n)
+          (node_at (codes "node") (row_of_kind b r (kind.Diversion node)) node refl place) ∙ sym e)
+          (ap volume_of (there (codes "volume") (option_map number r.volume) last refl refl)
+          ∙ volume_read (kind.Diversion node) r.volume volume)
       by (kind.Instream link) e place volume is = cc
       by (kind.Zone reservoir level) e place volume is = cc
 
@@ -261,13 +326,15 @@ module _ (b : Basin) (valid : IsValidBasin b) where
       instream_of (basin_table b) (right_row b r) ≡ r
   instream_back r h date is = by r.kind refl h.place h.volume is
     where
-      by : (its : RightKind) → r.kind ≡ its → HasValidPlace b its → IsValidVolume its r.volume → is_in_table which.Instream its ≡ true →
+      by : (its : RightKind) → r.kind ≡ its → HasValidPlace b its → IsValidVolume its r.volume →
+          is_in_table which.Instream its ≡ true →
           instream_of (basin_table b) (row_of_kind b r its) ≡ r
       by (kind.Diversion node) e place volume is = cc
       by (kind.Instream link) e place volume is =
           right_there _ None (row_of_kind b r (kind.Instream link)) b r h date refl refl refl refl
           (ap (λ (n : ℕ). kind.Instream n)
-          (number_read (basin_table b) Links (codes "link") (row_of_kind b r (kind.Instream link)) (link_name b link) link refl (link_named link place) (omega (arith, valid.few.links)))
+          (number_read (basin_table b) Links (codes "link") (row_of_kind b r (kind.Instream link)) (link_name b link)
+          link refl (link_named link place) (omega (arith, valid.few.links)))
           ∙ sym e)
           (no_volume (kind.Instream link) r.volume refl volume)
       by (kind.Zone reservoir level) e place volume is = cc
@@ -276,15 +343,18 @@ module _ (b : Basin) (valid : IsValidBasin b) where
       zone_of (basin_table b) (right_row b r) ≡ r
   zone_back r h date is = by r.kind refl h.place h.volume is
     where
-      by : (its : RightKind) → r.kind ≡ its → HasValidPlace b its → IsValidVolume its r.volume → is_in_table which.Zone its ≡ true →
+      by : (its : RightKind) → r.kind ≡ its → HasValidPlace b its → IsValidVolume its r.volume →
+          is_in_table which.Zone its ≡ true →
           zone_of (basin_table b) (row_of_kind b r its) ≡ r
       by (kind.Diversion node) e place volume is = cc
       by (kind.Instream link) e place volume is = cc
       by (kind.Zone reservoir level) e place volume is =
           right_there _ None (row_of_kind b r (kind.Zone reservoir level)) b r h date refl refl refl refl
-          (zone (number_read (basin_table b) Reservoirs (codes "reservoir") (row_of_kind b r (kind.Zone reservoir level)) (reservoir_name b reservoir) reservoir refl
+          (zone (number_read (basin_table b) Reservoirs (codes "reservoir")
+          (row_of_kind b r (kind.Zone reservoir level)) (reservoir_name b reservoir) reservoir refl
           (reservoir_named reservoir place.0) (omega (arith, place.0, few_reservoirs b valid)))
-          (whole_there (codes "level") 1 16 1 (row_of_kind b r (kind.Zone reservoir level)) level refl place.1 place.2) ∙ sym e)
+          (whole_there (codes "level") 1 16 1 (row_of_kind b r (kind.Zone reservoir level)) level refl place.1 place.2)
+          ∙ sym e)
           (no_volume (kind.Zone reservoir level) r.volume refl volume)
         where
           zone : {m n k l : ℕ} → m ≡ n → k ≡ l → kind.Zone m k ≡ kind.Zone n l
@@ -293,7 +363,8 @@ module _ (b : Basin) (valid : IsValidBasin b) where
   return_back : (row : ReturnRow) → IsValidReturn b row → return_of (basin_table b) (return_row b row) ≡ row
   return_back row h =
       same_return row _ _ _ _
-      (number_read (basin_table b) Diversions (codes "diversion") (return_row b row) (right_name b row.right) row.right refl
+      (number_read (basin_table b) Diversions (codes "diversion") (return_row b row) (right_name b row.right) row.right
+      refl
       (diversion_named row.right h.diversion) (omega (arith, h.right, valid.few.rights)))
       (node_at (codes "node") (return_row b row) row.node refl h.node)
       (whole_there (codes "part") 1 10000 1 (return_row b row) row.part refl h.part.0 h.part.1)
@@ -304,21 +375,25 @@ module _ (b : Basin) (valid : IsValidBasin b) where
   nodes_back =
       ap (λ (o : Option Data). map node_of (rows_behind (items_in o))) keys.nodes
       ∙ (ap (λ rows. map node_of rows) (rows_listed node_row b.nodes)
-      ∙ map_back node_of node_row b.nodes (each_then IsValidNode (λ n. node_of (node_row n) ≡ n) b.nodes node_back (all_each IsValidNode b.nodes valid.nodes)))
+      ∙ map_back node_of node_row b.nodes
+      (each_then IsValidNode (λ n. node_of (node_row n) ≡ n) b.nodes node_back
+      (all_each IsValidNode b.nodes valid.nodes)))
 
   links_back : map (link_of (basin_table b)) (rows_in (basin_table b) which.Link) ≡ b.links
   links_back =
       ap (λ (o : Option Data). map (link_of (basin_table b)) (rows_behind (items_in o))) keys.links
       ∙ (ap (λ rows. map (link_of (basin_table b)) rows) (rows_listed (link_row b) b.links)
       ∙ map_back (link_of (basin_table b)) (link_row b) b.links
-      (each_then (IsValidLink b) (λ l. link_of (basin_table b) (link_row b l) ≡ l) b.links link_back (all_each (IsValidLink b) b.links valid.links)))
+      (each_then (IsValidLink b) (λ l. link_of (basin_table b) (link_row b l) ≡ l) b.links link_back
+      (all_each (IsValidLink b) b.links valid.links)))
 
   reservoirs_back : map (reservoir_of (basin_table b)) (rows_in (basin_table b) which.Reservoir) ≡ b.reservoirs
   reservoirs_back =
       ap (λ (o : Option Data). map (reservoir_of (basin_table b)) (rows_behind (items_in o))) keys.reservoirs
       ∙ (ap (λ rows. map (reservoir_of (basin_table b)) rows) (rows_listed (reservoir_row b) b.reservoirs)
       ∙ map_back (reservoir_of (basin_table b)) (reservoir_row b) b.reservoirs
-      (each_then (IsValidReservoir b) (λ v. reservoir_of (basin_table b) (reservoir_row b v) ≡ v) b.reservoirs reservoir_back
+      (each_then (IsValidReservoir b) (λ v. reservoir_of (basin_table b) (reservoir_row b v) ≡ v) b.reservoirs
+      reservoir_back
       (all_each (IsValidReservoir b) b.reservoirs valid.reservoirs)))
 
   returns_back : map (return_of (basin_table b)) (rows_in (basin_table b) which.Return) ≡ b.returns
@@ -331,27 +406,33 @@ module _ (b : Basin) (valid : IsValidBasin b) where
 
   -- the rights of one table
   some_rights : (table : BasinTable) (spells : Members → Right) →
-      ((r : Right) → IsValidRight b r → is_date r.date ≡ true → is_in_table table r.kind ≡ true → spells (right_row b r) ≡ r) →
+      ((r : Right) → IsValidRight b r → is_date r.date ≡ true → is_in_table table r.kind ≡ true →
+      spells (right_row b r) ≡ r) →
       map spells (rows_behind (items_in (listed (right_row b) (rights_in table b.rights)))) ≡ rights_in table b.rights
   some_rights table spells back =
       ap (λ rows. map spells rows) (rows_listed (right_row b) (rights_in table b.rights))
       ∙ map_back spells (right_row b) (rights_in table b.rights)
       (each_filter (λ r. is_in_table table r.kind) (λ r. spells (right_row b r) ≡ r) b.rights
-      (each_then (λ r. IsValidRight b r × (is_date r.date ≡ true)) (λ r. is_in_table table r.kind ≡ true → spells (right_row b r) ≡ r) b.rights
+      (each_then (λ r. IsValidRight b r × (is_date r.date ≡ true)) (λ r. is_in_table table r.kind ≡ true →
+      spells (right_row b r) ≡ r) b.rights
       (λ r h is. back r h.0 h.1 is) each_right))
 
   rights_back : rights_of (basin_table b) ≡ b.rights
   rights_back =
-      joined _ _ _ (rights_in which.Diversion b.rights) (rights_in which.Instream b.rights) (rights_in which.Zone b.rights) b.rights
+      joined _ _ _ (rights_in which.Diversion b.rights) (rights_in which.Instream b.rights)
+      (rights_in which.Zone b.rights) b.rights
       (ap (λ (o : Option Data). map (diversion_of (basin_table b)) (rows_behind (items_in o))) keys.diversions
       ∙ some_rights which.Diversion (diversion_of (basin_table b)) diversion_back)
       (ap (λ (o : Option Data). map (instream_of (basin_table b)) (rows_behind (items_in o))) keys.instreams
       ∙ some_rights which.Instream (instream_of (basin_table b)) instream_back)
-      (ap (λ (o : Option Data). map (zone_of (basin_table b)) (rows_behind (items_in o))) keys.zones ∙ some_rights which.Zone (zone_of (basin_table b)) zone_back)
+      (ap (λ (o : Option Data). map (zone_of (basin_table b)) (rows_behind (items_in o))) keys.zones
+      ∙ some_rights which.Zone (zone_of (basin_table b)) zone_back)
       (rights_by_table 0 b.rights valid.ranked)
 
-same_basin : (b : Basin) (format : ℕ) (first : Month) (months year_start : ℕ) (nodes : List node.Node) (links : List link.Link) (reservoirs : List reservoir.Reservoir)
-    (rights : List Right) (returns : List ReturnRow) → format ≡ 2 → first ≡ b.first → months ≡ b.months → year_start ≡ b.year_start → nodes ≡ b.nodes → links ≡ b.links →
+same_basin : (b : Basin) (format : ℕ) (first : Month) (months year_start : ℕ) (nodes : List node.Node)
+    (links : List link.Link) (reservoirs : List reservoir.Reservoir)
+    (rights : List Right) (returns : List ReturnRow) → format ≡ 2 → first ≡ b.first → months ≡ b.months →
+    year_start ≡ b.year_start → nodes ≡ b.nodes → links ≡ b.links →
     reservoirs ≡ b.reservoirs → rights ≡ b.rights → returns ≡ b.returns →
     (let made : Basin = record {
       format = format;
@@ -364,7 +445,8 @@ same_basin : (b : Basin) (format : ℕ) (first : Month) (months year_start : ℕ
       rights = rights;
       returns = returns;
     } in made ≡ record b { format = 2 })
-same_basin b format first months year_start nodes links reservoirs rights returns p q r s t u v w x = rw (p, q, r, s, t, u, v, w, x) refl
+same_basin b format first months year_start nodes links reservoirs rights returns p q r s t u v w x =
+    rw (p, q, r, s, t, u, v, w, x) refl
 
 -- the table of a valid basin spells it, in format 2
 pub table_spells : (b : Basin) → IsValidBasin b → basin_of (basin_table b) ≡ record b { format = 2 }
@@ -372,7 +454,9 @@ table_spells b valid =
     let its = table_keys b in
     same_basin b _ _ _ _ _ _ _ _ _
     (ap (whole_of 1 2 1) its.format)
-    (ap (λ (o : Option Data). first_of (unwrap_or (option_and_then as_str o) [])) its.first ∙ first_read b.first valid.run.first)
+    (ap (λ (o : Option Data). first_of (unwrap_or (option_and_then as_str o) [])) its.first
+    ∙ first_read b.first valid.run.first)
     (whole_there (codes "months") 1 1200 1 (basin_table b) b.months its.months valid.run.months.0 valid.run.months.1)
-    (whole_there (codes "year_start") 1 12 10 (basin_table b) b.year_start its.year_start valid.format.year_start.0 valid.format.year_start.1)
+    (whole_there (codes "year_start") 1 12 10 (basin_table b) b.year_start its.year_start valid.format.year_start.0
+    valid.format.year_start.1)
     (nodes_back b valid) (links_back b valid) (reservoirs_back b valid) (rights_back b valid) (returns_back b valid)

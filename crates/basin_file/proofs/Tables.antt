@@ -1,5 +1,6 @@
 -- Members that are added to a table, and the members of a whole table in their order.
-use Rattle.std.proofs.Common.{◌≡◌, ℕ, suc, ◌∙◌, ap, arith, refl, true, false, List, [], ◌∷◌, length, String, Global, string_bytes, nat_cmp, Ordering, Less, Equal, Greater}
+use Rattle.std.proofs.Common.{◌≡◌, ℕ, suc, ◌∙◌, ap, arith, refl, true, false, List, [], ◌∷◌, length, String, Global}
+use Rattle.std.proofs.Common.{string_bytes, nat_cmp, Ordering, Less, Equal, Greater}
 use Rattle.std.specs.Prelude.{◌==◌, Option, Some, None, codes}
 use Rattle.std.proofs.lemmas.Bool.Decides.{nat_tests}
 use Rattle.std.specs.Cmp.Lexicographic.{slice_cmp}
@@ -17,10 +18,12 @@ pub view-insert : (k : String Global) (v : Value) (es : List (String Global × V
 view-insert k v [] = refl
 view-insert k v (e ∷ es) = by_order (string_cmp k e.0) (view-insert k v es)
   where
-    by_order : (o : Ordering) → members_view (insert_entry string_cmp es k v) ≡ with_member (string_bytes k) (view v) (members_view es) →
+    by_order : (o : Ordering) →
+        members_view (insert_entry string_cmp es k v) ≡ with_member (string_bytes k) (view v) (members_view es) →
         members_view (match_ordering o ((k, v) ∷ e ∷ es) ((e.0, v) ∷ es) (e ∷ insert_entry string_cmp es k v))
         ≡ match_ordering o (member (string_bytes k) (view v) (member (string_bytes e.0) (view e.1) (members_view es)))
-        (member (string_bytes e.0) (view v) (members_view es)) (member (string_bytes e.0) (view e.1) (with_member (string_bytes k) (view v) (members_view es)))
+        (member (string_bytes e.0) (view v) (members_view es))
+        (member (string_bytes e.0) (view e.1) (with_member (string_bytes k) (view v) (members_view es)))
     by_order Less further = refl
     by_order Equal further = refl
     by_order Greater further = ap (member (string_bytes e.0) (view e.1)) further
@@ -31,7 +34,8 @@ pub listed-put : (key : List ℕ) (values : List Value) (ms : Members) → (leng
 listed-put key [] ms h = cc
 listed-put key (v ∷ values) ms h = refl
 
-pub listed-none : (key : List ℕ) (values : List Value) (ms : Members) → (length values == 0) ≡ true → ms ≡ with_option key (some_items (items_view values)) ms
+pub listed-none : (key : List ℕ) (values : List Value) (ms : Members) → (length values == 0) ≡ true →
+    ms ≡ with_option key (some_items (items_view values)) ms
 listed-none key [] ms h = refl
 listed-none key (v ∷ values) ms h = absurd (none (length values) h)
   where
@@ -39,60 +43,81 @@ listed-none key (v ∷ values) ms h = absurd (none (length values) h)
     none n h = grind (arith, nat_tests)
 
 -- a key that comes before the others stands in front
-pub with_member-front : (key : List ℕ) (d : Data) (ms : Members) → is_before key ms ≡ true → with_member key d ms ≡ member key d ms
+pub with_member-front : (key : List ℕ) (d : Data) (ms : Members) → is_before key ms ≡ true →
+    with_member key d ms ≡ member key d ms
 with_member-front key d no_members h = refl
 with_member-front key d (member other e rest) h = by_order (slice_cmp nat_cmp key other) h
   where
     by_order : (o : Ordering) → is_lt o ≡ true →
-        match_ordering o (member key d (member other e rest)) (member other d rest) (member other e (with_member key d rest)) ≡ member key d (member other e rest)
+        match_ordering o (member key d (member other e rest)) (member other d rest)
+        (member other e (with_member key d rest)) ≡ member key d (member other e rest)
     by_order Less l = refl
     by_order Equal l = cc
     by_order Greater l = cc
 
-pub with_option-front : (key : List ℕ) (o : Option Data) (ms : Members) → is_before key ms ≡ true → with_option key o ms ≡ with_some key o ms
+pub with_option-front : (key : List ℕ) (o : Option Data) (ms : Members) → is_before key ms ≡ true →
+    with_option key o ms ≡ with_some key o ms
 with_option-front key None ms h = refl
 with_option-front key (Some d) ms h = with_member-front key d ms h
 
-is_before-some : (k key : List ℕ) (o : Option Data) (rest : Members) → is_lt (slice_cmp nat_cmp k key) ≡ true → is_before k rest ≡ true →
+is_before-some : (k key : List ℕ) (o : Option Data) (rest : Members) → is_lt (slice_cmp nat_cmp k key) ≡ true →
+    is_before k rest ≡ true →
     is_before k (with_some key o rest) ≡ true
 is_before-some k key None rest h further = further
 is_before-some k key (Some d) rest h further = h
 
 -- the keys of the whole table, put from the last to the first
 last_is : (v r z : Option Data) (year : Data) →
-    with_option (codes "reservoir") v (with_option (codes "return") r (with_member (codes "year_start") year (with_option (codes "zone") z no_members)))
-    ≡ with_some (codes "reservoir") v (with_some (codes "return") r (member (codes "year_start") year (with_some (codes "zone") z no_members)))
+    with_option (codes "reservoir") v
+    (with_option (codes "return") r
+    (with_member (codes "year_start") year (with_option (codes "zone") z no_members)))
+    ≡ with_some (codes "reservoir") v
+    (with_some (codes "return") r (member (codes "year_start") year (with_some (codes "zone") z no_members)))
 last_is v r z year =
     ap (λ ms. with_option (codes "reservoir") v (with_option (codes "return") r ms)) years
     ∙ ap (with_option (codes "reservoir") v) (with_option-front (codes "return") r behind refl)
-    ∙ with_option-front (codes "reservoir") v (with_some (codes "return") r behind) (is_before-some (codes "reservoir") (codes "return") r behind refl refl)
+    ∙ with_option-front (codes "reservoir") v (with_some (codes "return") r behind)
+    (is_before-some (codes "reservoir") (codes "return") r behind refl refl)
   where
     behind : Members
     behind = member (codes "year_start") year (with_some (codes "zone") z no_members)
 
-    years : with_member (codes "year_start") year (with_option (codes "zone") z no_members) ≡ member (codes "year_start") year (with_some (codes "zone") z no_members)
+    years : with_member (codes "year_start") year (with_option (codes "zone") z no_members) ≡ member
+        (codes "year_start") year (with_some (codes "zone") z no_members)
     years =
         ap (with_member (codes "year_start") year) (with_option-front (codes "zone") z no_members refl)
-        ∙ with_member-front (codes "year_start") year (with_some (codes "zone") z no_members) (is_before-some (codes "year_start") (codes "zone") z no_members refl refl)
+        ∙ with_member-front (codes "year_start") year (with_some (codes "zone") z no_members)
+        (is_before-some (codes "year_start") (codes "zone") z no_members refl refl)
 
 whole_is : (d i l n v r z : Option Data) (first format months year : Data) (last : Members) →
-    last ≡ with_some (codes "reservoir") v (with_some (codes "return") r (member (codes "year_start") year (with_some (codes "zone") z no_members))) →
-    with_option (codes "diversion") d (with_member (codes "first_month") first (with_member (codes "format") format (with_option (codes "instream") i
+    last ≡ with_some (codes "reservoir") v
+    (with_some (codes "return") r (member (codes "year_start") year (with_some (codes "zone") z no_members))) →
+    with_option (codes "diversion") d
+    (with_member (codes "first_month") first (with_member (codes "format") format (with_option (codes "instream") i
     (with_option (codes "link") l (with_member (codes "months") months (with_option (codes "node") n last))))))
-    ≡ with_some (codes "diversion") d (member (codes "first_month") first (member (codes "format") format (with_some (codes "instream") i
+    ≡ with_some (codes "diversion") d
+    (member (codes "first_month") first (member (codes "format") format (with_some (codes "instream") i
     (with_some (codes "link") l (member (codes "months") months (with_some (codes "node") n last))))))
 whole_is d i l n v r z first format months year last is =
-    ap (λ ms. with_option (codes "diversion") d (with_member (codes "first_month") first (with_member (codes "format") format (with_option (codes "instream") i
+    ap (λ ms. with_option (codes "diversion") d
+    (with_member (codes "first_month") first (with_member (codes "format") format (with_option (codes "instream") i
     (with_option (codes "link") l ms))))) middle
-    ∙ ap (λ ms. with_option (codes "diversion") d (with_member (codes "first_month") first (with_member (codes "format") format (with_option (codes "instream") i ms))))
+    ∙ ap (λ ms. with_option (codes "diversion") d
+    (with_member (codes "first_month") first
+    (with_member (codes "format") format (with_option (codes "instream") i ms))))
     (with_option-front (codes "link") l from_months refl)
-    ∙ ap (λ ms. with_option (codes "diversion") d (with_member (codes "first_month") first (with_member (codes "format") format ms)))
-    (with_option-front (codes "instream") i from_links (is_before-some (codes "instream") (codes "link") l from_months refl refl))
+    ∙ ap (λ ms. with_option (codes "diversion") d
+    (with_member (codes "first_month") first (with_member (codes "format") format ms)))
+    (with_option-front (codes "instream") i from_links
+    (is_before-some (codes "instream") (codes "link") l from_months refl refl))
     ∙ ap (λ ms. with_option (codes "diversion") d (with_member (codes "first_month") first ms))
     (with_member-front (codes "format") format from_instream
-    (is_before-some (codes "format") (codes "instream") i from_links refl (is_before-some (codes "format") (codes "link") l from_months refl refl)))
-    ∙ ap (with_option (codes "diversion") d) (with_member-front (codes "first_month") first (member (codes "format") format from_instream) refl)
-    ∙ with_option-front (codes "diversion") d (member (codes "first_month") first (member (codes "format") format from_instream)) refl
+    (is_before-some (codes "format") (codes "instream") i from_links refl
+    (is_before-some (codes "format") (codes "link") l from_months refl refl)))
+    ∙ ap (with_option (codes "diversion") d)
+    (with_member-front (codes "first_month") first (member (codes "format") format from_instream) refl)
+    ∙ with_option-front (codes "diversion") d
+    (member (codes "first_month") first (member (codes "format") format from_instream)) refl
   where
     from_nodes : Members
     from_nodes = with_some (codes "node") n last
@@ -109,25 +134,39 @@ whole_is d i l n v r z first format months year last is =
     years : Members
     years = member (codes "year_start") year (with_some (codes "zone") z no_members)
 
-    before_last : (k : List ℕ) → is_lt (slice_cmp nat_cmp k (codes "reservoir")) ≡ true → is_lt (slice_cmp nat_cmp k (codes "return")) ≡ true →
+    before_last : (k : List ℕ) → is_lt (slice_cmp nat_cmp k (codes "reservoir")) ≡ true →
+        is_lt (slice_cmp nat_cmp k (codes "return")) ≡ true →
         is_lt (slice_cmp nat_cmp k (codes "year_start")) ≡ true → is_before k last ≡ true
-    before_last k h p q = ap (is_before k) is ∙ is_before-some k (codes "reservoir") v (with_some (codes "return") r years) h (is_before-some k (codes "return") r years p q)
+    before_last k h p q =
+        ap (is_before k) is ∙ is_before-some k (codes "reservoir") v (with_some (codes "return") r years) h
+        (is_before-some k (codes "return") r years p q)
 
     middle : with_member (codes "months") months (with_option (codes "node") n last) ≡ from_months
     middle =
-        ap (with_member (codes "months") months) (with_option-front (codes "node") n last (before_last (codes "node") refl refl refl))
-        ∙ with_member-front (codes "months") months from_nodes (is_before-some (codes "months") (codes "node") n last refl (before_last (codes "months") refl refl refl))
+        ap (with_member (codes "months") months)
+        (with_option-front (codes "node") n last (before_last (codes "node") refl refl refl))
+        ∙ with_member-front (codes "months") months from_nodes
+        (is_before-some (codes "months") (codes "node") n last refl (before_last (codes "months") refl refl refl))
 
 pub put_in_order : (d i l n v r z : Option Data) (first format months year : Data) →
-    with_option (codes "diversion") d (with_member (codes "first_month") first (with_member (codes "format") format (with_option (codes "instream") i
-    (with_option (codes "link") l (with_member (codes "months") months (with_option (codes "node") n (with_option (codes "reservoir") v
-    (with_option (codes "return") r (with_member (codes "year_start") year (with_option (codes "zone") z no_members))))))))))
-    ≡ with_some (codes "diversion") d (member (codes "first_month") first (member (codes "format") format (with_some (codes "instream") i
-    (with_some (codes "link") l (member (codes "months") months (with_some (codes "node") n (with_some (codes "reservoir") v
+    with_option (codes "diversion") d
+    (with_member (codes "first_month") first (with_member (codes "format") format (with_option (codes "instream") i
+    (with_option (codes "link") l
+    (with_member (codes "months") months (with_option (codes "node") n (with_option (codes "reservoir") v
+    (with_option (codes "return") r
+    (with_member (codes "year_start") year (with_option (codes "zone") z no_members))))))))))
+    ≡ with_some (codes "diversion") d
+    (member (codes "first_month") first (member (codes "format") format (with_some (codes "instream") i
+    (with_some (codes "link") l
+    (member (codes "months") months (with_some (codes "node") n (with_some (codes "reservoir") v
     (with_some (codes "return") r (member (codes "year_start") year (with_some (codes "zone") z no_members))))))))))
 put_in_order d i l n v r z first format months year =
     whole_is d i l n v r z first format months year
-    (with_option (codes "reservoir") v (with_option (codes "return") r (with_member (codes "year_start") year (with_option (codes "zone") z no_members))))
+    (with_option (codes "reservoir") v
+    (with_option (codes "return") r
+    (with_member (codes "year_start") year (with_option (codes "zone") z no_members))))
     (last_is v r z year)
-    ∙ ap (λ ms. with_some (codes "diversion") d (member (codes "first_month") first (member (codes "format") format (with_some (codes "instream") i
-    (with_some (codes "link") l (member (codes "months") months (with_some (codes "node") n ms))))))) (last_is v r z year)
+    ∙ ap (λ ms. with_some (codes "diversion") d
+    (member (codes "first_month") first (member (codes "format") format (with_some (codes "instream") i
+    (with_some (codes "link") l (member (codes "months") months (with_some (codes "node") n ms)))))))
+    (last_is v r z year)

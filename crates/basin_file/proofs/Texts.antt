@@ -1,5 +1,6 @@
 -- Texts of ASCII bytes: names, months and days.
-use Rattle.std.proofs.Common.{◌≡◌, ℕ, ◌+◌, ◌/◌, ◌%◌, ◌<◌, ◌≤◌, Bool, true, false, arith, List, [], ◌∷◌, ◌++◌, length, get_or}
+use Rattle.std.proofs.Common.{◌≡◌, ℕ, ◌+◌, ◌/◌, ◌%◌, ◌<◌, ◌≤◌, Bool, true, false, arith, List, [], ◌∷◌, ◌++◌, length}
+use Rattle.std.proofs.Common.{get_or}
 use Rattle.std.specs.Prelude.{◌&&◌, nat_le, pos}
 use Rattle.std.specs.Fmt.{decimal}
 use Rattle.std.specs.List.{list_all}
@@ -28,21 +29,27 @@ last_of false q r h = cc
 pub name_ascii : (text : List ℕ) → is_name text ≡ true → IsAscii text
 unfolding is_name
 name_ascii text h =
-    let each = AllPass-from_list_all is_name_byte text (last_of (nat_le 1 (length text)) (nat_le (length text) 32) (list_all is_name_byte text) h) in
+    let each =
+    AllPass-from_list_all is_name_byte text
+    (last_of (nat_le 1 (length text)) (nat_le (length text) 32) (list_all is_name_byte text) h) in
     IsAscii-from_all text (λ k d l. low (get_or text k d) (each k d l))
 
 two_ascii : (n : ℕ) → n < 100 → IsAscii (two_digits n)
-two_ascii n l = IsAscii-cons (48 + n / 10) ((48 + n % 10) ∷ []) (omega arith) (IsAscii-cons (48 + n % 10) [] (omega arith) IsAscii-nil)
+two_ascii n l =
+    IsAscii-cons (48 + n / 10) ((48 + n % 10) ∷ []) (omega arith)
+    (IsAscii-cons (48 + n % 10) [] (omega arith) IsAscii-nil)
 
 dash_ascii : (n : ℕ) → n < 100 → IsAscii (45 ∷ two_digits n)
 dash_ascii n l = IsAscii-cons 45 (two_digits n) (omega arith) (two_ascii n l)
 
 both_ascii : (xs ys : List ℕ) → IsAscii xs → IsAscii ys → IsAscii (xs ++ ys)
-both_ascii xs ys h k = IsAscii-from_all (xs ++ ys) (All-append (λ byte. byte < 128) xs ys (All-from_ascii xs h) (All-from_ascii ys k))
+both_ascii xs ys h k =
+    IsAscii-from_all (xs ++ ys) (All-append (λ byte. byte < 128) xs ys (All-from_ascii xs h) (All-from_ascii ys k))
 
 pub month_ascii : (m : Month) → IsMonth m → IsAscii (month_digits m)
 month_ascii m h =
-    both_ascii (decimal m.year) (45 ∷ two_digits m.month) (IsAscii-decimal m.year (omega (arith, h.year))) (dash_ascii m.month (omega (arith, h.month)))
+    both_ascii (decimal m.year) (45 ∷ two_digits m.month) (IsAscii-decimal m.year (omega (arith, h.year)))
+    (dash_ascii m.month (omega (arith, h.month)))
 
 -- the numbers of a date have as many digits as their texts
 pub record HasShortNumbers (d : Day) : Type 0 where
@@ -58,29 +65,36 @@ short_date d h = record {
   day = omega (arith, day d.year d.month d.day (days_in d.year d.month) h, most);
 }
   where
-    year : (y m k n : ℕ) → (nat_le 1 y && nat_le y 2999) && (nat_le 1 m && nat_le m 12) && (nat_le 1 k && nat_le k n) ≡ true → y ≤ 2999
+    year : (y m k n : ℕ) →
+        (nat_le 1 y && nat_le y 2999) && (nat_le 1 m && nat_le m 12) && (nat_le 1 k && nat_le k n) ≡ true → y ≤ 2999
     year y m k n e = grind (arith, nat_tests)
 
-    first : (y m k n : ℕ) → (nat_le 1 y && nat_le y 2999) && (nat_le 1 m && nat_le m 12) && (nat_le 1 k && nat_le k n) ≡ true → 1 ≤ m
+    first : (y m k n : ℕ) →
+        (nat_le 1 y && nat_le y 2999) && (nat_le 1 m && nat_le m 12) && (nat_le 1 k && nat_le k n) ≡ true → 1 ≤ m
     first y m k n e = grind (arith, nat_tests)
 
-    month : (y m k n : ℕ) → (nat_le 1 y && nat_le y 2999) && (nat_le 1 m && nat_le m 12) && (nat_le 1 k && nat_le k n) ≡ true → m ≤ 12
+    month : (y m k n : ℕ) →
+        (nat_le 1 y && nat_le y 2999) && (nat_le 1 m && nat_le m 12) && (nat_le 1 k && nat_le k n) ≡ true → m ≤ 12
     month y m k n e = grind (arith, nat_tests)
 
-    day : (y m k n : ℕ) → (nat_le 1 y && nat_le y 2999) && (nat_le 1 m && nat_le m 12) && (nat_le 1 k && nat_le k n) ≡ true → k ≤ n
+    day : (y m k n : ℕ) →
+        (nat_le 1 y && nat_le y 2999) && (nat_le 1 m && nat_le m 12) && (nat_le 1 k && nat_le k n) ≡ true → k ≤ n
     day y m k n e = grind (arith, nat_tests)
 
     most : days_in d.year d.month ≤ 31
     most =
-        rw (days_in-days_in_month d.year d.month (first d.year d.month d.day (days_in d.year d.month) h) (month d.year d.month d.day (days_in d.year d.month) h))
+        rw (days_in-days_in_month d.year d.month (first d.year d.month d.day (days_in d.year d.month) h)
+        (month d.year d.month d.day (days_in d.year d.month) h))
         (days_in_month-le (pos d.year) d.month)
 
 pub day_ascii : (d : Day) → is_date d ≡ true → IsAscii (day_text d)
 unfolding day_text
 day_ascii d h =
     let its = short_date d h in
-    both_ascii (two_digits (d.year / 100) ++ two_digits (d.year % 100) ++ 45 ∷ two_digits d.month) (45 ∷ two_digits d.day)
+    both_ascii (two_digits (d.year / 100) ++ two_digits (d.year % 100) ++ 45 ∷ two_digits d.month)
+    (45 ∷ two_digits d.day)
     (both_ascii (two_digits (d.year / 100) ++ two_digits (d.year % 100)) (45 ∷ two_digits d.month)
-    (both_ascii (two_digits (d.year / 100)) (two_digits (d.year % 100)) (two_ascii (d.year / 100) (omega (arith, its.year))) (two_ascii (d.year % 100) (omega arith)))
+    (both_ascii (two_digits (d.year / 100)) (two_digits (d.year % 100))
+    (two_ascii (d.year / 100) (omega (arith, its.year))) (two_ascii (d.year % 100) (omega arith)))
     (dash_ascii d.month (omega (arith, its.month))))
     (dash_ascii d.day (omega (arith, its.day)))

@@ -1,5 +1,8 @@
 -- What a document without faults spells is sound.
-use Rattle.std.proofs.Common.{◌≡◌, ◌≢◌, ℕ, zero, suc, ◌+◌, ◌*◌, ◌-◌, ◌^◌, ◌<◌, ◌≤◌, ◌==◌, List, [], ◌∷◌, ◌++◌, length, map, take, Bool, true, false, ◌&&◌, ◌||◌, Option, Some, None, option_map, option_and_then, unwrap_or, is_some, slice_get, count_by, refl, sym, ap, ◌∙◌, arith, nat_lt, nat_le, codes, length-append, zero-add, append_assoc, subst, not, IsTrue}
+use Rattle.std.proofs.Common.{◌≡◌, ◌≢◌, ℕ, zero, suc, ◌+◌, ◌*◌, ◌-◌, ◌^◌, ◌<◌, ◌≤◌, ◌==◌, List, [], ◌∷◌, ◌++◌, length}
+use Rattle.std.proofs.Common.{map, take, Bool, true, false, ◌&&◌, ◌||◌, Option, Some, None, option_map, option_and_then}
+use Rattle.std.proofs.Common.{unwrap_or, is_some, slice_get, count_by, refl, sym, ap, ◌∙◌, arith, nat_lt, nat_le, codes}
+use Rattle.std.proofs.Common.{length-append, zero-add, append_assoc, subst, not, IsTrue}
 use Rattle.std.proofs.lemmas.Bool.Decides.{nat_tests}
 use Rattle.std.proofs.lemmas.List.{length-map, append-nil, map-append}
 use Rattle.std.proofs.lemmas.Option.{slice_get-map, slice_get_within}
@@ -13,43 +16,54 @@ use Rattle.toml_tree.specs.Values.{text_at, text_or_empty, whole_at, whole_of}
 use Rattle.water_text.specs.Names.{is_name}
 use Rattle.water_model.specs.Basin.{is_outlet, node_name, link_name, right_name, node_of_reservoir}
 use Rattle.water_model.specs.Lookups.{of_entry}
-use Rattle.water_model.specs.Valid.{HasValidFormat, IsValidNode, IsValidLink, IsValidRight, IsValidReturn, IsValidRun, HasFewEntries, HasOwnNames, AreRanked, is_diversion_kind, rank_of_kind, rows_of, IsAlwaysOpen}
+use Rattle.water_model.specs.Valid.{HasValidFormat, IsValidNode, IsValidLink, IsValidRight, IsValidReturn, IsValidRun}
+use Rattle.water_model.specs.Valid.{HasFewEntries, HasOwnNames, AreRanked, is_diversion_kind, rank_of_kind, rows_of}
+use Rattle.water_model.specs.Valid.{IsAlwaysOpen}
 use Rattle.water_model.specs.declared.types.ReturnRow.{ReturnRow}
 use Rattle.water_model.specs.declared.types.Right.{Right}
 use Rattle.water_model.specs.declared.types.RightKind.TheVariants as kind
 use Rattle.water_model.proofs.Balance.{entry_at}
 use Rattle.basin_tree.specs.declared.tables.BasinTable.{BasinTable}
-use Rattle.basin_tree.specs.declared.tables.BasinTable.TheVariants.{Top, Node, Link, Reservoir, Diversion, Instream, Zone, Return}
+use Rattle.basin_tree.specs.declared.tables.BasinTable.TheVariants.{Top, Node, Link, Reservoir, Diversion, Instream}
+use Rattle.basin_tree.specs.declared.tables.BasinTable.TheVariants.{Zone, Return}
 use Rattle.basin_tree.specs.declared.tables.Kind.TheVariants.{Name, Refers, Tables, Want}
 use Rattle.basin_tree.specs.declared.tables.Space.{Space}
 use Rattle.basin_tree.specs.declared.tables.Space.TheVariants.{Nodes, Links, Reservoirs, Diversions, Rights}
 use Rattle.basin_tree.specs.Entries.{items_at}
-use Rattle.basin_tree.specs.KeyFaults.{format_of, unknown_key, missing_key, wrong_kind, out_of_range, lacks_key, has_no_nodes, shuts_no_canal, any_value}
+use Rattle.basin_tree.specs.KeyFaults.{format_of, unknown_key, missing_key, wrong_kind, out_of_range, lacks_key}
+use Rattle.basin_tree.specs.KeyFaults.{has_no_nodes, shuts_no_canal, any_value}
 use Rattle.basin_tree.specs.Kinds.{has_kind}
 use Rattle.basin_tree.specs.NameFaults.{is_outlet_at, rights_before}
 use Rattle.basin_tree.specs.Places.{own_key, texts_in, texts_of, named_at}
 use Rattle.basin_tree.specs.Ranges.{in_range, ends_late}
 use Rattle.basin_tree.specs.Tables.{KeyRow, keys_of}
 use Rattle.basin_file.specs.Sound.{IsSoundReservoir, IsSoundBasin}
-use Rattle.basin_file.specs.Spelled.{name_at, rows_in, number_at, node_of, link_of, reservoir_of, volume_of, is_series, diversion_of, instream_of, zone_of, return_of, rights_of, basin_of}
+use Rattle.basin_file.specs.Spelled.{name_at, rows_in, number_at, node_of, link_of, reservoir_of, volume_of, is_series}
+use Rattle.basin_file.specs.Spelled.{diversion_of, instream_of, zone_of, return_of, rights_of, basin_of}
 use Rattle.basin_file.proofs.Lists.{Each, EachFrom, each_all, each_append, each_from, each_map, from_at, from_then}
-use Rattle.basin_file.proofs.Passed.{IsListed, HasNoFault, IsFine, absent, all_tables, any_none, bool_not, bool_or, fine_rows, top_passes}
+use Rattle.basin_file.proofs.Passed.{IsListed, HasNoFault, IsFine, absent, all_tables, any_none, bool_not, bool_or}
+use Rattle.basin_file.proofs.Passed.{fine_rows, top_passes}
 use Rattle.basin_file.proofs.Months.{always_open, series_wants, no_text}
-use Rattle.basin_file.proofs.Refers.{name_there, there_at, refers_there, texts_behind-rows, texts_in-rows, length-rows_in, get_item-rows, number_within, number_is}
+use Rattle.basin_file.proofs.Refers.{name_there, there_at, refers_there, texts_behind-rows, texts_in-rows}
+use Rattle.basin_file.proofs.Refers.{length-rows_in, get_item-rows, number_within, number_is}
 use Rattle.basin_file.proofs.OwnNames.{own_texts, own_name, own_names, names_of_rows, same_text, table_own, rights_own}
-use Rattle.basin_file.proofs.Ranges.{whole_in, volume_valid, monthly_in, points_valid, few_points, inflow_valid, carry_valid, first_valid, run_ends}
+use Rattle.basin_file.proofs.Ranges.{whole_in, volume_valid, monthly_in, points_valid, few_points, inflow_valid}
+use Rattle.basin_file.proofs.Ranges.{carry_valid, first_valid, run_ends}
 use Rattle.basin_file.proofs.Counts.{count_where-entries, few_pass, counts_within, few_by}
 
 -- at least one node is listed
-some_items : (format : ℕ) (o : Option Data) → not (is_some o) ≡ false → option_map_or (λ d. not (has_kind format Tables d)) o false ≡ false →
-    option_map_or (λ items. items_len items == 0) (option_and_then as_array o) false ≡ false → 1 ≤ items_len (unwrap_or (option_and_then as_array o) no_items)
+some_items : (format : ℕ) (o : Option Data) → not (is_some o) ≡ false →
+    option_map_or (λ d. not (has_kind format Tables d)) o false ≡ false →
+    option_map_or (λ items. items_len items == 0) (option_and_then as_array o) false ≡ false →
+    1 ≤ items_len (unwrap_or (option_and_then as_array o) no_items)
 some_items format None p k n = cc
 some_items format (Some d) p k n = by (as_array d) (bool_not _ k) n
   where
     positive : (n : ℕ) → (n == 0) ≡ false → 1 ≤ n
     positive n e = grind (arith, nat_tests)
 
-    by : (a : Option Items) → option_map_or (items_all (λ x. is_some (as_table x))) a false ≡ true → option_map_or (λ items. items_len items == 0) a false ≡ false →
+    by : (a : Option Items) → option_map_or (items_all (λ x. is_some (as_table x))) a false ≡ true →
+        option_map_or (λ items. items_len items == 0) a false ≡ false →
         1 ≤ items_len (unwrap_or a no_items)
     by None e n = cc
     by (Some items) e n = positive (items_len items) n
@@ -61,11 +75,15 @@ front_diversion tree [] more others k h = absurd (omega arith)
 front_diversion tree (members ∷ rows) more others zero h = refl
 front_diversion tree (members ∷ rows) more others (suc k) h = front_diversion tree rows more others k (omega arith)
 
-ranked_more : (g : Members → Right) (n : ℕ) → ((members : Members) → rank_of_kind (g members).kind ≡ n) → (rows : List Members) (least : ℕ) (others : List Right) → least ≤ n →
+ranked_more : (g : Members → Right) (n : ℕ) → ((members : Members) → rank_of_kind (g members).kind ≡ n) →
+    (rows : List Members) (least : ℕ) (others : List Right) → least ≤ n →
     ((m : ℕ) → m ≤ n → AreRanked m others) → AreRanked least (map g rows ++ others)
 ranked_more g n same [] least others low rest = rest least low
-ranked_more g n same (members ∷ rows) least others low rest =
-    (rw (same members) low, ranked_more g n same rows (rank_of_kind (g members).kind) others (rw (same members) (omega arith)) rest)
+ranked_more g n same (members ∷ rows) least others low rest = (
+  rw (same members) low,
+  ranked_more g n same rows (rank_of_kind (g members).kind) others
+      (rw (same members) (omega arith)) rest,
+)
 
 eq_means : (m n : ℕ) → (m == n) ≡ true → m ≡ n
 eq_means m n e = grind (arith, nat_tests)
@@ -74,42 +92,50 @@ module _ (tree : Members) (none : HasNoFault tree) where
   fine : (table : BasinTable) → IsListed table → EachFrom (IsFine tree table) 0 (rows_in tree table)
   fine table is_listed = fine_rows tree none table is_listed
 
-  fine_at : (table : BasinTable) → IsListed table → (k : ℕ) (members : Members) → slice_get (rows_in tree table) k ≡ Some members → IsFine tree table k members
+  fine_at : (table : BasinTable) → IsListed table → (k : ℕ) (members : Members) →
+      slice_get (rows_in tree table) k ≡ Some members → IsFine tree table k members
   fine_at table is_listed k members there =
-      subst (λ (n : ℕ). IsFine tree table n members) (zero-add k) (from_at (IsFine tree table) 0 (rows_in tree table) k members there (fine table is_listed))
+      subst (λ (n : ℕ). IsFine tree table n members) (zero-add k)
+      (from_at (IsFine tree table) 0 (rows_in tree table) k members there (fine table is_listed))
 
   length_texts : (table : BasinTable) → IsListed table → length (texts_in tree table) ≡ length (rows_in tree table)
-  length_texts table is_listed = rw (texts_in-rows tree none table is_listed) (length-map (rows_in tree table) (text_at (own_key table)))
+  length_texts table is_listed =
+      rw (texts_in-rows tree none table is_listed) (length-map (rows_in tree table) (text_at (own_key table)))
 
   few_nodes : length (rows_in tree Node) ≤ 2000
   few_nodes =
       let h : 0 + 0 + length (rows_in tree Node) ≤ 2000 = few_by 2000 0 0 (rows_in tree Node)
-      (from_then (IsFine tree Node) (λ k members. nat_lt 2000 (0 + (k + 1)) ≡ false) 0 (rows_in tree Node) (λ k members fine. rw zero-add fine.few) (fine Node tt)) (omega arith) in
+      (from_then (IsFine tree Node) (λ k members. nat_lt 2000 (0 + (k + 1)) ≡ false) 0 (rows_in tree Node)
+      (λ k members fine. rw zero-add fine.few) (fine Node tt)) (omega arith) in
       omega arith
 
   few_links : length (rows_in tree Link) ≤ 4000
   few_links =
       let h : 0 + 0 + length (rows_in tree Link) ≤ 4000 = few_by 4000 0 0 (rows_in tree Link)
-      (from_then (IsFine tree Link) (λ k members. nat_lt 4000 (0 + (k + 1)) ≡ false) 0 (rows_in tree Link) (λ k members fine. rw zero-add fine.few) (fine Link tt)) (omega arith) in
+      (from_then (IsFine tree Link) (λ k members. nat_lt 4000 (0 + (k + 1)) ≡ false) 0 (rows_in tree Link)
+      (λ k members fine. rw zero-add fine.few) (fine Link tt)) (omega arith) in
       omega arith
 
   few_diversions : 0 + 0 + length (rows_in tree Diversion) ≤ 2000
   few_diversions = few_by 2000 0 0 (rows_in tree Diversion)
-      (from_then (IsFine tree Diversion) (λ k members. nat_lt 2000 (0 + (k + 1)) ≡ false) 0 (rows_in tree Diversion) (λ k members fine. fine.few) (fine Diversion tt)) (omega arith)
+      (from_then (IsFine tree Diversion) (λ k members. nat_lt 2000 (0 + (k + 1)) ≡ false) 0 (rows_in tree Diversion)
+      (λ k members fine. fine.few) (fine Diversion tt)) (omega arith)
 
   few_instreams : rights_before tree Instream + 0 + length (rows_in tree Instream) ≤ 2000
   few_instreams =
       let count = length-rows_in tree none Diversion tt in
       let low = few_diversions in
       few_by 2000 (rights_before tree Instream) 0 (rows_in tree Instream)
-      (from_then (IsFine tree Instream) (λ k members. nat_lt 2000 (rights_before tree Instream + (k + 1)) ≡ false) 0 (rows_in tree Instream) (λ k members fine. fine.few) (fine Instream tt)) (omega arith)
+      (from_then (IsFine tree Instream) (λ k members. nat_lt 2000 (rights_before tree Instream + (k + 1)) ≡ false) 0
+      (rows_in tree Instream) (λ k members fine. fine.few) (fine Instream tt)) (omega arith)
 
   few_zones : rights_before tree Zone + 0 + length (rows_in tree Zone) ≤ 2000
   few_zones =
       let count = length-rows_in tree none Instream tt in
       let low = few_instreams in
       few_by 2000 (rights_before tree Zone) 0 (rows_in tree Zone)
-      (from_then (IsFine tree Zone) (λ k members. nat_lt 2000 (rights_before tree Zone + (k + 1)) ≡ false) 0 (rows_in tree Zone) (λ k members fine. fine.few) (fine Zone tt)) (omega arith)
+      (from_then (IsFine tree Zone) (λ k members. nat_lt 2000 (rights_before tree Zone + (k + 1)) ≡ false) 0
+      (rows_in tree Zone) (λ k members fine. fine.few) (fine Zone tt)) (omega arith)
 
   few_rights : length (rights_of tree) ≤ 2000
   few_rights =
@@ -127,17 +153,22 @@ module _ (tree : Members) (none : HasNoFault tree) where
   some_node : 1 ≤ length (rows_in tree Node)
   some_node =
       let missing = bool_or (lacks_key Top tree) (has_no_nodes Top tree)
-      (bool_or (lacks_key Top tree || has_no_nodes Top tree) (shuts_no_canal Top tree) (top_passes (missing_key tree) tree none.missing)).0 in
+      (bool_or (lacks_key Top tree || has_no_nodes Top tree) (shuts_no_canal Top tree)
+      (top_passes (missing_key tree) tree none.missing)).0 in
       let node : KeyRow = record { name = codes "node"; is_required = true; kind = Tables; since = 1 } in
       rw (length-rows_in tree none Node tt)
       (some_items (format_of tree) (get_member (codes "node") tree)
-      (any_none (λ key. key.is_required && not (is_some (get_member key.name tree))) (keys_of Top) 3 node refl missing.0)
-      (any_none (λ key. option_map_or (λ d. not (has_kind (format_of tree) key.kind d)) (get_member key.name tree) false) (keys_of Top) 3 node refl (top_passes (wrong_kind tree) tree none.kinds))
+      (any_none (λ key. key.is_required && not (is_some (get_member key.name tree))) (keys_of Top) 3 node refl
+      missing.0)
+      (any_none
+      (λ key. option_map_or (λ d. not (has_kind (format_of tree) key.kind d)) (get_member key.name tree) false)
+      (keys_of Top) 3 node refl (top_passes (wrong_kind tree) tree none.kinds))
       missing.1)
 
   -- a text that should name an entry has a number below so many
   number : (table : BasinTable) (k : ℕ) (members : Members) (i : ℕ) (key : List ℕ) (space : Space) (n : ℕ) →
-      slice_get (keys_of table) i ≡ Some (record { name = key; is_required = true; kind = Refers space; since = 1 }) → IsFine tree table k members →
+      slice_get (keys_of table) i ≡ Some (record { name = key; is_required = true; kind = Refers space; since = 1 }) →
+      IsFine tree table k members →
       length (texts_of tree space) ≡ n → number_at tree space key members < n
   number table k members i key space n at fine len =
       let there = refers_there tree table k members i key space at fine in
@@ -153,16 +184,24 @@ module _ (tree : Members) (none : HasNoFault tree) where
   reservoir_texts : length (texts_of tree Reservoirs) ≡ length (basin_of tree).reservoirs
   reservoir_texts = length_texts Reservoir tt ∙ sym (length-map (rows_in tree Reservoir) (reservoir_of tree))
 
-  name_of_row : (table : BasinTable) (k : ℕ) (members : Members) → slice_get (keys_of table) 0 ≡ Some (record { name = codes "name"; is_required = true; kind = Name; since = 1 }) →
-      IsFine tree table k members → (text_at (codes "name") members ≡ Some (name_at (codes "name") members)) × IsTrue (is_name (name_at (codes "name") members))
+  name_of_row : (table : BasinTable) (k : ℕ) (members : Members) →
+      slice_get (keys_of table) 0 ≡ Some (record { name = codes "name"; is_required = true; kind = Name; since = 1 }) →
+      IsFine tree table k members → (text_at (codes "name") members ≡ Some (name_at (codes "name") members)) ×
+      IsTrue (is_name (name_at (codes "name") members))
   name_of_row table k members at fine =
       let there = name_there tree table k members 0 (codes "name") at fine in
       (own_name members there.0 there.1 there.2, rw (there.1) (rw (there.2) there.2))
 
   node_valid : (k : ℕ) (members : Members) → IsFine tree Node k members → IsValidNode (node_of members)
-  node_valid k members fine = record { name = (name_of_row Node k members refl fine).1; inflow = inflow_valid (get_member (codes "inflow") members) }
+  node_valid k members fine =
+      record {
+        name = (name_of_row Node k members refl fine).1;
+        inflow =
+            inflow_valid (get_member (codes "inflow") members);
+      }
 
-  link_valid : (k : ℕ) (members : Members) → IsFine tree Link k members → IsValidLink (basin_of tree) (link_of tree members)
+  link_valid : (k : ℕ) (members : Members) → IsFine tree Link k members →
+      IsValidLink (basin_of tree) (link_of tree members)
   link_valid k members fine = record {
     name = (name_of_row Link k members refl fine).1;
     ends = record {
@@ -174,7 +213,11 @@ module _ (tree : Members) (none : HasNoFault tree) where
 
   -- the node that a place spells is an outlet where the document says so
   outlet_at : (at : ℕ) → is_outlet (basin_of tree) at ≡ is_outlet_at tree at
-  outlet_at at = rw (slice_get-map node_of (rows_in tree Node) at, ← get_item-rows at (items_at tree Node) (all_tables tree none Node tt)) (by (get_item at (items_at tree Node)))
+  outlet_at at =
+      rw (
+        slice_get-map node_of (rows_in tree Node) at,
+        ← get_item-rows at (items_at tree Node) (all_tables tree none Node tt),
+      ) (by (get_item at (items_at tree Node)))
     where
       truth : (o : Option Bool) → unwrap_or o false ≡ option_map_or (λ outlet. outlet) o false
       truth None = refl
@@ -185,7 +228,8 @@ module _ (tree : Members) (none : HasNoFault tree) where
       row_truth (toml.table members) = truth (option_and_then as_bool (get_member (codes "outlet") members))
       row_truth _ = refl
 
-      by : (o : Option Data) → unwrap_or (option_map (λ n. n.outlet) (option_map node_of (option_and_then as_table o))) false
+      by : (o : Option Data) →
+          unwrap_or (option_map (λ n. n.outlet) (option_map node_of (option_and_then as_table o))) false
           ≡ option_map_or (λ outlet. outlet) (option_and_then as_bool (option_and_then (get (codes "outlet")) o)) false
       by None = refl
       by (Some d) = row_truth d
@@ -193,7 +237,8 @@ module _ (tree : Members) (none : HasNoFault tree) where
   few_node_texts : length (texts_of tree Nodes) ≤ 4000
   few_node_texts = let same = length_texts Node tt in let few = few_nodes in omega arith
 
-  reservoir_sound : (k : ℕ) (members : Members) → IsFine tree Reservoir k members → IsSoundReservoir (basin_of tree) (reservoir_of tree members)
+  reservoir_sound : (k : ℕ) (members : Members) → IsFine tree Reservoir k members →
+      IsSoundReservoir (basin_of tree) (reservoir_of tree members)
   reservoir_sound k members fine = record {
     node = number Reservoir k members 0 (codes "node") Nodes _ refl fine node_texts;
     inner =
@@ -209,17 +254,20 @@ module _ (tree : Members) (none : HasNoFault tree) where
   order_most : (members : Members) → whole_at (codes "order") 0 1000000 0 members ≤ 1000000
   order_most members = (whole_in 0 1000000 0 (get_member (codes "order") members) (omega arith) (omega arith)).1
 
-  diversion_valid : (k : ℕ) (members : Members) → IsFine tree Diversion k members → IsValidRight (basin_of tree) (diversion_of tree members)
+  diversion_valid : (k : ℕ) (members : Members) → IsFine tree Diversion k members →
+      IsValidRight (basin_of tree) (diversion_of tree members)
   diversion_valid k members fine = record {
     name = (name_of_row Diversion k members refl fine).1;
     order = order_most members;
     place = number Diversion k members 1 (codes "node") Nodes _ refl fine node_texts;
     want = monthly_in (10 ^ 9) (get_member (codes "want") members);
-    volume = volume_valid (kind.Diversion (number_at tree Nodes (codes "node") members)) refl (get_member (codes "volume") members);
+    volume = volume_valid (kind.Diversion (number_at tree Nodes (codes "node") members)) refl
+        (get_member (codes "volume") members);
     series = series_wants (get_member (codes "want") members);
   }
 
-  instream_valid : (k : ℕ) (members : Members) → IsFine tree Instream k members → IsValidRight (basin_of tree) (instream_of tree members)
+  instream_valid : (k : ℕ) (members : Members) → IsFine tree Instream k members →
+      IsValidRight (basin_of tree) (instream_of tree members)
   instream_valid k members fine = record {
     name = (name_of_row Instream k members refl fine).1;
     order = order_most members;
@@ -229,7 +277,8 @@ module _ (tree : Members) (none : HasNoFault tree) where
     series = series_wants (get_member (codes "want") members);
   }
 
-  zone_valid : (k : ℕ) (members : Members) → IsFine tree Zone k members → IsValidRight (basin_of tree) (zone_of tree members)
+  zone_valid : (k : ℕ) (members : Members) → IsFine tree Zone k members →
+      IsValidRight (basin_of tree) (zone_of tree members)
   zone_valid k members fine = record {
     name = (name_of_row Zone k members refl fine).1;
     order = order_most members;
@@ -241,10 +290,13 @@ module _ (tree : Members) (none : HasNoFault tree) where
     series = series_wants (get_member (codes "want") members);
   }
 
-  own_diversion : (k : ℕ) (members : Members) → IsFine tree Return k members → number_at tree Diversions (codes "diversion") members < length (rows_in tree Diversion)
-  own_diversion k members fine = number Return k members 0 (codes "diversion") Diversions _ refl fine (length_texts Diversion tt)
+  own_diversion : (k : ℕ) (members : Members) → IsFine tree Return k members →
+      number_at tree Diversions (codes "diversion") members < length (rows_in tree Diversion)
+  own_diversion k members fine =
+      number Return k members 0 (codes "diversion") Diversions _ refl fine (length_texts Diversion tt)
 
-  return_valid : (k : ℕ) (members : Members) → IsFine tree Return k members → IsValidReturn (basin_of tree) (return_of tree members)
+  return_valid : (k : ℕ) (members : Members) → IsFine tree Return k members →
+      IsValidReturn (basin_of tree) (return_of tree members)
   return_valid k members fine = record {
     right =
         (let own = own_diversion k members fine in
@@ -261,21 +313,26 @@ module _ (tree : Members) (none : HasNoFault tree) where
 
   -- a members's diversion is the one that its text names
   right_is : (k : ℕ) (members : Members) → IsFine tree Return k members →
-      (q : List ℕ) × (text_at (codes "diversion") members ≡ Some q) × (named_at tree Diversions q ≡ Some (return_of tree members).right)
+      (q : List ℕ) × (text_at (codes "diversion") members ≡ Some q) ×
+      (named_at tree Diversions q ≡ Some (return_of tree members).right)
   right_is k members fine =
       let there = refers_there tree Return k members 0 (codes "diversion") Diversions refl fine in
-      let same = number_is tree Diversions (codes "diversion") members there.0 there.1 there.2 there.3 few_diversion_texts in
+      let same =
+      number_is tree Diversions (codes "diversion") members there.0 there.1 there.2 there.3 few_diversion_texts in
       (there.0, there.2, rw same there.3)
 
   abbrev is_row_of : ℕ → ReturnRow → Bool
   is_row_of right row = row.right == right
 
-  texts_of_rows : texts_behind (codes "diversion") (items_at tree Return) ≡ map (text_at (codes "diversion")) (rows_in tree Return)
+  texts_of_rows : texts_behind (codes "diversion") (items_at tree Return) ≡ map (text_at (codes "diversion"))
+      (rows_in tree Return)
   texts_of_rows = texts_behind-rows (codes "diversion") (items_at tree Return) (all_tables tree none Return tt)
 
   -- fewer than 8 rows stand before a members with its text
-  few_like : (k : ℕ) (members : Members) (q : List ℕ) → IsFine tree Return k members → slice_get (rows_in tree Return) k ≡ Some members →
-      text_at (codes "diversion") members ≡ Some q → count_by (is_the_text q) (take k (map (text_at (codes "diversion")) (rows_in tree Return))) < 8
+  few_like : (k : ℕ) (members : Members) (q : List ℕ) → IsFine tree Return k members →
+      slice_get (rows_in tree Return) k ≡ Some members →
+      text_at (codes "diversion") members ≡ Some q →
+      count_by (is_the_text q) (take k (map (text_at (codes "diversion")) (rows_in tree Return))) < 8
   few_like k members q fine there text = by (k + 1 - 1) (omega arith) fine.few
     where
       few : (n : ℕ) → nat_le 8 n ≡ false → n < 8
@@ -287,30 +344,41 @@ module _ (tree : Members) (none : HasNoFault tree) where
       text_there : slice_get texts k ≡ Some (Some q)
       text_there = rw (slice_get-map (text_at (codes "diversion")) (rows_in tree Return) k) (rw there (rw text refl))
 
-      by : (n : ℕ) → n ≡ k → nat_le 8 (earlier_like (texts_behind (codes "diversion") (items_at tree Return)) n) ≡ false → count_by (is_the_text q) (take k texts) < 8
+      by : (n : ℕ) → n ≡ k →
+          nat_le 8 (earlier_like (texts_behind (codes "diversion") (items_at tree Return)) n) ≡ false →
+          count_by (is_the_text q) (take k texts) < 8
       by n same e = few (count_by (is_the_text q) (take k texts)) (rw (same, texts_of_rows, text_there) at e)
 
   -- fewer than 8 rows of its diversion stand before a members
-  few_before : (right k : ℕ) (entry : ReturnRow) → slice_get (map (return_of tree) (rows_in tree Return)) k ≡ Some entry → is_row_of right entry ≡ true →
+  few_before : (right k : ℕ) (entry : ReturnRow) →
+      slice_get (map (return_of tree) (rows_in tree Return)) k ≡ Some entry → is_row_of right entry ≡ true →
       0 + count_by (is_row_of right) (take k (map (return_of tree) (rows_in tree Return))) < 8
   few_before right k entry there is_row =
       let len = length-map (rows_in tree Return) (return_of tree) in
-      let members = entry_at (rows_in tree Return) k (let h = slice_get_within (map (return_of tree) (rows_in tree Return)) k entry there in omega arith) in
+      let members =
+      entry_at (rows_in tree Return) k (let h =
+      slice_get_within (map (return_of tree) (rows_in tree Return)) k entry there in omega arith) in
       let fine = fine_at Return tt k members.0 members.1 in
       let text = right_is k members.0 fine in
-      let spelled : Some (return_of tree members.0) ≡ Some entry = (rw (slice_get-map (return_of tree) (rows_in tree Return) k, members.1) at there) in
-      let its : (return_of tree members.0).right ≡ right = eq_means (return_of tree members.0).right right (let same : return_of tree members.0 ≡ entry = cc in subst (λ (r : ReturnRow). is_row_of right r ≡ true) (sym same) is_row) in
+      let spelled : Some (return_of tree members.0) ≡ Some entry =
+      (rw (slice_get-map (return_of tree) (rows_in tree Return) k, members.1) at there) in
+      let its : (return_of tree members.0).right ≡ right =
+      eq_means (return_of tree members.0).right right (let same : return_of tree members.0 ≡ entry = cc in
+      subst (λ (r : ReturnRow). is_row_of right r ≡ true) (sym same) is_row) in
       let within : count_by (is_row_of right) (take k (map (return_of tree) (rows_in tree Return)))
       ≤ count_by (is_the_text text.0) (take k (map (text_at (codes "diversion")) (rows_in tree Return))) =
-      counts_within (return_of tree) (text_at (codes "diversion")) (is_row_of right) (is_the_text text.0) k (rows_in tree Return)
-      (each_from (IsFine tree Return) _ 0 (rows_in tree Return) (λ j other fine_other. alike j other fine_other text.0 (rw its at text.2)) (module_fine)) in
+      counts_within (return_of tree) (text_at (codes "diversion")) (is_row_of right) (is_the_text text.0) k
+      (rows_in tree Return)
+      (each_from (IsFine tree Return) _ 0 (rows_in tree Return)
+      (λ j other fine_other. alike j other fine_other text.0 (rw its at text.2)) (module_fine)) in
       let few = few_like k members.0 text.0 fine members.1 text.1 in
       omega arith
     where
       module_fine : EachFrom (IsFine tree Return) 0 (rows_in tree Return)
       module_fine = fine Return tt
 
-      alike : (j : ℕ) (other : Members) → IsFine tree Return j other → (q : List ℕ) → named_at tree Diversions q ≡ Some right →
+      alike : (j : ℕ) (other : Members) → IsFine tree Return j other → (q : List ℕ) →
+          named_at tree Diversions q ≡ Some right →
           is_row_of right (return_of tree other) ≡ true → is_the_text q (text_at (codes "diversion") other) ≡ true
       alike j other fine_other q named is_row =
           let text = right_is j other fine_other in
@@ -324,56 +392,67 @@ module _ (tree : Members) (none : HasNoFault tree) where
       few_pass (is_row_of right) 8 0 (map (return_of tree) (rows_in tree Return)) (few_before right) (omega arith) in
       rw (count_where-entries (is_row_of right) (map (return_of tree) (rows_in tree Return))) (omega arith)
 
-  nodes_own : (i j : ℕ) → i < j → j < length (basin_of tree).nodes → node_name (basin_of tree) i ≢ node_name (basin_of tree) j
+  nodes_own : (i j : ℕ) → i < j → j < length (basin_of tree).nodes →
+      node_name (basin_of tree) i ≢ node_name (basin_of tree) j
   nodes_own =
       own_names (λ n. n.name) (map node_of (rows_in tree Node)) (texts_of tree Nodes)
       (names_of_rows node_of (λ n. n.name) (codes "name") (rows_in tree Node)
-      (each_from (IsFine tree Node) _ 0 (rows_in tree Node) (λ k members fine. (name_of_row Node k members refl fine).0) (fine Node tt))
+      (each_from (IsFine tree Node) _ 0 (rows_in tree Node) (λ k members fine. (name_of_row Node k members refl fine).0)
+      (fine Node tt))
       ∙ sym (texts_in-rows tree none Node tt))
       (table_own tree none Node tt Nodes refl)
 
-  links_own : (i j : ℕ) → i < j → j < length (basin_of tree).links → link_name (basin_of tree) i ≢ link_name (basin_of tree) j
+  links_own : (i j : ℕ) → i < j → j < length (basin_of tree).links →
+      link_name (basin_of tree) i ≢ link_name (basin_of tree) j
   links_own =
       own_names (λ l. l.name) (map (link_of tree) (rows_in tree Link)) (texts_of tree Links)
       (names_of_rows (link_of tree) (λ l. l.name) (codes "name") (rows_in tree Link)
-      (each_from (IsFine tree Link) _ 0 (rows_in tree Link) (λ k members fine. (name_of_row Link k members refl fine).0) (fine Link tt))
+      (each_from (IsFine tree Link) _ 0 (rows_in tree Link) (λ k members fine. (name_of_row Link k members refl fine).0)
+      (fine Link tt))
       ∙ sym (texts_in-rows tree none Link tt))
       (table_own tree none Link tt Links refl)
 
   rights_named : map (λ r. Some r.name) (rights_of tree) ≡ texts_of tree Rights
   rights_named =
-      rw (map-append (λ (r : Right). Some r.name), map-append (λ (r : Right). Some r.name)) (joined diversions instreams zones)
+      rw (map-append (λ (r : Right). Some r.name), map-append (λ (r : Right). Some r.name))
+      (joined diversions instreams zones)
     where
       joined : {a b c d e f : List (Option (List ℕ))} → a ≡ d → b ≡ e → c ≡ f → a ++ b ++ c ≡ d ++ e ++ f
       joined p q r = cc
 
       diversions : map (λ r. Some r.name) (map (diversion_of tree) (rows_in tree Diversion)) ≡ texts_in tree Diversion
       diversions = names_of_rows (diversion_of tree) (λ r. r.name) (codes "name") (rows_in tree Diversion)
-          (each_from (IsFine tree Diversion) _ 0 (rows_in tree Diversion) (λ k members fine. (name_of_row Diversion k members refl fine).0) (fine Diversion tt))
+          (each_from (IsFine tree Diversion) _ 0 (rows_in tree Diversion)
+          (λ k members fine. (name_of_row Diversion k members refl fine).0) (fine Diversion tt))
           ∙ sym (texts_in-rows tree none Diversion tt)
 
       instreams : map (λ r. Some r.name) (map (instream_of tree) (rows_in tree Instream)) ≡ texts_in tree Instream
       instreams = names_of_rows (instream_of tree) (λ r. r.name) (codes "name") (rows_in tree Instream)
-          (each_from (IsFine tree Instream) _ 0 (rows_in tree Instream) (λ k members fine. (name_of_row Instream k members refl fine).0) (fine Instream tt))
+          (each_from (IsFine tree Instream) _ 0 (rows_in tree Instream)
+          (λ k members fine. (name_of_row Instream k members refl fine).0) (fine Instream tt))
           ∙ sym (texts_in-rows tree none Instream tt)
 
       zones : map (λ r. Some r.name) (map (zone_of tree) (rows_in tree Zone)) ≡ texts_in tree Zone
       zones = names_of_rows (zone_of tree) (λ r. r.name) (codes "name") (rows_in tree Zone)
-          (each_from (IsFine tree Zone) _ 0 (rows_in tree Zone) (λ k members fine. (name_of_row Zone k members refl fine).0) (fine Zone tt))
+          (each_from (IsFine tree Zone) _ 0 (rows_in tree Zone)
+          (λ k members fine. (name_of_row Zone k members refl fine).0) (fine Zone tt))
           ∙ sym (texts_in-rows tree none Zone tt)
 
-  own_rights : (i j : ℕ) → i < j → j < length (basin_of tree).rights → right_name (basin_of tree) i ≢ right_name (basin_of tree) j
+  own_rights : (i j : ℕ) → i < j → j < length (basin_of tree).rights →
+      right_name (basin_of tree) i ≢ right_name (basin_of tree) j
   own_rights = own_names (λ r. r.name) (rights_of tree) (texts_of tree Rights) rights_named (rights_own tree none)
 
   -- a reservoir's node is the one that its text names
   node_is : (k : ℕ) (members : Members) → IsFine tree Reservoir k members →
-      (q : List ℕ) × (text_at (codes "node") members ≡ Some q) × (named_at tree Nodes q ≡ Some (reservoir_of tree members).node)
+      (q : List ℕ) × (text_at (codes "node") members ≡ Some q) ×
+      (named_at tree Nodes q ≡ Some (reservoir_of tree members).node)
   node_is k members fine =
       let there = refers_there tree Reservoir k members 0 (codes "node") Nodes refl fine in
       let same = number_is tree Nodes (codes "node") members there.0 there.1 there.2 there.3 few_node_texts in
       (there.0, there.2, rw same there.3)
 
-  reservoirs_own : (i j : ℕ) → i < j → j < length (basin_of tree).reservoirs → node_of_reservoir (basin_of tree) i ≢ node_of_reservoir (basin_of tree) j
+  reservoirs_own : (i j : ℕ) → i < j → j < length (basin_of tree).reservoirs →
+      node_of_reservoir (basin_of tree) i ≢ node_of_reservoir (basin_of tree) j
   reservoirs_own i j before within equal =
       let len = length-map (rows_in tree Reservoir) (reservoir_of tree) in
       let one = entry_at (rows_in tree Reservoir) i (omega arith) in
@@ -381,29 +460,43 @@ module _ (tree : Members) (none : HasNoFault tree) where
       let text = node_is i one.0 (fine_at Reservoir tt i one.0 one.1) in
       let text2 = node_is j other.0 (fine_at Reservoir tt j other.0 other.1) in
       let nodes : Some (reservoir_of tree one.0).node ≡ Some (reservoir_of tree other.0).node =
-      (rw (slice_get-map (reservoir_of tree) (rows_in tree Reservoir) i, slice_get-map (reservoir_of tree) (rows_in tree Reservoir) j, one.1, other.1) at equal) in
-      let same : text.0 ≡ text2.0 = same_text tree Nodes text.0 text2.0 (reservoir_of tree one.0).node text.2 (text2.2 ∙ sym nodes) in
+      (rw (
+        slice_get-map (reservoir_of tree) (rows_in tree Reservoir) i,
+        slice_get-map (reservoir_of tree) (rows_in tree Reservoir) j,
+        one.1,
+        other.1,
+      ) at equal) in
+      let same : text.0 ≡ text2.0 =
+      same_text tree Nodes text.0 text2.0 (reservoir_of tree one.0).node text.2 (text2.2 ∙ sym nodes) in
       own_texts (texts_of tree Reservoirs) (table_own tree none Reservoir tt Reservoirs refl) i j text.0 before
       (place i one.0 text.0 one.1 text.1) (rw same (place j other.0 text2.0 other.1 text2.1))
     where
-      place : (k : ℕ) (members : Members) (q : List ℕ) → slice_get (rows_in tree Reservoir) k ≡ Some members → text_at (codes "node") members ≡ Some q →
+      place : (k : ℕ) (members : Members) (q : List ℕ) → slice_get (rows_in tree Reservoir) k ≡ Some members →
+          text_at (codes "node") members ≡ Some q →
           slice_get (texts_of tree Reservoirs) k ≡ Some (Some q)
       place k members q there text =
-          rw (texts_in-rows tree none Reservoir tt) (rw (slice_get-map (text_at (codes "node")) (rows_in tree Reservoir) k) (rw there (rw text refl)))
+          rw (texts_in-rows tree none Reservoir tt)
+          (rw (slice_get-map (text_at (codes "node")) (rows_in tree Reservoir) k) (rw there (rw text refl)))
 
   each_valid : {X : Type 0} (P : X → Type 0) (table : BasinTable) → IsListed table → (spells : Members → X) →
-      ((k : ℕ) (members : Members) → IsFine tree table k members → P (spells members)) → Each P (map spells (rows_in tree table))
+      ((k : ℕ) (members : Members) → IsFine tree table k members → P (spells members)) →
+      Each P (map spells (rows_in tree table))
   each_valid P table is_listed spells valid =
-      each_map P spells (rows_in tree table) (each_from (IsFine tree table) (λ members. P (spells members)) 0 (rows_in tree table) valid (fine table is_listed))
+      each_map P spells (rows_in tree table)
+      (each_from (IsFine tree table) (λ members. P (spells members)) 0 (rows_in tree table) valid
+      (fine table is_listed))
 
   run_valid : IsValidRun (basin_of tree)
   run_valid =
       let months = whole_in 1 1200 1 (get_member (codes "months") tree) (omega arith) (omega arith) in
-      let late = bool_or (any_value (λ kind d. not (in_range kind d)) Top tree) (ends_late tree) (top_passes (out_of_range tree) tree none.ranges) in
+      let late =
+      bool_or (any_value (λ kind d. not (in_range kind d)) Top tree) (ends_late tree)
+      (top_passes (out_of_range tree) tree none.ranges) in
       record {
         first = first_valid (text_or_empty (codes "first_month") tree);
         months = months;
-        ends = run_ends (text_or_empty (codes "first_month") tree) (whole_at (codes "months") 1 1200 1 tree) months.0 months.1 late.1;
+        ends = run_ends (text_or_empty (codes "first_month") tree) (whole_at (codes "months") 1 1200 1 tree) months.0
+            months.1 late.1;
       }
 
   few_entries : HasFewEntries (basin_of tree)
@@ -457,7 +550,8 @@ module _ (tree : Members) (none : HasNoFault tree) where
       (absent 1 Link (codes "closed") members (rw first at fine.keys) refl))
 
   -- and no right has its wants in the series
-  plain_wants : (table : BasinTable) (k : ℕ) (members : Members) (i : ℕ) → slice_get (keys_of table) i ≡ Some (record { name = codes "want"; is_required = true; kind = Want; since = 1 }) →
+  plain_wants : (table : BasinTable) (k : ℕ) (members : Members) (i : ℕ) →
+      slice_get (keys_of table) i ≡ Some (record { name = codes "want"; is_required = true; kind = Want; since = 1 }) →
       format_of tree ≡ 1 → IsFine tree table k members → is_series (get_member (codes "want") members) ≡ false
   plain_wants table k members i at first fine =
       let d = there_at tree table k members i _ at refl fine in
@@ -467,9 +561,12 @@ module _ (tree : Members) (none : HasNoFault tree) where
   no_series first =
       each_append (λ r. r.series ≡ false) _ _
       (each_append (λ r. r.series ≡ false) _ _
-      (each_valid (λ r. r.series ≡ false) Diversion tt (diversion_of tree) (λ k members fine. plain_wants Diversion k members 3 refl first fine))
-      (each_valid (λ r. r.series ≡ false) Instream tt (instream_of tree) (λ k members fine. plain_wants Instream k members 3 refl first fine)))
-      (each_valid (λ r. r.series ≡ false) Zone tt (zone_of tree) (λ k members fine. plain_wants Zone k members 4 refl first fine))
+      (each_valid (λ r. r.series ≡ false) Diversion tt (diversion_of tree)
+      (λ k members fine. plain_wants Diversion k members 3 refl first fine))
+      (each_valid (λ r. r.series ≡ false) Instream tt (instream_of tree)
+      (λ k members fine. plain_wants Instream k members 3 refl first fine)))
+      (each_valid (λ r. r.series ≡ false) Zone tt (zone_of tree)
+      (λ k members fine. plain_wants Zone k members 4 refl first fine))
 
   format_valid : HasValidFormat (basin_of tree)
   format_valid = record {
@@ -490,9 +587,13 @@ module _ (tree : Members) (none : HasNoFault tree) where
     few = few_entries;
     nodes = each_all _ _ (each_valid IsValidNode Node tt node_of node_valid);
     links = each_all _ _ (each_valid (λ l. IsValidLink (basin_of tree) l) Link tt (link_of tree) link_valid);
-    reservoirs = each_all _ _ (each_valid (λ v. IsSoundReservoir (basin_of tree) v) Reservoir tt (reservoir_of tree) reservoir_sound);
+    reservoirs =
+        each_all _ _
+        (each_valid (λ v. IsSoundReservoir (basin_of tree) v) Reservoir tt (reservoir_of tree) reservoir_sound);
     rights = each_all _ _ rights_valid;
     ranked = ranked;
-    returns = each_all _ _ (each_valid (λ members. IsValidReturn (basin_of tree) members) Return tt (return_of tree) return_valid);
+    returns =
+        each_all _ _
+        (each_valid (λ members. IsValidReturn (basin_of tree) members) Return tt (return_of tree) return_valid);
     names = names_own;
   }

@@ -1,5 +1,6 @@
 -- The faults of a basin's network, rights and area tables, and the first fault of a file.
-use Rattle.std.specs.Prelude.{◌≡◌, ℕ, ◌+◌, take, count_by, List, [], ◌∷◌, Bool, true, false, Option, Some, None, option_and_then, ⊤}
+use Rattle.std.specs.Prelude.{◌≡◌, ℕ, ◌+◌, take, count_by, List, [], ◌∷◌, Bool, true, false, Option, Some, None}
+use Rattle.std.specs.Prelude.{option_and_then, ⊤}
 use Rattle.std.specs.Option.{option_or}
 use Rattle.toml.specs.Data.{Members}
 use Rattle.toml_tree.specs.Document.{document_of}
@@ -95,7 +96,8 @@ file_fault bytes = document_fault (document_of bytes)
 -- a refusal names the first fault, or says that memory ran out
 abbrev pub IsRefusalOf : Option Finding → BasinRefused → Type 0
 IsRefusalOf first refused.OutOfMemory = ⊤
-IsRefusalOf first (refused.Refused fault table entry) = first ≡ Some (record { fault = fault; table = table; entry = entry })
+IsRefusalOf first (refused.Refused fault table entry) =
+    first ≡ Some (record { fault = fault; table = table; entry = entry })
 
 abbrev pub IsFileRefusal : BasinRefused → List ℕ → Type 0
 IsFileRefusal e bytes = IsRefusalOf (file_fault bytes) e

@@ -1,7 +1,8 @@
 -- What a basin keeps by its document alone, before its network, its rights and its area tables are looked at.
 use Rattle.std.specs.Prelude.{◌≡◌, ◌<◌, ◌≤◌, length, All, false}
 use Rattle.water_model.specs.Basin.{is_outlet}
-use Rattle.water_model.specs.Valid.{IsMonthly, IsValidPoint, HasValidFormat, IsValidRun, HasFewEntries, IsValidNode, IsValidLink, IsValidRight, AreRanked, IsValidReturn, HasOwnNames}
+use Rattle.water_model.specs.Valid.{IsMonthly, IsValidPoint, HasValidFormat, IsValidRun, HasFewEntries, IsValidNode}
+use Rattle.water_model.specs.Valid.{IsValidLink, IsValidRight, AreRanked, IsValidReturn, HasOwnNames}
 use Rattle.water_model.specs.declared.types.Basin.{Basin}
 use Rattle.water_model.specs.declared.types.Reservoir.{Reservoir}
 

@@ -1,8 +1,11 @@
 -- The basin that a document spells. What can't be there in a document without a fault has a default.
-use Rattle.std.specs.Prelude.{ℕ, ◌^◌, ◌*◌, is_some, ◌||◌, ◌==◌, ◌+◌, nat_lt, List, [], ◌∷◌, ◌++◌, map, Bool, false, Option, Some, None, if◌then◌else◌, option_map, option_and_then, option_to_list, unwrap_or, codes}
+use Rattle.std.specs.Prelude.{ℕ, ◌^◌, ◌*◌, is_some, ◌||◌, ◌==◌, ◌+◌, nat_lt, List, [], ◌∷◌, ◌++◌, map, Bool, false}
+use Rattle.std.specs.Prelude.{Option, Some, None, if◌then◌else◌, option_map, option_and_then, option_to_list, unwrap_or}
+use Rattle.std.specs.Prelude.{codes}
 use Rattle.std.specs.List.{range_with_len}
 use Rattle.std.specs.Option.{option_map_or}
-use Rattle.toml.specs.Data.{Data, Items, no_items, item, get_item, Members, get_member, as_bool, as_str, as_array, as_table}
+use Rattle.toml.specs.Data.{Data, Items, no_items, item, get_item, Members, get_member, as_bool, as_str, as_array}
+use Rattle.toml.specs.Data.{as_table}
 use Rattle.toml_tree.specs.Values.{whole_of, whole_at, monthly_of, text_or_empty}
 use Rattle.water_text.specs.Days.{read_day}
 use Rattle.water_text.specs.Months.{read_month}
@@ -26,7 +29,8 @@ use Rattle.basin_tree.specs.Entries.{items_at}
 use Rattle.basin_tree.specs.KeyFaults.{format_of}
 use Rattle.basin_tree.specs.Places.{named_at}
 use Rattle.basin_tree.specs.declared.tables.BasinTable.{BasinTable}
-use Rattle.basin_tree.specs.declared.tables.BasinTable.TheVariants.{Node, Link, Reservoir, Diversion, Instream, Zone, Return}
+use Rattle.basin_tree.specs.declared.tables.BasinTable.TheVariants.{Node, Link, Reservoir, Diversion, Instream, Zone}
+use Rattle.basin_tree.specs.declared.tables.BasinTable.TheVariants.{Return}
 use Rattle.basin_tree.specs.declared.tables.Space.{Space}
 use Rattle.basin_tree.specs.declared.tables.Space.TheVariants.{Nodes, Links, Reservoirs, Diversions}
 
@@ -144,14 +148,16 @@ right_of kind volume row = record {
 
 abbrev pub diversion_of : Members → Members → Right
 diversion_of tree row =
-    right_of (kind.Diversion (number_at tree Nodes (codes "node") row)) (volume_of (get_member (codes "volume") row)) row
+    right_of (kind.Diversion (number_at tree Nodes (codes "node") row)) (volume_of (get_member (codes "volume") row))
+    row
 
 abbrev pub instream_of : Members → Members → Right
 instream_of tree row = right_of (kind.Instream (number_at tree Links (codes "link") row)) None row
 
 abbrev pub zone_of : Members → Members → Right
 zone_of tree row =
-    right_of (kind.Zone (number_at tree Reservoirs (codes "reservoir") row) (whole_at (codes "level") 1 16 1 row)) None row
+    right_of (kind.Zone (number_at tree Reservoirs (codes "reservoir") row) (whole_at (codes "level") 1 16 1 row)) None
+    row
 
 -- diversions are the first rights, so the place of a diversion is that of its right
 abbrev pub return_of : Members → Members → ReturnRow

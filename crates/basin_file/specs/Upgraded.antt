@@ -1,8 +1,10 @@
 -- The table of format 2 that stands for a basin: every key with its value.
-use Rattle.std.specs.Prelude.{ℕ, ◌+◌, ◌/◌, ◌%◌, List, [], ◌∷◌, ◌++◌, codes, map, filter, Bool, pos, Option, Some, None, option_map, if◌then◌else◌}
+use Rattle.std.specs.Prelude.{ℕ, ◌+◌, ◌/◌, ◌%◌, List, [], ◌∷◌, ◌++◌, codes, map, filter, Bool, pos, Option, Some, None}
+use Rattle.std.specs.Prelude.{option_map, if◌then◌else◌}
 use Rattle.std.specs.Cmp.Lexicographic.{slice_cmp}
 use Rattle.std.specs.Ordering.{nat_cmp, match_ordering}
-use Rattle.toml.specs.Data.{Data, string, integer, boolean, array, table, Items, no_items, item, Members, no_members, member}
+use Rattle.toml.specs.Data.{Data, string, integer, boolean, array, table, Items, no_items, item, Members, no_members}
+use Rattle.toml.specs.Data.{member}
 use Rattle.toml.specs.View.{items_of}
 use Rattle.water_text.specs.declared.day.Day.{Day}
 use Rattle.water_text.specs.Months.{month_digits}
@@ -28,7 +30,8 @@ use Rattle.basin_file.specs.BasinFaults.{is_in_table}
 abbrev pub with_member : List ℕ → Data → Members → Members
 with_member key d no_members = member key d no_members
 with_member key d (member other e rest) =
-    match_ordering (slice_cmp nat_cmp key other) (member key d (member other e rest)) (member other d rest) (member other e (with_member key d rest))
+    match_ordering (slice_cmp nat_cmp key other) (member key d (member other e rest)) (member other d rest)
+    (member other e (with_member key d rest))
 
 -- the same where there is a value
 abbrev pub with_option : List ℕ → Option Data → Members → Members
@@ -59,7 +62,8 @@ inflow_data Gauged = string (codes "gauged")
 
 abbrev pub node_row : node.Node → Members
 node_row n =
-    member (codes "inflow") (inflow_data n.inflow) (member (codes "name") (string n.name) (member (codes "outlet") (boolean n.outlet) no_members))
+    member (codes "inflow") (inflow_data n.inflow)
+    (member (codes "name") (string n.name) (member (codes "outlet") (boolean n.outlet) no_members))
 
 -- the calendar months in which a canal is shut, in rising order, where the list begins with this month
 abbrev pub shut_months : ℕ → List Bool → List ℕ
@@ -83,7 +87,8 @@ per_day_data (Canal per_day shut) = Some (number per_day)
 
 abbrev pub link_row : Basin → link.Link → Members
 link_row b l =
-    with_some (codes "closed") (closed_data l.carry) (member (codes "from") (string (node_name b l.from)) (member (codes "name") (string l.name)
+    with_some (codes "closed") (closed_data l.carry)
+    (member (codes "from") (string (node_name b l.from)) (member (codes "name") (string l.name)
     (with_some (codes "per_day") (per_day_data l.carry) (member (codes "to") (string (node_name b l.to)) no_members))))
 
 abbrev pub point_data : AreaPoint → Data
@@ -92,7 +97,8 @@ point_data p = array (numbers (p.storage ∷ p.area ∷ []))
 -- a reservoir is named by its node
 abbrev pub reservoir_row : Basin → reservoir.Reservoir → Members
 reservoir_row b v =
-    member (codes "area") (array (items_of (map point_data v.area))) (member (codes "node") (string (node_name b v.node))
+    member (codes "area") (array (items_of (map point_data v.area)))
+    (member (codes "node") (string (node_name b v.node))
     (member (codes "opening") (number v.opening) (member (codes "rate") (array (numbers v.rate)) no_members)))
 
 abbrev pub want_data : Right → Data
@@ -100,13 +106,17 @@ want_data r = if r.series then string (codes "series") else array (numbers r.wan
 
 abbrev pub row_of_kind : Basin → Right → RightKind → Members
 row_of_kind b r (kind.Diversion node) =
-    member (codes "date") (string (day_text r.date)) (member (codes "name") (string r.name) (member (codes "node") (string (node_name b node))
-    (member (codes "order") (number r.order) (with_some (codes "volume") (option_map number r.volume) (member (codes "want") (want_data r) no_members)))))
+    member (codes "date") (string (day_text r.date))
+    (member (codes "name") (string r.name) (member (codes "node") (string (node_name b node))
+    (member (codes "order") (number r.order)
+    (with_some (codes "volume") (option_map number r.volume) (member (codes "want") (want_data r) no_members)))))
 row_of_kind b r (kind.Instream link) =
-    member (codes "date") (string (day_text r.date)) (member (codes "link") (string (link_name b link)) (member (codes "name") (string r.name)
+    member (codes "date") (string (day_text r.date))
+    (member (codes "link") (string (link_name b link)) (member (codes "name") (string r.name)
     (member (codes "order") (number r.order) (member (codes "want") (want_data r) no_members))))
 row_of_kind b r (kind.Zone reservoir level) =
-    member (codes "date") (string (day_text r.date)) (member (codes "level") (number level) (member (codes "name") (string r.name)
+    member (codes "date") (string (day_text r.date))
+    (member (codes "level") (number level) (member (codes "name") (string r.name)
     (member (codes "order") (number r.order) (member (codes "reservoir") (string (reservoir_name b reservoir))
     (member (codes "want") (want_data r) no_members)))))
 

@@ -3,7 +3,9 @@ ghost use Rattle.std.specs.Prelude.{◌≡◌, ◌++◌, [], map, unwrap_or, IfO
 ghost use Rattle.toml.specs.Data.{Members, get_member, as_array, no_items};
 ghost use Rattle.toml.specs.View.{view, table_view, items_view};
 ghost use Rattle.basin_tree.specs.Documents.{tree_of};
-ghost use Rattle.basin_file.specs.Spelled.{rows_behind, rows_in, point_in, points_in, no_area, area_of, node_of, link_of, reservoir_of, diversion_of, instream_of, zone_of, return_of, rights_of, basin_of};
+ghost use Rattle.basin_file.specs.Spelled.{rows_behind, rows_in, point_in, points_in, no_area, area_of, node_of};
+ghost use Rattle.basin_file.specs.Spelled.{link_of, reservoir_of, diversion_of, instream_of, zone_of, return_of};
+ghost use Rattle.basin_file.specs.Spelled.{rights_of, basin_of};
 
 use crate::parts::{
     diversion_of, first_of, instream_of, link_of, node_of, number_at, point_in, return_of, zone_of,
@@ -87,7 +89,8 @@ fn add_entries<E: Drop, R: EntryReader<E>>(
     values: &[Value],
 ) -> Result<(), AllocError>
     ensures { OnOk result
-        (into.new.items ≡ into.old.items ++ map (R.spells (tree_of document.now)) (rows_behind (items_view values.now))) }
+        (into.new.items ≡ into.old.items ++ map (R.spells (tree_of document.now))
+        (rows_behind (items_view values.now))) }
 {
     for value in values {
         if let Some(row) = value.as_table() {
@@ -105,7 +108,8 @@ fn add_table<E: Drop, R: EntryReader<E>>(
     table: BasinTable,
 ) -> Result<(), AllocError>
     ensures { OnOk result
-        (into.new.items ≡ into.old.items ++ map (R.spells (tree_of document.now)) (rows_in (tree_of document.now) table)) }
+        (into.new.items ≡ into.old.items ++ map (R.spells (tree_of document.now))
+        (rows_in (tree_of document.now) table)) }
 {
     add_entries::<E, R>(into, alloc, document, document.items_at(table))
 }
@@ -115,7 +119,8 @@ fn table_of<E: Drop, R: EntryReader<E>>(
     document: &Document,
     table: BasinTable,
 ) -> Result<Rows<E>, AllocError>
-    ensures { IfOk result (λ rows. rows ≡ map (R.spells (tree_of document.now)) (rows_in (tree_of document.now) table)) }
+    ensures { IfOk result
+        (λ rows. rows ≡ map (R.spells (tree_of document.now)) (rows_in (tree_of document.now) table)) }
 {
     let mut entries = Vec::new(alloc);
     add_table::<E, R>(&mut entries, alloc, document, table)?;

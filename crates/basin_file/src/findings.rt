@@ -2,7 +2,8 @@
 ghost use Rattle.std.specs.Prelude.{◌≡◌, ◌+◌, ◌≤◌, ◌<◌, ◌^◌, take, count_by, length};
 ghost use Rattle.water_model.specs.Lookups.{of_entry};
 ghost use Rattle.basin_tree.specs.Entries.{found};
-ghost use Rattle.basin_file.specs.BasinFaults.{net_finding, table_of, is_in_table, right_found, roll_finding, area_finding};
+ghost use Rattle.basin_file.specs.BasinFaults.{net_finding, table_of, is_in_table, right_found, roll_finding};
+ghost use Rattle.basin_file.specs.BasinFaults.{area_finding};
 
 use basin_tree::fault::BasinFault;
 use basin_tree::tables::BasinTable;

@@ -6,7 +6,9 @@ ghost use Rattle.toml.specs.Data.{get_member};
 ghost use Rattle.toml.specs.View.{view, table_view, items_view};
 ghost use Rattle.toml_tree.specs.Values.{whole_of};
 ghost use Rattle.basin_tree.specs.Documents.{tree_of};
-ghost use Rattle.basin_file.specs.Spelled.{name_of, name_at, truth_at, inflow_of, lists_month, shut_of, carry_of, is_series, number_at, point_in, date_of, first_of, node_of, link_of, volume_of, right_of, diversion_of, instream_of, zone_of, return_of};
+ghost use Rattle.basin_file.specs.Spelled.{name_of, name_at, truth_at, inflow_of, lists_month, shut_of, carry_of};
+ghost use Rattle.basin_file.specs.Spelled.{is_series, number_at, point_in, date_of, first_of, node_of, link_of};
+ghost use Rattle.basin_file.specs.Spelled.{volume_of, right_of, diversion_of, instream_of, zone_of, return_of};
 
 use basin_tree::document::Document;
 use basin_tree::tables::Space;

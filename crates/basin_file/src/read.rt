@@ -11,7 +11,8 @@ ghost use Rattle.basin_tree.specs.Documents.{tree_of};
 ghost use Rattle.basin_tree.specs.Order.{tree_fault};
 ghost use Rattle.basin_file.specs.Spelled.{basin_of};
 ghost use Rattle.basin_file.specs.Sound.{IsSoundBasin};
-ghost use Rattle.basin_file.specs.BasinFaults.{area_finding, net_finding, roll_finding, areas_fault, basin_fault, document_fault, file_fault, IsRefusalOf, IsFileRefusal, Spells};
+ghost use Rattle.basin_file.specs.BasinFaults.{area_finding, net_finding, roll_finding, areas_fault, basin_fault};
+ghost use Rattle.basin_file.specs.BasinFaults.{document_fault, file_fault, IsRefusalOf, IsFileRefusal, Spells};
 
 use crate::build::basin_of;
 use crate::findings::{area_finding, net_finding, roll_finding};
@@ -33,7 +34,8 @@ use water_model::types::{Basin, Reservoir};
 /// The fault of a basin's network, if it has one.
 fn network_fault(alloc: Global, basin: &Basin) -> Result<Option<Finding>, AllocError>
     requires { IsSoundBasin basin.now }
-    ensures first { IfOk result (λ fault. fault ≡ option_and_then net_finding (net_fault basin.now.nodes basin.now.links)) }
+    ensures first { IfOk result
+        (λ fault. fault ≡ option_and_then net_finding (net_fault basin.now.nodes basin.now.links)) }
     ensures sound { IfOk result (λ fault. fault ≡ None → IsSoundNetwork basin.now.nodes basin.now.links) }
 {
     match Net::build(alloc, basin.nodes.as_slice(), basin.links.as_slice()) {
@@ -59,7 +61,9 @@ fn check_rights(alloc: Global, basin: &Basin) -> Result<(), RollRefused>
 /// The fault of a basin's rights, if they have one.
 fn rights_fault(alloc: Global, basin: &Basin) -> Result<Option<Finding>, AllocError>
     requires { IsSoundBasin basin.now }
-    ensures first { IfOk result (λ fault. fault ≡ option_and_then (roll_finding basin.now.rights) (roll_fault basin.now.rights basin.now.returns)) }
+    ensures first { IfOk result
+        (λ fault. fault ≡ option_and_then (roll_finding basin.now.rights)
+        (roll_fault basin.now.rights basin.now.returns)) }
     ensures sound { IfOk result (λ fault. fault ≡ None → IsSoundRoll basin.now.rights basin.now.returns) }
 {
     match check_rights(alloc, basin) {

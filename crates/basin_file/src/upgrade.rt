@@ -1,5 +1,6 @@
 //! The table of format 2 that stands for a basin.
-ghost use Rattle.std.specs.Prelude.{◌≡◌, ◌<◌, ◌≤◌, ◌^◌, ◌+◌, ◌++◌, ◌∷◌, [], length, map, codes, true, All, IfOk, OnOk, Some, None, option_map, option_to_list, string_bytes};
+ghost use Rattle.std.specs.Prelude.{◌≡◌, ◌<◌, ◌≤◌, ◌^◌, ◌+◌, ◌++◌, ◌∷◌, [], length, map, codes, true, All, IfOk, OnOk};
+ghost use Rattle.std.specs.Prelude.{Some, None, option_map, option_to_list, string_bytes};
 ghost use Rattle.std.specs.Str.{IsAscii};
 ghost use Rattle.toml.specs.Data.{string, boolean, array, table, Members};
 ghost use Rattle.toml.specs.View.{view, table_view, items_view, items_of};
@@ -8,10 +9,14 @@ ghost use Rattle.water_text.specs.Days.{is_date};
 ghost use Rattle.water_text.specs.Months.{IsMonth, month_digits};
 ghost use Rattle.water_text.specs.Names.{is_name};
 ghost use Rattle.water_model.specs.Basin.{node_name, link_name, right_name, reservoir_name};
-ghost use Rattle.water_model.specs.Valid.{IsValidBasin, IsValidInflow, IsValidNode, IsValidLink, IsValidReservoir, IsValidPoint, IsValidRight, IsValidReturn, IsMonthly};
+ghost use Rattle.water_model.specs.Valid.{IsValidBasin, IsValidInflow, IsValidNode, IsValidLink, IsValidReservoir};
+ghost use Rattle.water_model.specs.Valid.{IsValidPoint, IsValidRight, IsValidReturn, IsMonthly};
 ghost use Rattle.water_model.specs.declared.types.Basin.{Basin};
 ghost use Rattle.basin_file.specs.BasinFaults.{Spells, file_fault};
-ghost use Rattle.basin_file.specs.Upgraded.{with_member, with_option, two_digits, day_text, number, numbers, inflow_data, node_row, shut_months, some_items, link_row, point_data, reservoir_row, want_data, right_row, return_row, rights_in, listed, basin_table};
+ghost use Rattle.basin_file.specs.Upgraded.{with_member, with_option, two_digits, day_text, number, numbers};
+ghost use Rattle.basin_file.specs.Upgraded.{inflow_data, node_row, shut_months, some_items, link_row, point_data};
+ghost use Rattle.basin_file.specs.Upgraded.{reservoir_row, want_data, right_row, return_row, rights_in, listed};
+ghost use Rattle.basin_file.specs.Upgraded.{basin_table};
 
 use crate::findings::is_in_table;
 use basin_tree::tables::BasinTable;
@@ -110,7 +115,8 @@ fn put_number(alloc: Global, row: &mut Table, key: &str, n: u64) -> Result<(), A
 
 /// Adds a list, unless it is empty.
 fn put_list(alloc: Global, row: &mut Table, key: &str, list: Vec<Value>) -> Result<(), AllocError>
-    ensures { OnOk result (table_view row.new ≡ with_option key.now (some_items (items_view list.items)) (table_view row.old)) }
+    ensures { OnOk result
+        (table_view row.new ≡ with_option key.now (some_items (items_view list.items)) (table_view row.old)) }
 {
     if list.as_slice().is_empty() {
         return Ok(());
@@ -141,7 +147,8 @@ fn two_digits(n: u16) -> [u8; 2]
 /// Adds a month.
 fn put_month(alloc: Global, row: &mut Table, key: &str, month: Month) -> Result<(), AllocError>
     requires { IsMonth month }
-    ensures { OnOk result (table_view row.new ≡ with_member key.now (string (month_digits month)) (table_view row.old)) }
+    ensures { OnOk result
+        (table_view row.new ≡ with_member key.now (string (month_digits month)) (table_view row.old)) }
 {
     let mut line = Line::new();
     month.put_into(&mut line);
@@ -419,7 +426,8 @@ fn rows_of<E, W: RowWriter<E>>(
 ) -> Result<Vec<Value>, AllocError>
     requires basin { IsValidBasin basin.now }
     requires fits { All (W.fits basin.now) entries.now }
-    ensures { IfOk result (λ list. items_view list.items ≡ items_of (map (λ e. table (W.table_of basin.now e)) entries.now)) }
+    ensures { IfOk result
+        (λ list. items_view list.items ≡ items_of (map (λ e. table (W.table_of basin.now e)) entries.now)) }
 {
     let mut list = Vec::new(alloc);
     for entry in entries {
@@ -431,7 +439,9 @@ fn rows_of<E, W: RowWriter<E>>(
 /// The tables of the rights of one kind.
 fn rights_of(alloc: Global, basin: &Basin, which: BasinTable) -> Result<Vec<Value>, AllocError>
     requires { IsValidBasin basin.now }
-    ensures { IfOk result (λ list. items_view list.items ≡ items_of (map (λ r. table (right_row basin.now r)) (rights_in which basin.now.rights))) }
+    ensures { IfOk result
+        (λ list. items_view list.items ≡ items_of
+        (map (λ r. table (right_row basin.now r)) (rights_in which basin.now.rights))) }
 {
     let mut list = Vec::new(alloc);
     for right in basin.rights.as_slice() {
@@ -452,7 +462,8 @@ fn put_rows<E, W: RowWriter<E>>(
 ) -> Result<(), AllocError>
     requires basin { IsValidBasin basin.now }
     requires fits { All (W.fits basin.now) entries.now }
-    ensures { OnOk result (table_view top.new ≡ with_option key.now (listed (W.table_of basin.now) entries.now) (table_view top.old)) }
+    ensures { OnOk result
+        (table_view top.new ≡ with_option key.now (listed (W.table_of basin.now) entries.now) (table_view top.old)) }
 {
     put_list(alloc, top, key, rows_of::<E, W>(alloc, basin, entries)?)
 }
@@ -466,7 +477,9 @@ fn put_rights(
     which: BasinTable,
 ) -> Result<(), AllocError>
     requires { IsValidBasin basin.now }
-    ensures { OnOk result (table_view top.new ≡ with_option key.now (listed (right_row basin.now) (rights_in which basin.now.rights)) (table_view top.old)) }
+    ensures { OnOk result
+        (table_view top.new ≡ with_option key.now (listed (right_row basin.now) (rights_in which basin.now.rights))
+        (table_view top.old)) }
 {
     put_list(alloc, top, key, rights_of(alloc, basin, which)?)
 }
@@ -486,8 +499,8 @@ fn put_last(alloc: Global, top: &mut Table, basin: &Basin) -> Result<(), AllocEr
     put_rows::<Reservoir, ReservoirWriter>(alloc, top, "reservoir", basin, reservoirs)
 }
 
-/// The table of format 2 that stands for a basin: every key with its value, monthly values as lists of twelve. What a river,
-/// a canal that is never shut and a right without a volume don't have is left out, and so is an empty list.
+/// The table of format 2 that stands for a basin: every key with its value, monthly values as lists of twelve. What a
+/// river, a canal that is never shut and a right without a volume don't have is left out, and so is an empty list.
 ///
 /// It takes memory, for each value of the basin. AllocError comes only where that is lacking.
 pub fn spelled(alloc: Global, basin: &Basin) -> Result<Table, AllocError>
@@ -508,8 +521,8 @@ pub fn spelled(alloc: Global, basin: &Basin) -> Result<Table, AllocError>
     Ok(top)
 }
 
-/// The text of a file of format 2 that spells a basin: it is read as the basin's table, which spells the basin itself, but for
-/// the format, and it has no fault.
+/// The text of a file of format 2 that spells a basin: it is read as the basin's table, which spells the basin itself,
+/// but for the format, and it has no fault.
 ///
 /// It takes memory, for the table and for the text. AllocError comes only where that is lacking.
 pub fn upgraded(alloc: Global, basin: &Basin) -> Result<String, AllocError>

@@ -3,7 +3,8 @@ use Rattle.std.proofs.Common.{◌≡◌, ℕ, zero, suc, ◌+◌, ◌-◌, ◌/�
 use Rattle.std.specs.Prelude.{◌==◌, not, if◌then◌else◌}
 use Rattle.std.proofs.lemmas.Bool.Decides.{nat_tests}
 use Rattle.place_sums.specs.Sums.{total, count_where}
-use Rattle.basin_gen.specs.Generator.{draws_of_node, draws_of_nodes, draws_of_turns, count_of_diversions, turn_of_diversion}
+use Rattle.basin_gen.specs.Generator.{draws_of_node, draws_of_nodes, draws_of_turns, count_of_diversions}
+use Rattle.basin_gen.specs.Generator.{turn_of_diversion}
 use Rattle.basin_gen.specs.Laws.{CountsAreOfPlaces}
 
 -- a number that begins at 0 and grows as the terms say is their sum
@@ -37,7 +38,8 @@ turn_more : (n : ℕ) → draws_of_turns (n + 1) ≡ draws_of_turns n + (if n % 
 turn_more n = grind (arith, nat_tests)
 
 no_instream : (d : ℕ) → (turn_of_diversion d % 4 == 3) ≡ false
-no_instream d = let other : (d + d / 3) % 4 ≡ 3 → ⊥ = (λ (h : (d + d / 3) % 4 ≡ 3). omega arith) in by ((d + d / 3) % 4) other
+no_instream d = let other : (d + d / 3) % 4 ≡ 3 → ⊥ = (λ (h : (d + d / 3) % 4 ≡ 3). omega arith) in
+    by ((d + d / 3) % 4) other
   where
     by : (n : ℕ) → (n ≡ 3 → ⊥) → (n == 3) ≡ false
     by n h = grind (arith, nat_tests)

@@ -1,5 +1,6 @@
 -- Draws one after the other, and lists by place.
-use Rattle.std.proofs.Common.{◌≡◌, ℕ, zero, suc, ◌+◌, ◌*◌, ◌/◌, ◌%◌, ◌^◌, ◌<◌, true, false, refl, sym, ap, ◌∙◌, arith, List, [], ◌∷◌, ◌++◌, add-one, add-zero, add-suc, append_assoc, append-nil}
+use Rattle.std.proofs.Common.{◌≡◌, ℕ, zero, suc, ◌+◌, ◌*◌, ◌/◌, ◌%◌, ◌^◌, ◌<◌, true, false, refl, sym, ap, ◌∙◌, arith}
+use Rattle.std.proofs.Common.{List, [], ◌∷◌, ◌++◌, add-one, add-zero, add-suc, append_assoc, append-nil}
 use Rattle.std.specs.Prelude.{◌==◌}
 use Rattle.std.proofs.Math.Nat.{mod-add-mod}
 use Rattle.std.proofs.lemmas.Bool.Decides.{nat_tests}
@@ -66,14 +67,16 @@ one_and_two j = omega arith
 -- the zones of a reservoir
 pub zone_even : (j x : ℕ) → lower_zone_at j x ≡ zone_at (2 * j) x
 unfolding zone_at
-zone_even j x = let even : (2 * j % 2 == 0) ≡ true = tests j in let half : 2 * j / 2 ≡ j = omega arith in rw (even, half) refl
+zone_even j x = let even : (2 * j % 2 == 0) ≡ true = tests j in let half : 2 * j / 2 ≡ j = omega arith in
+    rw (even, half) refl
   where
     tests : (j : ℕ) → (2 * j % 2 == 0) ≡ true
     tests j = grind (arith, nat_tests)
 
 pub zone_odd : (j x : ℕ) → upper_zone_at j x ≡ zone_at (2 * j + 1) x
 unfolding zone_at
-zone_odd j x = let odd : ((2 * j + 1) % 2 == 0) ≡ false = tests j in let half : (2 * j + 1) / 2 ≡ j = omega arith in rw (odd, half) refl
+zone_odd j x = let odd : ((2 * j + 1) % 2 == 0) ≡ false = tests j in let half : (2 * j + 1) / 2 ≡ j = omega arith in
+    rw (odd, half) refl
   where
     tests : (j : ℕ) → ((2 * j + 1) % 2 == 0) ≡ false
     tests j = grind (arith, nat_tests)
@@ -81,12 +84,14 @@ zone_odd j x = let odd : ((2 * j + 1) % 2 == 0) ≡ false = tests j in let half 
 pub ruleset draws = (later_none, later_more, list_of_none, list_of_more)
 
 -- an entry more
-pub pushed : {X : Type 0} → (f : ℕ → X) (n : ℕ) (old new : List X) (x : X) → old ≡ list_of n f → x ≡ f n → new ≡ old ++ x ∷ [] →
+pub pushed : {X : Type 0} → (f : ℕ → X) (n : ℕ) (old new : List X) (x : X) → old ≡ list_of n f → x ≡ f n →
+    new ≡ old ++ x ∷ [] →
     new ≡ list_of (n + 1) f
 pushed f n old new x so_far here more = rw (list_of_more n f, ← here, ← so_far) more
 
 -- behind other entries
-pub pushed_behind : {X : Type 0} → (f : ℕ → X) (n : ℕ) (front old new : List X) (x : X) → old ≡ front ++ list_of n f → x ≡ f n →
+pub pushed_behind : {X : Type 0} → (f : ℕ → X) (n : ℕ) (front old new : List X) (x : X) → old ≡ front ++ list_of n f →
+    x ≡ f n →
     new ≡ old ++ x ∷ [] → new ≡ front ++ list_of (n + 1) f
 pushed_behind f n front old new x so_far here more =
     more ∙ ap (λ l. l ++ x ∷ []) so_far ∙ append_assoc front (list_of n f) (x ∷ [])

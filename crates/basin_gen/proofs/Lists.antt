@@ -5,8 +5,13 @@ use Rattle.water_model.specs.declared.types.Basin.{Basin}
 use Rattle.water_model.specs.declared.types.Link.{Link}
 use Rattle.water_model.specs.declared.types.Right.{Right}
 use Rattle.basin_gen.specs.Draws.{later}
-use Rattle.basin_gen.specs.Entries.{node_at, river_at, canal_at, reservoir_at, diversion_at, instream_at, return_at, zone_at}
-use Rattle.basin_gen.specs.Generator.{generated, nodes_of, rivers_of, canals_of, reservoirs_of, diversions_of, instreams_of, zones_of, returns_of, draws_of_nodes, draws_of_turns, turn_of_diversion, count_of_canals, count_of_reservoirs, count_of_turns, before_nodes, before_rivers, before_canals, before_reservoirs, before_rights, before_zones}
+use Rattle.basin_gen.specs.Entries.{node_at, river_at, canal_at, reservoir_at, diversion_at, instream_at, return_at}
+use Rattle.basin_gen.specs.Entries.{zone_at}
+use Rattle.basin_gen.specs.Generator.{generated, nodes_of, rivers_of, canals_of, reservoirs_of, diversions_of}
+use Rattle.basin_gen.specs.Generator.{instreams_of, zones_of, returns_of, draws_of_nodes, draws_of_turns}
+use Rattle.basin_gen.specs.Generator.{turn_of_diversion, count_of_canals, count_of_reservoirs, count_of_turns}
+use Rattle.basin_gen.specs.Generator.{before_nodes, before_rivers, before_canals, before_reservoirs, before_rights}
+use Rattle.basin_gen.specs.Generator.{before_zones}
 use Rattle.basin_gen.proofs.Places.{IsListOf, join, joined, joined_left, joined_right, listed}
 
 -- what was drawn where the generator was there
@@ -76,15 +81,19 @@ generated_made number size =
     let s = states_of number size in record {
       nodes = listed size (λ i. node_at size i (s.nodes i));
       links = join _ _ (size - 1) (count_of_canals size) _ _
-          (listed (size - 1) (λ i. river_at size i (s.rivers i))) (listed (count_of_canals size) (λ j. canal_at size (4 * j + 1) (s.canals j)));
+          (listed (size - 1) (λ i. river_at size i (s.rivers i)))
+          (listed (count_of_canals size) (λ j. canal_at size (4 * j + 1) (s.canals j)));
       reservoirs = listed (count_of_reservoirs size) (λ j. reservoir_at (40 * j + 20) (s.reservoirs j));
-      rights = join _ _ (diversion_count size) (instream_count size + zone_count size) _ _ (listed (diversion_count size) (diversion_made size s))
-          (join _ _ (instream_count size) (zone_count size) _ _ (listed (instream_count size) (instream_made size s)) (listed (zone_count size) (zone_made s)));
+      rights = join _ _ (diversion_count size) (instream_count size + zone_count size) _ _
+          (listed (diversion_count size) (diversion_made size s))
+          (join _ _ (instream_count size) (zone_count size) _ _ (listed (instream_count size) (instream_made size s))
+          (listed (zone_count size) (zone_made s)));
       returns = listed (return_count size) (λ j. return_at size (3 * j) (s.returns j));
     }
 
 -- what holds of the entries of two lists holds of both together
-pub joined_each : {X : Type 0} → (P : X → Type 0) (n m : ℕ) (f g : ℕ → X) → ((i : ℕ) → i < n → P (f i)) → ((j : ℕ) → j < m → P (g j)) →
+pub joined_each : {X : Type 0} → (P : X → Type 0) (n m : ℕ) (f g : ℕ → X) → ((i : ℕ) → i < n → P (f i)) →
+    ((j : ℕ) → j < m → P (g j)) →
     (i : ℕ) → i < n + m → P (joined n f g i)
 joined_each P n m f g left right i l = elim (cases_lt i n) [
   | inl below ↦ subst P (sym (joined_left n f g i below)) (left i below)
@@ -93,13 +102,17 @@ joined_each P n m f g left right i l = elim (cases_lt i n) [
 
 -- the same of pairs of entries
 pub joined_pairs : {X : Type 0} → (Q : X → X → Type 0) (n m : ℕ) (f g : ℕ → X) →
-    ((i j : ℕ) → i < j → j < n → Q (f i) (f j)) → ((i j : ℕ) → i < n → j < m → Q (f i) (g j)) → ((i j : ℕ) → i < j → j < m → Q (g i) (g j)) →
+    ((i j : ℕ) → i < j → j < n → Q (f i) (f j)) → ((i j : ℕ) → i < n → j < m → Q (f i) (g j)) →
+    ((i j : ℕ) → i < j → j < m → Q (g i) (g j)) →
     (i j : ℕ) → i < j → j < n + m → Q (joined n f g i) (joined n f g j)
 joined_pairs Q n m f g left across right i j before l = elim (cases_lt j n) [
   | inl below ↦ (let first : i < n = omega arith in
-      subst (λ x. Q x (joined n f g j)) (sym (joined_left n f g i first)) (subst (λ y. Q (f i) y) (sym (joined_left n f g j below)) (left i j before below)))
+      subst (λ x. Q x (joined n f g j)) (sym (joined_left n f g i first))
+      (subst (λ y. Q (f i) y) (sym (joined_left n f g j below)) (left i j before below)))
   | inr above ↦ subst (λ y. Q (joined n f g i) y) (sym (joined_right n f g j above)) (elim (cases_lt i n) [
     | inl below ↦ subst (λ x. Q x (g (j - n))) (sym (joined_left n f g i below)) (across i (j - n) below (omega arith))
-    | inr both ↦ subst (λ x. Q x (g (j - n))) (sym (joined_right n f g i both)) (right (i - n) (j - n) (omega arith) (omega arith))
+    | inr both ↦
+        subst (λ x. Q x (g (j - n))) (sym (joined_right n f g i both))
+        (right (i - n) (j - n) (omega arith) (omega arith))
   ])
 ]

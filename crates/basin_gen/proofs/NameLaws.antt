@@ -1,5 +1,6 @@
 -- A letter and a number are a name.
-use Rattle.std.proofs.Common.{◌≡◌, ℕ, ◌^◌, ◌<◌, ◌≤◌, Bool, true, refl, sym, ◌∙◌, arith, List, [], ◌∷◌, ◌++◌, length, length-append}
+use Rattle.std.proofs.Common.{◌≡◌, ℕ, ◌^◌, ◌<◌, ◌≤◌, Bool, true, refl, sym, ◌∙◌, arith, List, [], ◌∷◌, ◌++◌, length}
+use Rattle.std.proofs.Common.{length-append}
 use Rattle.std.specs.Prelude.{◌&&◌, nat_le, Option, Some, None, if◌then◌else◌}
 use Rattle.std.specs.Char.{is_ascii_digit}
 use Rattle.std.specs.Fmt.{decimal}
@@ -48,6 +49,7 @@ zone_is_name mark n h small =
     (and_from (is_name_byte mark) true h refl))
 
 -- a name is read
-pub read_name : (text : List ℕ) (read : Option (List ℕ)) → read ≡ (if is_name text then Some text else None) → is_name text ≡ true →
+pub read_name : (text : List ℕ) (read : Option (List ℕ)) → read ≡ (if is_name text then Some text else None) →
+    is_name text ≡ true →
     read ≡ None → ⊥
 read_name text read is good none = let some : read ≡ Some text = rw good at is in cc

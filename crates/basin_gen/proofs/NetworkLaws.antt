@@ -1,5 +1,6 @@
 -- A generated network is sound, and its nodes, links and reservoirs are valid.
-use Rattle.std.proofs.Common.{◌≡◌, ◌≢◌, ℕ, zero, suc, ◌+◌, ◌-◌, ◌*◌, ◌%◌, ◌^◌, ◌<◌, ◌≤◌, Bool, true, false, refl, sym, ap, ◌∙◌, arith, List, [], ◌∷◌, length, get_or, inl, inr}
+use Rattle.std.proofs.Common.{◌≡◌, ◌≢◌, ℕ, zero, suc, ◌+◌, ◌-◌, ◌*◌, ◌%◌, ◌^◌, ◌<◌, ◌≤◌, Bool, true, false, refl, sym}
+use Rattle.std.proofs.Common.{ap, ◌∙◌, arith, List, [], ◌∷◌, length, get_or, inl, inr}
 use Rattle.std.specs.Prelude.{Some, None, slice_get, if◌then◌else◌, ◌==◌, All, ◌||◌, ◌&&◌, min, replicate}
 use Rattle.std.specs.Fmt.{decimal}
 use Rattle.std.specs.List.{list_any}
@@ -20,7 +21,8 @@ use Rattle.basin_gen.proofs.Places.{joined_left, entry_is, all_of, one_of, own_n
 use Rattle.basin_gen.proofs.Lists.{IsMade, States, joined_each, joined_pairs, link_made}
 
 -- a link leads to a later node
-pub node_behind_within : (size reach i x : ℕ) → i + 1 < size → 0 < reach → (i < node_behind size reach i x) × (node_behind size reach i x < size)
+pub node_behind_within : (size reach i x : ℕ) → i + 1 < size → 0 < reach → (i < node_behind size reach i x) ×
+    (node_behind size reach i x < size)
 unfolding node_behind
 node_behind_within size reach i x within some =
     let some_further : 0 < min reach (size - 1 - i) = omega arith in
@@ -73,34 +75,52 @@ canal_within size j h = omega arith
 pub links_lead_on : (b : Basin) (size : ℕ) (s : States) → IsMade b size s → All (LeadsOn size) b.links
 links_lead_on b size s made =
     all_of (LeadsOn size) b.links (size - 1 + count_of_canals size) (link_made size s) made.links
-    (joined_each (LeadsOn size) (size - 1) (count_of_canals size) (λ i. river_at size i (s.rivers i)) (λ j. canal_at size (4 * j + 1) (s.canals j))
-    (λ i l. let to = node_behind_within size 3 i (s.rivers i) (omega arith) (omega arith) in record { from = omega arith; forward = to.0; to = to.1 })
+    (joined_each (LeadsOn size) (size - 1) (count_of_canals size) (λ i. river_at size i (s.rivers i))
+    (λ j. canal_at size (4 * j + 1) (s.canals j))
+    (λ i l. let to = node_behind_within size 3 i (s.rivers i) (omega arith) (omega arith) in
+    record { from = omega arith; forward = to.0; to = to.1 })
     (λ j l. let within = canal_within size j l in
-    let to = node_behind_within size 5 (4 * j + 1) (s.canals j) within (omega arith) in record { from = within; forward = to.0; to = to.1 }))
+    let to = node_behind_within size 5 (4 * j + 1) (s.canals j) within (omega arith) in
+    record { from = within; forward = to.0; to = to.1 }))
 
-pub links_valid : (b : Basin) (size : ℕ) (s : States) → size ≤ 2000 → IsMade b size s → All (λ l. IsValidLink b l) b.links
+pub links_valid : (b : Basin) (size : ℕ) (s : States) → size ≤ 2000 → IsMade b size s →
+    All (λ l. IsValidLink b l) b.links
 links_valid b size s few made =
     let len = made.nodes.count in
     all_of (λ l. IsValidLink b l) b.links (size - 1 + count_of_canals size) (link_made size s) made.links
-    (joined_each (λ l. IsValidLink b l) (size - 1) (count_of_canals size) (λ i. river_at size i (s.rivers i)) (λ j. canal_at size (4 * j + 1) (s.canals j))
+    (joined_each (λ l. IsValidLink b l) (size - 1) (count_of_canals size) (λ i. river_at size i (s.rivers i))
+    (λ j. canal_at size (4 * j + 1) (s.canals j))
     (λ i l. let to = node_behind_within size 3 i (s.rivers i) (omega arith) (omega arith) in
-    record { name = numbered_is_name 114 i refl (omega arith); ends = record { from = omega arith; to = omega arith }; carry = tt })
+    record {
+      name = numbered_is_name 114 i refl (omega arith);
+      ends =
+          record { from = omega arith; to = omega arith };
+      carry = tt;
+    })
     (λ j l. let within = canal_within size j l in
     let to = node_behind_within size 5 (4 * j + 1) (s.canals j) within (omega arith) in
     let small = drawn_below (next (s.canals j)) 20 (omega arith) in
-    record { name = numbered_is_name 99 (4 * j + 1) refl (omega arith); ends = record { from = omega arith; to = omega arith }; carry = (omega arith, refl) }))
+    record {
+      name = numbered_is_name 99 (4 * j + 1) refl (omega arith);
+      ends =
+          record { from = omega arith; to = omega arith };
+      carry = (omega arith, refl);
+    }))
 
 -- no canal is ever shut
 pub open_canals : (b : Basin) (size : ℕ) (s : States) → IsMade b size s → All (λ l. IsAlwaysOpen l.carry) b.links
 open_canals b size s made =
     all_of (λ l. IsAlwaysOpen l.carry) b.links (size - 1 + count_of_canals size) (link_made size s) made.links
-    (joined_each (λ l. IsAlwaysOpen l.carry) (size - 1) (count_of_canals size) (λ i. river_at size i (s.rivers i)) (λ j. canal_at size (4 * j + 1) (s.canals j))
+    (joined_each (λ l. IsAlwaysOpen l.carry) (size - 1) (count_of_canals size) (λ i. river_at size i (s.rivers i))
+    (λ j. canal_at size (4 * j + 1) (s.canals j))
     (λ i l. tt)
     (λ j l. refl))
 
 -- only the last node is an outlet
-pub outlet_is : (b : Basin) (size : ℕ) (s : States) → IsMade b size s → (v : ℕ) → v < size → is_outlet_in b.nodes v ≡ (v + 1 == size)
-outlet_is b size s made v l = entry_is b.nodes size (λ i. node_at size i (s.nodes i)) made.nodes (λ n. n.outlet) false v l
+pub outlet_is : (b : Basin) (size : ℕ) (s : States) → IsMade b size s → (v : ℕ) → v < size →
+    is_outlet_in b.nodes v ≡ (v + 1 == size)
+outlet_is b size s made v l =
+    entry_is b.nodes size (λ i. node_at size i (s.nodes i)) made.nodes (λ n. n.outlet) false v l
 
 not_last : (v size : ℕ) → v + 1 < size → (v + 1 == size) ≡ false
 not_last v size h = grind (arith, nat_tests)
@@ -108,11 +128,13 @@ not_last v size h = grind (arith, nat_tests)
 before_last : (v size : ℕ) → v < size → (v + 1 == size) ≡ false → v + 1 < size
 before_last v size l h = grind (arith, nat_tests)
 
-pub inner : (b : Basin) (size : ℕ) (s : States) → IsMade b size s → (v : ℕ) → v + 1 < size → is_outlet_in b.nodes v ≡ false
+pub inner : (b : Basin) (size : ℕ) (s : States) → IsMade b size s → (v : ℕ) → v + 1 < size →
+    is_outlet_in b.nodes v ≡ false
 inner b size s made v l = outlet_is b size s made v (omega arith) ∙ not_last v size l
 
 -- a walk along links that lead on ends behind its start
-pub walk_on : (size : ℕ) (links : List Link) → All (LeadsOn size) links → (k from to : ℕ) → walks links k from to ≡ true → from < to
+pub walk_on : (size : ℕ) (links : List Link) → All (LeadsOn size) links → (k from to : ℕ) →
+    walks links k from to ≡ true → from < to
 unfolding walks
 walk_on size links all zero from to h = cc
 walk_on size links all (suc k) from to h = any (λ via. walk_on size links all k via to) links all h
@@ -124,13 +146,17 @@ walk_on size links all (suc k) from to h = any (λ via. walk_on size links all k
         equal : (n m : ℕ) → (n == m) ≡ true → n ≡ m
         equal n m h = grind (arith, nat_tests)
 
-        by : (p q r : Bool) → (l.from == from) ≡ p → (l.to == to) ≡ q → walks links k l.to to ≡ r → p && (q || r) ≡ true → from < to
+        by : (p q r : Bool) → (l.from == from) ≡ p → (l.to == to) ≡ q → walks links k l.to to ≡ r →
+            p && (q || r) ≡ true → from < to
         by false q r a c d e = cc
-        by true true r a c d e = let f = on.forward in let g = equal l.from from a in let h = equal l.to to c in omega arith
-        by true false true a c d e = let f = on.forward in let g = equal l.from from a in let h = rest l.to d in omega arith
+        by true true r a c d e = let f = on.forward in let g = equal l.from from a in let h = equal l.to to c in
+            omega arith
+        by true false true a c d e = let f = on.forward in let g = equal l.from from a in let h = rest l.to d in
+            omega arith
         by true false false a c d e = cc
 
-    any : ((via : ℕ) → walks links k via to ≡ true → via < to) → (ls : List Link) → All (LeadsOn size) ls → list_any (λ l. l.from == from && (l.to == to || walks links k l.to to)) ls ≡ true → from < to
+    any : ((via : ℕ) → walks links k via to ≡ true → via < to) → (ls : List Link) → All (LeadsOn size) ls →
+        list_any (λ l. l.from == from && (l.to == to || walks links k l.to to)) ls ≡ true → from < to
     any rest [] each e = cc
     any rest (l ∷ ls) each e = elim (cases_Bool (l.from == from && (l.to == to || walks links k l.to to))) [
       | inl here ↦ step rest l (each 0 l (omega arith)) here
@@ -142,14 +168,16 @@ network_sound b size s made =
     let len = made.nodes.count in
     let links = links_lead_on b size s made in record {
       outlets_end = λ e l. ends e (link_at e l) links;
-      rivers = λ v l inner_node. river v (before_last v size (omega arith) (sym (outlet_is b size s made v (omega arith)) ∙ inner_node));
+      rivers = λ v l inner_node. river v
+          (before_last v size (omega arith) (sym (outlet_is b size s made v (omega arith)) ∙ inner_node));
       acyclic = λ v l. no_way v links;
     }
   where
     link_at : (e : ℕ) → e < length b.links → (x : Link) × (slice_get b.links e ≡ Some x)
     link_at e l = let len = made.links.count in (link_made size s e, made.links.at e (omega arith))
 
-    ends : (e : ℕ) → (x : Link) × (slice_get b.links e ≡ Some x) → All (LeadsOn size) b.links → is_outlet_in b.nodes (tail_in b.links e) ≡ false
+    ends : (e : ℕ) → (x : Link) × (slice_get b.links e ≡ Some x) → All (LeadsOn size) b.links →
+        is_outlet_in b.nodes (tail_in b.links e) ≡ false
     ends e at links =
         let on = one_of (LeadsOn size) b.links links e at.0 at.1 in
         let tail : tail_in b.links e ≡ at.0.from = rw at.1 refl in
@@ -160,7 +188,9 @@ network_sound b size s made =
         let first : v < size - 1 = omega arith in
         let len = made.links.count in
         let at : slice_get b.links v ≡ Some (river_at size v (s.rivers v)) = made.links.at v (omega arith)
-        ∙ ap (λ x. Some x) (joined_left (size - 1) (λ i. river_at size i (s.rivers i)) (λ j. canal_at size (4 * j + 1) (s.canals j)) v first) in
+        ∙ ap (λ x. Some x)
+        (joined_left (size - 1) (λ i. river_at size i (s.rivers i)) (λ j. canal_at size (4 * j + 1) (s.canals j)) v
+        first) in
         record { link = v; in_range = omega arith; tail = rw at refl; river = rw at refl }
 
     no_way : (v : ℕ) → All (LeadsOn size) b.links → is_on_cycle b.nodes b.links v ≡ false
@@ -172,7 +202,8 @@ network_sound b size s made =
 -- one letter and one number
 pub letter_number : (a c m n : ℕ) → m < 2 ^ 64 → n < 2 ^ 64 → a ∷ decimal m ≡ c ∷ decimal n → (a ≡ c) × (m ≡ n)
 letter_number a c m n small little e =
-    let heads : a ≡ c = cc in let tails : decimal m ≡ decimal n = cc in (heads, decimal_injective m n small little tails)
+    let heads : a ≡ c = cc in let tails : decimal m ≡ decimal n = cc in
+    (heads, decimal_injective m n small little tails)
 
 pub nodes_own : (b : Basin) (size : ℕ) (s : States) → size ≤ 2000 → IsMade b size s →
     (i j : ℕ) → i < j → j < length b.nodes → of_entry b.nodes i (λ n. n.name) [] ≢ of_entry b.nodes j (λ n. n.name) []
@@ -184,7 +215,8 @@ pub links_own : (b : Basin) (size : ℕ) (s : States) → size ≤ 2000 → IsMa
     (i j : ℕ) → i < j → j < length b.links → of_entry b.links i (λ l. l.name) [] ≢ of_entry b.links j (λ l. l.name) []
 links_own b size s few made =
     own_names b.links (size - 1 + count_of_canals size) (link_made size s) made.links (λ l. l.name) []
-    (joined_pairs (λ l m. l.name ≡ m.name → ⊥) (size - 1) (count_of_canals size) (λ i. river_at size i (s.rivers i)) (λ j. canal_at size (4 * j + 1) (s.canals j))
+    (joined_pairs (λ l m. l.name ≡ m.name → ⊥) (size - 1) (count_of_canals size) (λ i. river_at size i (s.rivers i))
+    (λ j. canal_at size (4 * j + 1) (s.canals j))
     (λ i j before within e. let same = letter_number 114 114 i j (omega arith) (omega arith) e in omega arith)
     (λ i j first l e. let within = canal_within size j l in
     let same = letter_number 114 99 i (4 * j + 1) (omega arith) (omega arith) e in omega arith)
@@ -192,15 +224,19 @@ links_own b size s few made =
     let same = letter_number 99 99 (4 * i + 1) (4 * j + 1) (omega arith) (omega arith) e in omega arith))
 
 pub reservoirs_own : (b : Basin) (size : ℕ) (s : States) → IsMade b size s →
-    (i j : ℕ) → i < j → j < length b.reservoirs → of_entry b.reservoirs i (λ v. Some v.node) None ≢ of_entry b.reservoirs j (λ v. Some v.node) None
+    (i j : ℕ) → i < j → j < length b.reservoirs →
+    of_entry b.reservoirs i (λ v. Some v.node) None ≢ of_entry b.reservoirs j (λ v. Some v.node) None
 reservoirs_own b size s made =
-    own_names b.reservoirs (count_of_reservoirs size) (λ j. reservoir_at (40 * j + 20) (s.reservoirs j)) made.reservoirs (λ v. Some v.node) None
+    own_names b.reservoirs (count_of_reservoirs size) (λ j. reservoir_at (40 * j + 20) (s.reservoirs j)) made.reservoirs
+    (λ v. Some v.node) None
     (λ i j before within e. let same : 40 * i + 20 ≡ 40 * j + 20 = cc in omega arith)
 
-pub reservoirs_valid : (b : Basin) (size : ℕ) (s : States) → IsMade b size s → All (λ v. IsValidReservoir b v) b.reservoirs
+pub reservoirs_valid : (b : Basin) (size : ℕ) (s : States) → IsMade b size s →
+    All (λ v. IsValidReservoir b v) b.reservoirs
 reservoirs_valid b size s made =
     let len = made.nodes.count in
-    all_of (λ v. IsValidReservoir b v) b.reservoirs (count_of_reservoirs size) (λ j. reservoir_at (40 * j + 20) (s.reservoirs j)) made.reservoirs
+    all_of (λ v. IsValidReservoir b v) b.reservoirs (count_of_reservoirs size)
+    (λ j. reservoir_at (40 * j + 20) (s.reservoirs j)) made.reservoirs
     (λ j l.
     let within : 40 * j + 20 + 1 < size = omega arith in
     let opening = drawn_below (s.reservoirs j) 500 (omega arith) in

@@ -1,5 +1,6 @@
 -- Lists by place: the entry at each place is known.
-use Rattle.std.proofs.Common.{◌≡◌, ◌≢◌, ℕ, zero, suc, ◌+◌, ◌-◌, ◌<◌, ◌≤◌, Bool, true, false, refl, sym, ap, subst, ◌∙◌, arith, List, [], ◌∷◌, ◌++◌, length, take, length-append, inl, inr}
+use Rattle.std.proofs.Common.{◌≡◌, ◌≢◌, ℕ, zero, suc, ◌+◌, ◌-◌, ◌<◌, ◌≤◌, Bool, true, false, refl, sym, ap, subst, ◌∙◌}
+use Rattle.std.proofs.Common.{arith, List, [], ◌∷◌, ◌++◌, length, take, length-append, inl, inr}
 use Rattle.std.specs.Prelude.{Some, slice_get, nat_lt, if◌then◌else◌, ◌⊎◌, All, ◌||◌}
 use Rattle.std.specs.List.{list_any}
 use Rattle.std.proofs.lemmas.Bool.{cases_lt}
@@ -20,7 +21,8 @@ get_left [] ys i l = absurd (omega arith)
 get_left (x ∷ xs) ys zero l = refl
 get_left (x ∷ xs) ys (suc i) l = get_left xs ys i (omega arith)
 
-pub get_right : {X : Type 0} → (xs ys : List X) (i : ℕ) → length xs ≤ i → slice_get (xs ++ ys) i ≡ slice_get ys (i - length xs)
+pub get_right : {X : Type 0} → (xs ys : List X) (i : ℕ) → length xs ≤ i →
+    slice_get (xs ++ ys) i ≡ slice_get ys (i - length xs)
 get_right [] ys i l = ap (slice_get ys) (omega arith)
 get_right (x ∷ xs) ys zero l = absurd (omega arith)
 get_right (x ∷ xs) ys (suc i) l = get_right xs ys i (omega arith) ∙ ap (slice_get ys) (omega arith)
@@ -41,13 +43,17 @@ joined_right n f g i l = ap (λ t. if t then f i else g (i - n)) (not_less i n l
     not_less : (i n : ℕ) → n ≤ i → nat_lt i n ≡ false
     not_less i n l = grind (arith, nat_tests)
 
-pub join : {X : Type 0} → (xs ys : List X) (n m : ℕ) (f g : ℕ → X) → IsListOf xs n f → IsListOf ys m g → IsListOf (xs ++ ys) (n + m) (joined n f g)
+pub join : {X : Type 0} → (xs ys : List X) (n m : ℕ) (f g : ℕ → X) → IsListOf xs n f → IsListOf ys m g →
+    IsListOf (xs ++ ys) (n + m) (joined n f g)
 join xs ys n m f g left right = record {
   count = length-append xs ys ∙ (let a = left.count in let b = right.count in omega arith);
   at = λ i l. elim (cases_lt i n) [
-    | inl below ↦ (let a = left.count in get_left xs ys i (omega arith) ∙ left.at i below ∙ ap (λ x. Some x) (sym (joined_left n f g i below)))
+    | inl below ↦
+        (let a = left.count in
+        get_left xs ys i (omega arith) ∙ left.at i below ∙ ap (λ x. Some x) (sym (joined_left n f g i below)))
     | inr above ↦ (let a = left.count in
-        get_right xs ys i (omega arith) ∙ ap (λ k. slice_get ys (i - k)) a ∙ right.at (i - n) (omega arith) ∙ ap (λ x. Some x) (sym (joined_right n f g i above)))
+        get_right xs ys i (omega arith) ∙ ap (λ k. slice_get ys (i - k)) a ∙ right.at (i - n) (omega arith)
+        ∙ ap (λ x. Some x) (sym (joined_right n f g i above)))
   ];
 }
 
@@ -62,15 +68,18 @@ listed (suc n) f =
       at = λ i l. elim (cases_lt i n) [
         | inl below ↦ get_left (list_of n f) (f n ∷ []) i (omega arith) ∙ before.at i below
         | inr above ↦ (let same : i ≡ n = omega arith in let first : i - length (list_of n f) ≡ 0 = omega arith in
-            get_right (list_of n f) (f n ∷ []) i (omega arith) ∙ ap (slice_get (f n ∷ [])) first ∙ ap (λ k. Some (f k)) (sym same))
+            get_right (list_of n f) (f n ∷ []) i (omega arith) ∙ ap (slice_get (f n ∷ [])) first
+            ∙ ap (λ k. Some (f k)) (sym same))
       ];
     }
 
 -- what f says of an entry
-pub entry_is : {X Y : Type 0} → (xs : List X) (n : ℕ) (f : ℕ → X) → IsListOf xs n f → (h : X → Y) (d : Y) (i : ℕ) → i < n → of_entry xs i h d ≡ h (f i)
+pub entry_is : {X Y : Type 0} → (xs : List X) (n : ℕ) (f : ℕ → X) → IsListOf xs n f → (h : X → Y) (d : Y) (i : ℕ) →
+    i < n → of_entry xs i h d ≡ h (f i)
 entry_is xs n f is h d i l = rw (is.at i l) refl
 
-pub all_of : {X : Type 0} → (P : X → Type 0) (xs : List X) (n : ℕ) (f : ℕ → X) → IsListOf xs n f → ((i : ℕ) → i < n → P (f i)) → All P xs
+pub all_of : {X : Type 0} → (P : X → Type 0) (xs : List X) (n : ℕ) (f : ℕ → X) → IsListOf xs n f →
+    ((i : ℕ) → i < n → P (f i)) → All P xs
 all_of P xs n f is each = λ k d l. let len = is.count in
     subst P (sym (get_or_from_slice_get xs k (f k) d (is.at k (omega arith)))) (each k (omega arith))
 
@@ -83,24 +92,28 @@ pub own_names : {X Y : Type 0} → (xs : List X) (n : ℕ) (f : ℕ → X) → I
     (i j : ℕ) → i < j → j < length xs → of_entry xs i name d ≢ of_entry xs j name d
 own_names xs n f is name d apart i j before within equal =
     let len = is.count in
-    apart i j before (omega arith) (sym (entry_is xs n f is name d i (omega arith)) ∙ equal ∙ entry_is xs n f is name d j (omega arith))
+    apart i j before (omega arith) (sym (entry_is xs n f is name d i (omega arith)) ∙ equal
+    ∙ entry_is xs n f is name d j (omega arith))
 
 -- no entry before a place passes a test
-pub none_before : {X : Type 0} → (p : X → Bool) (xs : List X) (n : ℕ) (f : ℕ → X) (i : ℕ) → i < n → IsListOf xs n f → ((k : ℕ) → k < i → p (f k) ≡ false) →
+pub none_before : {X : Type 0} → (p : X → Bool) (xs : List X) (n : ℕ) (f : ℕ → X) (i : ℕ) → i < n → IsListOf xs n f →
+    ((k : ℕ) → k < i → p (f k) ≡ false) →
     list_any p (take i xs) ≡ false
 none_before p xs n f i within is each = by xs i (λ k x l at. by_entry k x l (sym at ∙ is.at k (omega arith)))
   where
     by_entry : (k : ℕ) (x : _) → k < i → Some x ≡ Some (f k) → p x ≡ false
     by_entry k x l e = let same : x ≡ f k = cc in ap p same ∙ each k l
 
-    by : (ys : List _) (i : ℕ) → ((k : ℕ) (x : _) → k < i → slice_get ys k ≡ Some x → p x ≡ false) → list_any p (take i ys) ≡ false
+    by : (ys : List _) (i : ℕ) → ((k : ℕ) (x : _) → k < i → slice_get ys k ≡ Some x → p x ≡ false) →
+        list_any p (take i ys) ≡ false
     by [] zero h = refl
     by [] (suc i) h = refl
     by (y ∷ ys) zero h = refl
     by (y ∷ ys) (suc i) h = rw (h 0 y (omega arith) refl) (by ys i (λ k x l at. h (suc k) x (omega arith) at))
 
 -- an entry passes a test
-pub some_entry : {X : Type 0} → (p : X → Bool) (xs : List X) (k : ℕ) (x : X) → slice_get xs k ≡ Some x → p x ≡ true → list_any p xs ≡ true
+pub some_entry : {X : Type 0} → (p : X → Bool) (xs : List X) (k : ℕ) (x : X) → slice_get xs k ≡ Some x → p x ≡ true →
+    list_any p xs ≡ true
 some_entry p [] k x at h = cc
 some_entry p (y ∷ ys) zero x at h = let same : y ≡ x = cc in let here : p y ≡ true = ap p same ∙ h in rw here refl
 some_entry p (y ∷ ys) (suc k) x at h = rw (some_entry p ys k x at h) (or_true (p y))
@@ -110,12 +123,15 @@ some_entry p (y ∷ ys) (suc k) x at h = rw (some_entry p ys k x at h) (or_true 
     or_true false = refl
 
 -- a sum of which at most one term isn't 0
-pub one_term : (n : ℕ) (f : ℕ → ℕ) (most : ℕ) → ((k : ℕ) → k < n → f k ≤ most) → ((i j : ℕ) → i < j → j < n → (f i ≡ 0) ⊎ (f j ≡ 0)) →
+pub one_term : (n : ℕ) (f : ℕ → ℕ) (most : ℕ) → ((k : ℕ) → k < n → f k ≤ most) →
+    ((i j : ℕ) → i < j → j < n → (f i ≡ 0) ⊎ (f j ≡ 0)) →
     total n f ≤ most
 unfolding total
 one_term zero f most small apart = omega arith
 one_term (suc n) f most small apart = elim (cases_lt 0 (f n)) [
-  | inl some ↦ (let none = total_zero n f (λ k l. elim (apart k n l (omega arith)) [ inl z ↦ z | inr z ↦ absurd (omega arith) ]) in
+  | inl some ↦
+      (let none =
+      total_zero n f (λ k l. elim (apart k n l (omega arith)) [ inl z ↦ z | inr z ↦ absurd (omega arith) ]) in
       let last = small n (omega arith) in omega arith)
   | inr none ↦ omega (arith, one_term n f most (λ k l. small k (omega arith)) (λ i j l m. apart i j l (omega arith)))
 ]

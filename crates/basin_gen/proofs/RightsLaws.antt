@@ -1,6 +1,9 @@
 -- A generated roll of rights is sound, and its rights and return rows are valid.
-use Rattle.std.proofs.Common.{◌≡◌, ◌≢◌, ℕ, suc, ◌+◌, ◌-◌, ◌*◌, ◌/◌, ◌%◌, ◌^◌, ◌<◌, ◌≤◌, Bool, true, false, refl, sym, ap, subst, ◌∙◌, arith, List, [], ◌∷◌, ◌++◌, length, length-append, append-nil, take, inl, inr}
-use Rattle.std.specs.Prelude.{Option, Some, None, slice_get, nat_lt, if◌then◌else◌, ◌==◌, All, ◌||◌, ◌&&◌, not, ◌⊎◌, nat_le, unwrap_or, option_map}
+use Rattle.std.proofs.Common.{◌≡◌, ◌≢◌, ℕ, suc, ◌+◌, ◌-◌, ◌*◌, ◌/◌, ◌%◌, ◌^◌, ◌<◌, ◌≤◌, Bool, true, false, refl, sym}
+use Rattle.std.proofs.Common.{ap, subst, ◌∙◌, arith, List, [], ◌∷◌, ◌++◌, length, length-append, append-nil, take, inl}
+use Rattle.std.proofs.Common.{inr}
+use Rattle.std.specs.Prelude.{Option, Some, None, slice_get, nat_lt, if◌then◌else◌, ◌==◌, All, ◌||◌, ◌&&◌, not, ◌⊎◌}
+use Rattle.std.specs.Prelude.{nat_le, unwrap_or, option_map}
 use Rattle.std.specs.Fmt.{decimal}
 use Rattle.std.specs.List.{list_any}
 use Rattle.std.proofs.lemmas.Bool.{cases_lt, cases_Bool, or_left, false≢true}
@@ -12,7 +15,8 @@ use Rattle.water_text.specs.Days.{is_date}
 use Rattle.water_text.specs.Months.{days_in}
 use Rattle.water_text.proofs.DayNumbers.{days_in-days_in_month}
 use Rattle.water_model.specs.Lookups.{of_entry}
-use Rattle.water_model.specs.Rights.{priority, priority_in, is_lower, has_bad_date, is_zone_kind, is_senior_zone, is_zone_fault, has_zone_fault, parts_in, IsSoundRoll}
+use Rattle.water_model.specs.Rights.{priority, priority_in, is_lower, has_bad_date, is_zone_kind, is_senior_zone}
+use Rattle.water_model.specs.Rights.{is_zone_fault, has_zone_fault, parts_in, IsSoundRoll}
 use Rattle.water_model.specs.Valid.{IsValidRight, IsValidReturn, AreRanked, rank_of_kind, is_diversion_kind, rows_of}
 use Rattle.water_model.specs.declared.types.Basin.{Basin}
 use Rattle.water_model.specs.declared.types.ReturnRow.{ReturnRow}
@@ -20,15 +24,20 @@ use Rattle.water_model.specs.declared.types.Right.{Right}
 use Rattle.water_model.specs.declared.types.RightKind.TheVariants.{Zone}
 use Rattle.basin_gen.specs.Draws.{next, drawn, later}
 use Rattle.basin_gen.specs.Entries.{diversion_at, instream_at, return_at, lower_zone_at, upper_zone_at, zone_at}
-use Rattle.basin_gen.specs.Generator.{generated, diversions_of, instreams_of, zones_of, before_rights, before_zones, draws_of_turns, turn_of_diversion}
+use Rattle.basin_gen.specs.Generator.{generated, diversions_of, instreams_of, zones_of, before_rights, before_zones}
+use Rattle.basin_gen.specs.Generator.{draws_of_turns, turn_of_diversion}
 use Rattle.basin_gen.proofs.DrawLaws.{drawn_below}
 use Rattle.basin_gen.proofs.NameLaws.{numbered_is_name, zone_is_name}
 use Rattle.basin_gen.proofs.NetworkLaws.{same_for_months}
-use Rattle.basin_gen.proofs.Places.{joined_left, joined_right, entry_is, all_of, own_names, none_before, some_entry, one_term, listed}
-use Rattle.basin_gen.proofs.Lists.{IsMade, States, joined_each, joined_pairs, diversion_count, instream_count, zone_count, return_count, diversion_made, instream_made, zone_made, other_made, right_made}
+use Rattle.basin_gen.proofs.Places.{joined_left, joined_right, entry_is, all_of, own_names, none_before, some_entry}
+use Rattle.basin_gen.proofs.Places.{one_term, listed}
+use Rattle.basin_gen.proofs.Lists.{IsMade, States, joined_each, joined_pairs, diversion_count, instream_count}
+use Rattle.basin_gen.proofs.Lists.{zone_count, return_count, diversion_made, instream_made, zone_made, other_made}
+use Rattle.basin_gen.proofs.Lists.{right_made}
 
 -- a zone is the lower or the upper one of its reservoir
-zone_by : (P : Right → Type 0) (z x : ℕ) → (z % 2 ≡ 0 → P (lower_zone_at (z / 2) x)) → (z % 2 ≡ 1 → P (upper_zone_at (z / 2) x)) → P (zone_at z x)
+zone_by : (P : Right → Type 0) (z x : ℕ) → (z % 2 ≡ 0 → P (lower_zone_at (z / 2) x)) →
+    (z % 2 ≡ 1 → P (upper_zone_at (z / 2) x)) → P (zone_at z x)
 unfolding zone_at
 zone_by P z x lower upper = by (z % 2 == 0) refl
   where
@@ -69,30 +78,39 @@ is_zone z x =
 abbrev OtherOrder : Right → Right → Type 0
 OtherOrder r s = r.order ≡ s.order → ⊥
 
-pub orders_apart : (size : ℕ) (s : States) → size ≤ 2000 → (i j : ℕ) → i < j → j < diversion_count size + (instream_count size + zone_count size) →
+pub orders_apart : (size : ℕ) (s : States) → size ≤ 2000 → (i j : ℕ) → i < j →
+    j < diversion_count size + (instream_count size + zone_count size) →
     OtherOrder (right_made size s i) (right_made size s j)
 orders_apart size s few =
-    joined_pairs OtherOrder (diversion_count size) (instream_count size + zone_count size) (diversion_made size s) (other_made size s)
+    joined_pairs OtherOrder (diversion_count size) (instream_count size + zone_count size) (diversion_made size s)
+    (other_made size s)
     (λ i j before within e. let same : i + i / 3 ≡ j + j / 3 = e in omega arith)
-    (λ i j first within. joined_each (OtherOrder (diversion_made size s i)) (instream_count size) (zone_count size) (instream_made size s) (zone_made s)
+    (λ i j first within. joined_each (OtherOrder (diversion_made size s i)) (instream_count size) (zone_count size)
+    (instream_made size s) (zone_made s)
     (λ j l e. let same : i + i / 3 ≡ 4 * j + 3 = e in omega arith)
-    (λ j l e. let z = is_zone j (s.zones j) in let order = z.order in let same : i + i / 3 ≡ (zone_made s j).order = e in omega arith)
+    (λ j l e. let z = is_zone j (s.zones j) in let order = z.order in let same : i + i / 3 ≡ (zone_made s j).order =
+    e in omega arith)
     j within)
     (joined_pairs OtherOrder (instream_count size) (zone_count size) (instream_made size s) (zone_made s)
     (λ i j before within e. let same : 4 * i + 3 ≡ 4 * j + 3 = e in omega arith)
-    (λ i j first within e. let z = is_zone j (s.zones j) in let order = z.order in let same : 4 * i + 3 ≡ (zone_made s j).order = e in omega arith)
+    (λ i j first within e. let z = is_zone j (s.zones j) in let order = z.order in
+    let same : 4 * i + 3 ≡ (zone_made s j).order = e in omega arith)
     (λ i j before within e. let y = is_zone i (s.zones i) in let z = is_zone j (s.zones j) in
-    let one = y.order in let other = z.order in let same : (zone_made s i).order ≡ (zone_made s j).order = e in omega arith))
+    let one = y.order in let other = z.order in let same : (zone_made s i).order ≡ (zone_made s j).order = e in
+    omega arith))
 
 -- how a right is named: by its order, or as a zone
 abbrev IsNamed : Right → Type 0
 IsNamed r = ((letter : ℕ) × (letter < 122) × (r.order < 2 ^ 64) × (r.name ≡ letter ∷ decimal r.order))
-    ⊎ ((j : ℕ) × (odd : ℕ) × (j < 2 ^ 64) × (r.order ≡ 10000 + 10000 * odd + j) × (r.name ≡ 122 ∷ decimal j ++ (97 + odd) ∷ []))
+    ⊎ ((j : ℕ) × (odd : ℕ) × (j < 2 ^ 64) × (r.order ≡ 10000 + 10000 * odd + j) ×
+    (r.name ≡ 122 ∷ decimal j ++ (97 + odd) ∷ []))
 
 last_equal : (xs ys : List ℕ) (a c : ℕ) → xs ++ a ∷ [] ≡ ys ++ c ∷ [] → (xs ≡ ys) × (a ≡ c)
 last_equal [] [] a c e = let same : a ≡ c = cc in (refl, same)
-last_equal [] (y ∷ ys) a c e = let tails : [] ≡ ys ++ c ∷ [] = cc in let len = ap length tails ∙ length-append ys (c ∷ []) in absurd (omega arith)
-last_equal (x ∷ xs) [] a c e = let tails : xs ++ a ∷ [] ≡ [] = cc in let len = sym (length-append xs (a ∷ [])) ∙ ap length tails in absurd (omega arith)
+last_equal [] (y ∷ ys) a c e = let tails : [] ≡ ys ++ c ∷ [] = cc in let len =
+    ap length tails ∙ length-append ys (c ∷ []) in absurd (omega arith)
+last_equal (x ∷ xs) [] a c e = let tails : xs ++ a ∷ [] ≡ [] = cc in let len =
+    sym (length-append xs (a ∷ [])) ∙ ap length tails in absurd (omega arith)
 last_equal (x ∷ xs) (y ∷ ys) a c e =
     let heads : x ≡ y = cc in
     let tails : xs ++ a ∷ [] ≡ ys ++ c ∷ [] = cc in
@@ -111,7 +129,8 @@ same_order r t r_named t_named e = elim r_named [
   | inr a ↦ elim t_named [
     | inl c ↦ (let names : 122 ∷ decimal a.0 ++ (97 + a.1) ∷ [] ≡ c.0 ∷ decimal t.order = sym a.4 ∙ e ∙ c.3 in
         let heads : 122 ≡ c.0 = cc in absurd (omega (arith, c.1)))
-    | inr c ↦ (let names : 122 ∷ decimal a.0 ++ (97 + a.1) ∷ [] ≡ 122 ∷ decimal c.0 ++ (97 + c.1) ∷ [] = sym a.4 ∙ e ∙ c.4 in
+    | inr c ↦
+        (let names : 122 ∷ decimal a.0 ++ (97 + a.1) ∷ [] ≡ 122 ∷ decimal c.0 ++ (97 + c.1) ∷ [] = sym a.4 ∙ e ∙ c.4 in
         let tails : decimal a.0 ++ (97 + a.1) ∷ [] ≡ decimal c.0 ++ (97 + c.1) ∷ [] = cc in
         let parts = last_equal (decimal a.0) (decimal c.0) (97 + a.1) (97 + c.1) tails in
         let number : a.0 ≡ c.0 = decimal_injective a.0 c.0 a.2 c.2 parts.0 in
@@ -119,27 +138,34 @@ same_order r t r_named t_named e = elim r_named [
   ]
 ]
 
-right_named : (size : ℕ) (s : States) → size ≤ 2000 → (i : ℕ) → i < diversion_count size + (instream_count size + zone_count size) → IsNamed (right_made size s i)
+right_named : (size : ℕ) (s : States) → size ≤ 2000 → (i : ℕ) →
+    i < diversion_count size + (instream_count size + zone_count size) → IsNamed (right_made size s i)
 right_named size s few =
-    joined_each IsNamed (diversion_count size) (instream_count size + zone_count size) (diversion_made size s) (other_made size s)
+    joined_each IsNamed (diversion_count size) (instream_count size + zone_count size) (diversion_made size s)
+    (other_made size s)
     (λ i l. inl (100, omega arith, omega arith, refl))
     (joined_each IsNamed (instream_count size) (zone_count size) (instream_made size s) (zone_made s)
     (λ i l. inl (115, omega arith, omega arith, refl))
     (λ i l. let z = is_zone i (s.zones i) in inr (i / 2, i % 2, omega arith, z.order, z.name)))
 
 pub rights_own : (b : Basin) (size : ℕ) (s : States) → size ≤ 2000 → IsMade b size s →
-    (i j : ℕ) → i < j → j < length b.rights → of_entry b.rights i (λ r. r.name) [] ≢ of_entry b.rights j (λ r. r.name) []
+    (i j : ℕ) → i < j → j < length b.rights →
+    of_entry b.rights i (λ r. r.name) [] ≢ of_entry b.rights j (λ r. r.name) []
 rights_own b size s few made =
-    own_names b.rights (diversion_count size + (instream_count size + zone_count size)) (right_made size s) made.rights (λ r. r.name) []
+    own_names b.rights (diversion_count size + (instream_count size + zone_count size)) (right_made size s) made.rights
+    (λ r. r.name) []
     (λ i j before within e. orders_apart size s few i j before within
-    (same_order (right_made size s i) (right_made size s j) (right_named size s few i (omega arith)) (right_named size s few j within) e))
+    (same_order (right_made size s i) (right_made size s j) (right_named size s few i (omega arith))
+    (right_named size s few j within) e))
 
 -- no two rights have one priority
 pub priorities_apart : (b : Basin) (size : ℕ) (s : States) → size ≤ 2000 → IsMade b size s →
     (i j : ℕ) → i < j → j < length b.rights → priority_in b.rights i ≢ priority_in b.rights j
 priorities_apart b size s few made =
-    own_names b.rights (diversion_count size + (instream_count size + zone_count size)) (right_made size s) made.rights priority []
-    (λ i j before within e. orders_apart size s few i j before within (last (right_made size s i) (right_made size s j) e))
+    own_names b.rights (diversion_count size + (instream_count size + zone_count size)) (right_made size s) made.rights
+    priority []
+    (λ i j before within e. orders_apart size s few i j before within
+    (last (right_made size s i) (right_made size s j) e))
   where
     last : (r t : Right) → priority r ≡ priority t → r.order ≡ t.order
     last r t e = cc
@@ -151,7 +177,8 @@ new_year year from to =
     let january : days_in year 1 ≡ 31 = days_in-days_in_month year 1 (omega arith) (omega arith) in
     tests year (days_in year 1) from to january
   where
-    tests : (y days : ℕ) → 1 ≤ y → y ≤ 2999 → days ≡ 31 → (nat_le 1 y && nat_le y 2999) && (nat_le 1 1 && nat_le 1 12) && (nat_le 1 1 && nat_le 1 days) ≡ true
+    tests : (y days : ℕ) → 1 ≤ y → y ≤ 2999 → days ≡ 31 →
+        (nat_le 1 y && nat_le y 2999) && (nat_le 1 1 && nat_le 1 12) && (nat_le 1 1 && nat_le 1 days) ≡ true
     tests y days a c e = grind (arith, nat_tests)
 
 abbrev HasDay : Right → Type 0
@@ -160,9 +187,11 @@ HasDay r = has_bad_date r ≡ false
 drawn_year : (x : ℕ) → is_date (record { year = 1850 + drawn x 100; month = 1; day = 1 }) ≡ true
 drawn_year x = let below = drawn_below x 100 (omega arith) in new_year (1850 + drawn x 100) (omega arith) (omega arith)
 
-right_dated : (size : ℕ) (s : States) (i : ℕ) → i < diversion_count size + (instream_count size + zone_count size) → HasDay (right_made size s i)
+right_dated : (size : ℕ) (s : States) (i : ℕ) → i < diversion_count size + (instream_count size + zone_count size) →
+    HasDay (right_made size s i)
 right_dated size s =
-    joined_each HasDay (diversion_count size) (instream_count size + zone_count size) (diversion_made size s) (other_made size s)
+    joined_each HasDay (diversion_count size) (instream_count size + zone_count size) (diversion_made size s)
+    (other_made size s)
     (λ d l. ap not (drawn_year (next (s.diversions d))))
     (joined_each HasDay (instream_count size) (zone_count size) (instream_made size s) (zone_made s)
     (λ j l. ap not (drawn_year (next (s.instreams j))))
@@ -174,7 +203,8 @@ right_dated size s =
 first_right : (size : ℕ) (s : States) (i : ℕ) → i < diversion_count size → right_made size s i ≡ diversion_made size s i
 first_right size s i l = joined_left (diversion_count size) (diversion_made size s) (other_made size s) i l
 
-next_right : (size : ℕ) (s : States) (i : ℕ) → diversion_count size ≤ i → i - diversion_count size < instream_count size →
+next_right : (size : ℕ) (s : States) (i : ℕ) → diversion_count size ≤ i →
+    i - diversion_count size < instream_count size →
     right_made size s i ≡ instream_made size s (i - diversion_count size)
 next_right size s i l m =
     joined_right (diversion_count size) (diversion_made size s) (other_made size s) i l
@@ -183,7 +213,8 @@ next_right size s i l m =
 abbrev zone_number : ℕ → ℕ → ℕ
 zone_number size i = i - diversion_count size - instream_count size
 
-last_right : (size : ℕ) (s : States) (i : ℕ) → diversion_count size ≤ i → instream_count size ≤ i - diversion_count size →
+last_right : (size : ℕ) (s : States) (i : ℕ) → diversion_count size ≤ i →
+    instream_count size ≤ i - diversion_count size →
     right_made size s i ≡ zone_made s (zone_number size i)
 last_right size s i l m =
     joined_right (diversion_count size) (diversion_made size s) (other_made size s) i l
@@ -199,7 +230,8 @@ other_zone y z l = by (y / 2 == z / 2) (1 + y % 2 == 1 + z % 2) refl refl
     by : (p q : Bool) → (y / 2 == z / 2) ≡ p → (1 + y % 2 == 1 + z % 2) ≡ q → p && q ≡ false
     by false q a c = refl
     by true false a c = refl
-    by true true a c = let h = equal (y / 2) (z / 2) a in let k = equal (1 + y % 2) (1 + z % 2) c in absurd (omega arith)
+    by true true a c = let h = equal (y / 2) (z / 2) a in let k = equal (1 + y % 2) (1 + z % 2) c in
+        absurd (omega arith)
 
 -- of the rights before zone z none is a zone of its reservoir and level
 no_such_zone : (size : ℕ) (s : States) (z k : ℕ) → k < diversion_count size + instream_count size + z →
@@ -220,13 +252,15 @@ lower_is_senior : (y z x w : ℕ) → z ≡ y + 1 → z % 2 ≡ 1 →
 lower_is_senior y z x w e odd =
     let lower = is_zone y x in
     let upper = is_zone z w in
-    let is_it : is_zone_kind (z / 2) (1 + z % 2 - 1) (zone_at y x).kind ≡ (y / 2 == z / 2 && 1 + y % 2 == 1 + z % 2 - 1) =
+    let is_it : is_zone_kind (z / 2) (1 + z % 2 - 1)
+    (zone_at y x).kind ≡ (y / 2 == z / 2 && 1 + y % 2 == 1 + z % 2 - 1) =
     ap (is_zone_kind (z / 2) (1 + z % 2 - 1)) lower.kind in
     let senior : is_lower (priority (zone_at y x)) (priority (zone_at z w)) ≡ true =
     ap (λ (p : List ℕ). is_lower p (priority (zone_at z w))) lower.priority
     ∙ ap (λ (p : List ℕ). is_lower ((1880 + 60 * (y % 2)) ∷ 1 ∷ 1 ∷ (zone_at y x).order ∷ []) p) upper.priority
     ∙ or_left _ _ (less (1880 + 60 * (y % 2)) (1880 + 60 * (z % 2)) (omega arith)) in
-    both _ _ (is_it ∙ both _ _ (equal (y / 2) (z / 2) (omega arith)) (equal (1 + y % 2) (1 + z % 2 - 1) (omega arith))) senior
+    both _ _ (is_it ∙ both _ _ (equal (y / 2) (z / 2) (omega arith)) (equal (1 + y % 2) (1 + z % 2 - 1) (omega arith)))
+    senior
   where
     equal : (n m : ℕ) → n ≡ m → (n == m) ≡ true
     equal n m h = grind (arith, nat_tests)
@@ -246,12 +280,14 @@ zone_is_fine : (b : Basin) (size : ℕ) (s : States) → IsMade b size s → (i 
 zone_is_fine b size s made i z e l =
     let is = is_zone z (s.zones z) in
     let none : list_any (λ r. is_zone_kind (z / 2) (1 + z % 2) r.kind) (take i b.rights) ≡ false =
-    none_before (λ r. is_zone_kind (z / 2) (1 + z % 2) r.kind) b.rights (diversion_count size + (instream_count size + zone_count size)) (right_made size s) i
+    none_before (λ r. is_zone_kind (z / 2) (1 + z % 2) r.kind) b.rights
+    (diversion_count size + (instream_count size + zone_count size)) (right_made size s) i
     (omega arith) made.rights (λ k m. no_such_zone size s z k (omega arith)) in
     ap (λ k. is_zone_fault b.rights (take i b.rights) (priority (zone_made s z)) k) is.kind
     ∙ by_level (z % 2) _ _ none refl (λ odd. below odd)
   where
-    by_level : (odd : ℕ) (repeated has : Bool) → repeated ≡ false → z % 2 ≡ odd → (z % 2 ≡ 1 → has ≡ true) → repeated || (nat_lt 1 (1 + odd) && not has) ≡ false
+    by_level : (odd : ℕ) (repeated has : Bool) → repeated ≡ false → z % 2 ≡ odd → (z % 2 ≡ 1 → has ≡ true) →
+        repeated || (nat_lt 1 (1 + odd) && not has) ≡ false
     by_level odd repeated has none same lower = elim (cases_lt 0 odd) [
       | inl some ↦ rw (none, lower (omega arith)) (and_false (nat_lt 1 (1 + odd)))
       | inr even ↦ rw (none, not_less 1 (1 + odd) (omega arith)) refl
@@ -267,21 +303,27 @@ zone_is_fine b size s made i z e l =
     below : z % 2 ≡ 1 → list_any (is_senior_zone (z / 2) (1 + z % 2 - 1) (priority (zone_made s z))) b.rights ≡ true
     below odd =
         let at : slice_get b.rights (i - 1) ≡ Some (right_made size s (i - 1)) = made.rights.at (i - 1) (omega arith) in
-        let which : right_made size s (i - 1) ≡ zone_made s (zone_number size (i - 1)) = last_right size s (i - 1) (omega arith) (omega arith) in
-        some_entry (is_senior_zone (z / 2) (1 + z % 2 - 1) (priority (zone_made s z))) b.rights (i - 1) (right_made size s (i - 1)) at
+        let which : right_made size s (i - 1) ≡ zone_made s (zone_number size (i - 1)) =
+        last_right size s (i - 1) (omega arith) (omega arith) in
+        some_entry (is_senior_zone (z / 2) (1 + z % 2 - 1) (priority (zone_made s z))) b.rights (i - 1)
+        (right_made size s (i - 1)) at
         (ap (is_senior_zone (z / 2) (1 + z % 2 - 1) (priority (zone_made s z))) which
-        ∙ lower_is_senior (zone_number size (i - 1)) z (s.zones (zone_number size (i - 1))) (s.zones z) (omega arith) odd)
+        ∙ lower_is_senior (zone_number size (i - 1)) z (s.zones (zone_number size (i - 1))) (s.zones z) (omega arith)
+        odd)
 
 -- zones stand in order
 no_zone_fault : (b : Basin) (size : ℕ) (s : States) → IsMade b size s → (i : ℕ) →
     i < diversion_count size + (instream_count size + zone_count size) → has_zone_fault b.rights i ≡ false
 no_zone_fault b size s made i l =
-    entry_is b.rights (diversion_count size + (instream_count size + zone_count size)) (right_made size s) made.rights (fault_at b i) false i l
+    entry_is b.rights (diversion_count size + (instream_count size + zone_count size)) (right_made size s) made.rights
+    (fault_at b i) false i l
     ∙ elim (cases_lt i (diversion_count size)) [
       | inl first ↦ ap (fault_at b i) (first_right size s i first)
       | inr behind ↦ elim (cases_lt (i - diversion_count size) (instream_count size)) [
         | inl second ↦ ap (fault_at b i) (next_right size s i behind second)
-        | inr third ↦ ap (fault_at b i) (last_right size s i behind third) ∙ zone_is_fine b size s made i (zone_number size i) (omega arith) (omega arith)
+        | inr third ↦
+            ap (fault_at b i) (last_right size s i behind third)
+            ∙ zone_is_fine b size s made i (zone_number size i) (omega arith) (omega arith)
       ]
     ]
 
@@ -291,16 +333,21 @@ one_row : (b : Basin) (size : ℕ) (s : States) → IsMade b size s → (right m
     total (length b.returns) (λ k. of_entry b.returns k (λ row. if row.right == right then amount row else 0) 0) ≤ most
 one_row b size s made right most amount small =
     one_term (length b.returns) (λ k. of_entry b.returns k (λ row. if row.right == right then amount row else 0) 0) most
-    (λ k l. subst (λ n. n ≤ most) (sym (term k l)) (at_most (3 * k == right) (amount (return_at size (3 * k) (s.returns k))) (small k)))
+    (λ k l. subst (λ n. n ≤ most) (sym (term k l))
+    (at_most (3 * k == right) (amount (return_at size (3 * k) (s.returns k))) (small k)))
     (λ i j before l. elim (cases_Bool (3 * i == right)) [
-      | inl here ↦ inr (term j l ∙ other (3 * j == right) _ (not_equal j (λ e. let same = equal (3 * i) right here in omega arith)))
+      | inl here ↦
+          inr (term j l
+          ∙ other (3 * j == right) _ (not_equal j (λ e. let same = equal (3 * i) right here in omega arith)))
       | inr none ↦ inl (term i (omega arith) ∙ other (3 * i == right) _ none)
     ])
   where
     term : (k : ℕ) → k < length b.returns →
-        of_entry b.returns k (λ row. if row.right == right then amount row else 0) 0 ≡ (if 3 * k == right then amount (return_at size (3 * k) (s.returns k)) else 0)
+        of_entry b.returns k (λ row. if row.right == right then amount row else 0)
+        0 ≡ (if 3 * k == right then amount (return_at size (3 * k) (s.returns k)) else 0)
     term k l = let len = made.returns.count in
-        entry_is b.returns (return_count size) (λ j. return_at size (3 * j) (s.returns j)) made.returns (λ row. if row.right == right then amount row else 0) 0 k (omega arith)
+        entry_is b.returns (return_count size) (λ j. return_at size (3 * j) (s.returns j)) made.returns
+        (λ row. if row.right == right then amount row else 0) 0 k (omega arith)
 
     at_most : (t : Bool) (x : ℕ) → x ≤ most → (if t then x else 0) ≤ most
     at_most true x h = h
@@ -320,17 +367,21 @@ one_row b size s made right most amount small =
 
 few_parts : (b : Basin) (size : ℕ) (s : States) → IsMade b size s → (right : ℕ) → parts_in b.returns right ≤ 10000
 few_parts b size s made right =
-    one_row b size s made right 10000 (λ row. row.part) (λ k. let below = drawn_below (next (s.returns k)) 8000 (omega arith) in omega arith)
+    one_row b size s made right 10000 (λ row. row.part) (λ k. let below =
+    drawn_below (next (s.returns k)) 8000 (omega arith) in omega arith)
 
 pub few_rows : (b : Basin) (size : ℕ) (s : States) → IsMade b size s → (right : ℕ) → rows_of b right ≤ 8
 few_rows b size s made right =
     let one = one_row b size s made right 1 (λ row. 1) (λ k. omega arith) in
-    let same : rows_of b right ≡ total (length b.returns) (λ k. of_entry b.returns k (λ row. if row.right == right then 1 else 0) 0) =
+    let same : rows_of b right ≡ total (length b.returns)
+    (λ k. of_entry b.returns k (λ row. if row.right == right then 1 else 0) 0) =
     total_same (length b.returns) (λ k. if of_entry b.returns k (λ row. row.right == right) false then 1 else 0)
-    (λ k. of_entry b.returns k (λ row. if row.right == right then 1 else 0) 0) (λ k l. by_entry (slice_get b.returns k)) in
+    (λ k. of_entry b.returns k (λ row. if row.right == right then 1 else 0) 0)
+    (λ k l. by_entry (slice_get b.returns k)) in
     omega arith
   where
-    by_entry : (o : Option ReturnRow) → ◌≡◌ {A = ℕ} (if unwrap_or (option_map (λ (row : ReturnRow). row.right == right) o) false then 1 else 0)
+    by_entry : (o : Option ReturnRow) →
+        ◌≡◌ {A = ℕ} (if unwrap_or (option_map (λ (row : ReturnRow). row.right == right) o) false then 1 else 0)
         (unwrap_or (option_map (λ (row : ReturnRow). if row.right == right then 1 else 0) o) 0)
     by_entry None = refl
     by_entry (Some row) = refl
@@ -338,7 +389,8 @@ few_rows b size s made right =
 pub roll_sound : (b : Basin) (size : ℕ) (s : States) → size ≤ 2000 → IsMade b size s → IsSoundRoll b.rights b.returns
 roll_sound b size s few made =
     let len = made.rights.count in record {
-      dates = λ r l. entry_is b.rights (diversion_count size + (instream_count size + zone_count size)) (right_made size s) made.rights has_bad_date false r (omega arith)
+      dates = λ r l. entry_is b.rights (diversion_count size + (instream_count size + zone_count size))
+          (right_made size s) made.rights has_bad_date false r (omega arith)
           ∙ right_dated size s r (omega arith);
       strict = priorities_apart b size s few made;
       zones = λ r l. no_zone_fault b size s made r (omega arith);
@@ -353,7 +405,8 @@ ranked_less : (least rank : ℕ) (rights : List Right) → least ≤ rank → Ar
 ranked_less least rank [] h ranked = tt
 ranked_less least rank (r ∷ rights) h ranked = let low = ranked.0 in (omega arith, ranked.1)
 
-ranked_front : (least rank : ℕ) (front rights : List Right) → least ≤ rank → All (HasRank rank) front → AreRanked rank rights → AreRanked least (front ++ rights)
+ranked_front : (least rank : ℕ) (front rights : List Right) → least ≤ rank → All (HasRank rank) front →
+    AreRanked rank rights → AreRanked least (front ++ rights)
 ranked_front least rank [] rights h all ranked = ranked_less least rank rights h ranked
 ranked_front least rank (r ∷ front) rights h all ranked =
     let here : rank_of_kind r.kind ≡ rank = all 0 r (omega arith) in (
@@ -366,21 +419,30 @@ pub rights_ranked : (number size : ℕ) → AreRanked 0 (generated number size).
 unfolding generated diversions_of instreams_of zones_of
 rights_ranked number size =
     let x = before_rights number size in
-    ranked_front 0 0 _ _ (omega arith) (all_of (HasRank 0) _ _ _ (listed _ (λ d. diversion_at size (turn_of_diversion d) (later x (draws_of_turns (turn_of_diversion d))))) (λ i l. refl))
-    (ranked_front 0 1 _ _ (omega arith) (all_of (HasRank 1) _ _ _ (listed _ (λ j. instream_at size (4 * j + 3) (later x (draws_of_turns (4 * j + 3))))) (λ i l. refl))
-    (subst (AreRanked 1) (append-nil (zones_of size (before_zones number size))) (ranked_front 1 2 _ [] (omega arith) zones tt)))
+    ranked_front 0 0 _ _ (omega arith)
+    (all_of (HasRank 0) _ _ _
+    (listed _ (λ d. diversion_at size (turn_of_diversion d) (later x (draws_of_turns (turn_of_diversion d)))))
+    (λ i l. refl))
+    (ranked_front 0 1 _ _ (omega arith)
+    (all_of (HasRank 1) _ _ _ (listed _ (λ j. instream_at size (4 * j + 3) (later x (draws_of_turns (4 * j + 3)))))
+    (λ i l. refl))
+    (subst (AreRanked 1) (append-nil (zones_of size (before_zones number size)))
+    (ranked_front 1 2 _ [] (omega arith) zones tt)))
   where
     zones : All (HasRank 2) (zones_of size (before_zones number size))
     zones = all_of (HasRank 2) _ _ _ (listed (zone_count size) (λ z. zone_at z (later (before_zones number size) z)))
         (λ z l. let is = is_zone z (later (before_zones number size) z) in ap rank_of_kind is.kind)
 
-pub rights_valid : (b : Basin) (size : ℕ) (s : States) → 2 ≤ size → size ≤ 2000 → IsMade b size s → All (λ r. IsValidRight b r) b.rights
+pub rights_valid : (b : Basin) (size : ℕ) (s : States) → 2 ≤ size → size ≤ 2000 → IsMade b size s →
+    All (λ r. IsValidRight b r) b.rights
 rights_valid b size s some few made =
     let nodes = made.nodes.count in
     let links = made.links.count in
     let reservoirs = made.reservoirs.count in
-    all_of (λ r. IsValidRight b r) b.rights (diversion_count size + (instream_count size + zone_count size)) (right_made size s) made.rights
-    (joined_each (λ r. IsValidRight b r) (diversion_count size) (instream_count size + zone_count size) (diversion_made size s) (other_made size s)
+    all_of (λ r. IsValidRight b r) b.rights (diversion_count size + (instream_count size + zone_count size))
+    (right_made size s) made.rights
+    (joined_each (λ r. IsValidRight b r) (diversion_count size) (instream_count size + zone_count size)
+    (diversion_made size s) (other_made size s)
     (λ d l. let node = drawn_below (s.diversions d) size (omega arith) in
     let want = drawn_below (next (next (s.diversions d))) 300 (omega arith) in record {
       name = numbered_is_name 100 (d + d / 3) refl (omega arith);
@@ -418,18 +480,23 @@ rights_valid b size s some few made =
       series = λ e. absurd (false≢true e);
     }))))
 
-pub returns_valid : (b : Basin) (size : ℕ) (s : States) → 2 ≤ size → size ≤ 2000 → IsMade b size s → All (λ row. IsValidReturn b row) b.returns
+pub returns_valid : (b : Basin) (size : ℕ) (s : States) → 2 ≤ size → size ≤ 2000 → IsMade b size s →
+    All (λ row. IsValidReturn b row) b.returns
 returns_valid b size s some few made =
     let nodes = made.nodes.count in
     let rights = made.rights.count in
-    all_of (λ row. IsValidReturn b row) b.returns (return_count size) (λ j. return_at size (3 * j) (s.returns j)) made.returns
+    all_of (λ row. IsValidReturn b row) b.returns (return_count size) (λ j. return_at size (3 * j) (s.returns j))
+    made.returns
     (λ j l. let node = drawn_below (s.returns j) size (omega arith) in
     let part = drawn_below (next (s.returns j)) 8000 (omega arith) in
     let lag = drawn_below (next (next (s.returns j))) 12 (omega arith) in
     let own : 3 * j < diversion_count size = omega arith in record {
       right = omega arith;
-      diversion = entry_is b.rights (diversion_count size + (instream_count size + zone_count size)) (right_made size s) made.rights
-          (λ r. is_diversion_kind r.kind) false (3 * j) (omega arith) ∙ ap (λ r. is_diversion_kind r.kind) (first_right size s (3 * j) own);
+      diversion =
+          entry_is b.rights (diversion_count size + (instream_count size + zone_count size)) (right_made size s)
+          made.rights
+          (λ r. is_diversion_kind r.kind) false (3 * j) (omega arith)
+          ∙ ap (λ r. is_diversion_kind r.kind) (first_right size s (3 * j) own);
       node = omega arith;
       part = (omega arith, omega arith);
       lag = (omega arith, omega arith);
@@ -439,17 +506,21 @@ returns_valid b size s some few made =
 abbrev HasWants : Right → Type 0
 HasWants r = r.series ≡ false
 
-pub right_has_wants : (size : ℕ) (s : States) (i : ℕ) → i < diversion_count size + (instream_count size + zone_count size) → (right_made size s i).series ≡ false
+pub right_has_wants : (size : ℕ) (s : States) (i : ℕ) →
+    i < diversion_count size + (instream_count size + zone_count size) → (right_made size s i).series ≡ false
 right_has_wants size s =
-    joined_each HasWants (diversion_count size) (instream_count size + zone_count size) (diversion_made size s) (other_made size s) (λ d l. refl)
+    joined_each HasWants (diversion_count size) (instream_count size + zone_count size) (diversion_made size s)
+    (other_made size s) (λ d l. refl)
     (joined_each HasWants (instream_count size) (zone_count size) (instream_made size s) (zone_made s) (λ j l. refl)
     (λ z l. zone_by HasWants z (s.zones z) (λ h. refl) (λ h. refl)))
 
 -- no right has a volume
 pub no_volumes : (b : Basin) (size : ℕ) (s : States) → IsMade b size s → All (λ r. r.volume ≡ None) b.rights
 no_volumes b size s made =
-    all_of (λ r. r.volume ≡ None) b.rights (diversion_count size + (instream_count size + zone_count size)) (right_made size s) made.rights
-    (joined_each (λ r. r.volume ≡ None) (diversion_count size) (instream_count size + zone_count size) (diversion_made size s) (other_made size s)
+    all_of (λ r. r.volume ≡ None) b.rights (diversion_count size + (instream_count size + zone_count size))
+    (right_made size s) made.rights
+    (joined_each (λ r. r.volume ≡ None) (diversion_count size) (instream_count size + zone_count size)
+    (diversion_made size s) (other_made size s)
     (λ d l. refl)
     (joined_each (λ r. r.volume ≡ None) (instream_count size) (zone_count size) (instream_made size s) (zone_made s)
     (λ j l. refl)
@@ -458,8 +529,10 @@ no_volumes b size s made =
 -- and none has its wants in the series
 pub not_in_series : (b : Basin) (size : ℕ) (s : States) → IsMade b size s → All (λ r. r.series ≡ false) b.rights
 not_in_series b size s made =
-    all_of (λ r. r.series ≡ false) b.rights (diversion_count size + (instream_count size + zone_count size)) (right_made size s) made.rights
-    (joined_each (λ r. r.series ≡ false) (diversion_count size) (instream_count size + zone_count size) (diversion_made size s) (other_made size s)
+    all_of (λ r. r.series ≡ false) b.rights (diversion_count size + (instream_count size + zone_count size))
+    (right_made size s) made.rights
+    (joined_each (λ r. r.series ≡ false) (diversion_count size) (instream_count size + zone_count size)
+    (diversion_made size s) (other_made size s)
     (λ d l. refl)
     (joined_each (λ r. r.series ≡ false) (instream_count size) (zone_count size) (instream_made size s) (zone_made s)
     (λ j l. refl)

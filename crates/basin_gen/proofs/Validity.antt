@@ -8,8 +8,10 @@ use Rattle.basin_gen.specs.Entries.{node_at}
 use Rattle.basin_gen.specs.Generator.{generated}
 use Rattle.basin_gen.proofs.Lists.{states_of, generated_made, right_made, diversion_count, instream_count, zone_count}
 use Rattle.basin_gen.proofs.Places.{entry_is}
-use Rattle.basin_gen.proofs.NetworkLaws.{nodes_valid, links_valid, open_canals, reservoirs_valid, nodes_own, links_own, reservoirs_own, network_sound}
-use Rattle.basin_gen.proofs.RightsLaws.{rights_valid, no_volumes, not_in_series, returns_valid, rights_own, roll_sound, rights_ranked, few_rows, right_has_wants}
+use Rattle.basin_gen.proofs.NetworkLaws.{nodes_valid, links_valid, open_canals, reservoirs_valid, nodes_own, links_own}
+use Rattle.basin_gen.proofs.NetworkLaws.{reservoirs_own, network_sound}
+use Rattle.basin_gen.proofs.RightsLaws.{rights_valid, no_volumes, not_in_series, returns_valid, rights_own, roll_sound}
+use Rattle.basin_gen.proofs.RightsLaws.{rights_ranked, few_rows, right_has_wants}
 
 pub generated_valid : (number size : ℕ) → 2 ≤ size → size ≤ 2000 → IsValidBasin (generated number size)
 unfolding generated
@@ -30,38 +32,60 @@ generated_valid number size some few =
           no_series = not_in_series b size s made;
         };
       };
-      run = record { first = record { year = (omega arith, omega arith); month = (omega arith, omega arith) }; months = (omega arith, omega arith); ends = omega arith };
-      few = record { some_node = omega arith; nodes = omega arith; links = omega arith; rights = omega arith; rows = λ right l. few_rows b size s made right };
+      run = record {
+        first = record { year = (omega arith, omega arith); month = (omega arith, omega arith) };
+        months =
+            (omega arith, omega arith);
+        ends = omega arith;
+      };
+      few = record {
+        some_node = omega arith;
+        nodes = omega arith;
+        links = omega arith;
+        rights = omega arith;
+        rows =
+            λ right l. few_rows b size s made right;
+      };
       nodes = nodes_valid b size s few made;
       links = links_valid b size s few made;
       reservoirs = reservoirs_valid b size s made;
       rights = rights_valid b size s some few made;
       ranked = rights_ranked number size;
       returns = returns_valid b size s some few made;
-      names = record { nodes = nodes_own b size s few made; links = links_own b size s few made; rights = rights_own b size s few made; reservoirs = reservoirs_own b size s made };
+      names = record {
+        nodes = nodes_own b size s few made;
+        links = links_own b size s few made;
+        rights =
+            rights_own b size s few made;
+        reservoirs = reservoirs_own b size s made;
+      };
       network = network_sound b size s made;
       roll = roll_sound b size s few made;
     }
 
 -- no place passes a test
-none_of : (p : ℕ → Bool) (from count : ℕ) → ((k : ℕ) → k < from + count → p k ≡ false) → filter p (numbers_from from count) ≡ []
+none_of : (p : ℕ → Bool) (from count : ℕ) → ((k : ℕ) → k < from + count → p k ≡ false) →
+    filter p (numbers_from from count) ≡ []
 unfolding numbers_from
 none_of p from zero h = refl
 none_of p from (suc count) h = rw (h from (omega arith)) (none_of p (suc from) count (λ k l. h k (omega arith)))
 
-pub no_series : (number size : ℕ) → IsSeriesOf (generated number size) (record { gauged = []; amount = []; wanted = []; want = [] })
+pub no_series : (number size : ℕ) →
+    IsSeriesOf (generated number size) (record { gauged = []; amount = []; wanted = []; want = [] })
 unfolding generated
 no_series number size =
     let b = generated number size in
     let s = states_of number size in
     let made = generated_made number size in record {
       gauged = sym (none_of (λ n. is_gauged b n) 0 (length b.nodes)
-          (λ k l. entry_is b.nodes size (λ i. node_at size i (s.nodes i)) made.nodes (λ n. is_gauged_kind n.inflow) false k (let len = made.nodes.count in omega arith)));
+          (λ k l. entry_is b.nodes size (λ i. node_at size i (s.nodes i)) made.nodes (λ n. is_gauged_kind n.inflow)
+          false k (let len = made.nodes.count in omega arith)));
       amounts = omega arith;
       small_amounts = λ k d l. absurd (omega arith);
       wanted = sym (none_of (λ r. of_entry b.rights r (λ right. right.series) false) 0 (length b.rights)
           (λ k l. let len = made.rights.count in
-          entry_is b.rights (diversion_count size + (instream_count size + zone_count size)) (right_made size s) made.rights (λ right. right.series) false k (omega arith)
+          entry_is b.rights (diversion_count size + (instream_count size + zone_count size)) (right_made size s)
+          made.rights (λ right. right.series) false k (omega arith)
           ∙ right_has_wants size s k (omega arith)));
       wants = omega arith;
       small_wants = λ k d l. absurd (omega arith);

@@ -1,6 +1,7 @@
 -- The entries of a generated basin. Each is made where the generator's number is x, by the draws that it names in turn.
 -- Names begin with n (110), r (114), c (99), d (100), s (115) or z (122); those of zones end with a (97) or b (98).
-use Rattle.std.specs.Prelude.{ℕ, ◌+◌, ◌-◌, ◌/◌, ◌%◌, ◌==◌, min, List, [], ◌∷◌, ◌++◌, replicate, None, false, if◌then◌else◌}
+use Rattle.std.specs.Prelude.{ℕ, ◌+◌, ◌-◌, ◌/◌, ◌%◌, ◌==◌, min, List, [], ◌∷◌, ◌++◌, replicate, None, false}
+use Rattle.std.specs.Prelude.{if◌then◌else◌}
 use Rattle.std.specs.Fmt.{decimal}
 use Rattle.water_model.specs.declared.types.Carry.TheVariants.{River, Canal}
 use Rattle.water_model.specs.declared.types.Inflow.TheVariants.{Monthly}

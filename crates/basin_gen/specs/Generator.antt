@@ -7,7 +7,8 @@ use Rattle.water_model.specs.declared.types.Reservoir.{Reservoir}
 use Rattle.water_model.specs.declared.types.ReturnRow.{ReturnRow}
 use Rattle.water_model.specs.declared.types.Right.{Right}
 use Rattle.basin_gen.specs.Draws.{later, list_of}
-use Rattle.basin_gen.specs.Entries.{node_at, river_at, canal_at, reservoir_at, diversion_at, instream_at, return_at, zone_at}
+use Rattle.basin_gen.specs.Entries.{node_at, river_at, canal_at, reservoir_at, diversion_at, instream_at, return_at}
+use Rattle.basin_gen.specs.Entries.{zone_at}
 
 -- nodes 0, 2, 4, .. take twelve draws each, and the others none
 abbrev pub draws_of_node : ℕ → ℕ
@@ -60,14 +61,17 @@ count_of_returns turns = (turns + 3) / 4
 
 abbrev pub diversions_in : ℕ → ℕ → ℕ → List Right
 diversions_in size x turns =
-    list_of (count_of_diversions turns) (λ d. diversion_at size (turn_of_diversion d) (later x (draws_of_turns (turn_of_diversion d))))
+    list_of (count_of_diversions turns)
+    (λ d. diversion_at size (turn_of_diversion d) (later x (draws_of_turns (turn_of_diversion d))))
 
 abbrev pub instreams_in : ℕ → ℕ → ℕ → List Right
-instreams_in size x turns = list_of (count_of_instreams turns) (λ j. instream_at size (4 * j + 3) (later x (draws_of_turns (4 * j + 3))))
+instreams_in size x turns =
+    list_of (count_of_instreams turns) (λ j. instream_at size (4 * j + 3) (later x (draws_of_turns (4 * j + 3))))
 
 -- of four turns three make a diversion, so that of turn 4 j is diversion 3 j
 abbrev pub returns_in : ℕ → ℕ → ℕ → List ReturnRow
-returns_in size x turns = list_of (count_of_returns turns) (λ j. return_at size (3 * j) (later x (draws_of_turns (4 * j) + 3)))
+returns_in size x turns =
+    list_of (count_of_returns turns) (λ j. return_at size (3 * j) (later x (draws_of_turns (4 * j) + 3)))
 
 unfoldable pub diversions_of : ℕ → ℕ → List Right
 diversions_of size x = diversions_in size x (count_of_turns size)
@@ -110,6 +114,8 @@ generated number size = record {
   nodes = nodes_of size (before_nodes number);
   links = rivers_of size (before_rivers number size) ++ canals_of size (before_canals number size);
   reservoirs = reservoirs_of size (before_reservoirs number size);
-  rights = diversions_of size (before_rights number size) ++ (instreams_of size (before_rights number size) ++ zones_of size (before_zones number size));
+  rights = diversions_of size
+      (before_rights number size) ++ (instreams_of size (before_rights number size) ++ zones_of size
+      (before_zones number size));
   returns = returns_of size (before_rights number size);
 }

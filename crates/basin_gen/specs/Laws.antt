@@ -1,11 +1,13 @@
 -- How many entries and draws there are.
 use Rattle.std.specs.Prelude.{◌≡◌, ℕ, ◌-◌, ◌%◌, ◌≤◌, ◌==◌, false, not, if◌then◌else◌}
 use Rattle.place_sums.specs.Sums.{total, count_where}
-use Rattle.basin_gen.specs.Generator.{draws_of_node, draws_of_nodes, draws_of_turns, count_of_canals, count_of_reservoirs, count_of_diversions, count_of_instreams, count_of_returns, turn_of_diversion}
+use Rattle.basin_gen.specs.Generator.{draws_of_node, draws_of_nodes, draws_of_turns, count_of_canals}
+use Rattle.basin_gen.specs.Generator.{count_of_reservoirs, count_of_diversions, count_of_instreams, count_of_returns}
+use Rattle.basin_gen.specs.Generator.{turn_of_diversion}
 
--- each node but the last whose number passes has a canal or a reservoir; each turn whose number passes makes a diversion, an
--- instream right or a return row; the turn of diversion d is one that makes a diversion, and d turns before it do; the draws
--- before a node or turn are those of all nodes or turns before it
+-- each node but the last whose number passes has a canal or a reservoir; each turn whose number passes makes a
+-- diversion, an instream right or a return row; the turn of diversion d is one that makes a diversion, and d turns
+-- before it do; the draws before a node or turn are those of all nodes or turns before it
 pub record CountsAreOfPlaces : Type 0 where
   pub canals : (size : ℕ) → 1 ≤ size → count_of_canals size ≡ count_where (size - 1) (λ i. i % 4 == 1)
   pub reservoirs : (size : ℕ) → 1 ≤ size → count_of_reservoirs size ≡ count_where (size - 1) (λ i. i % 40 == 20)

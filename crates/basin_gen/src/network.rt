@@ -2,7 +2,8 @@
 ghost use Rattle.std.specs.Prelude.{◌≡◌, ◌+◌, ◌-◌, ◌*◌, ◌<◌, ◌≤◌, ◌++◌, IfOk, OnOk};
 ghost use Rattle.basin_gen.specs.Draws.{next, later};
 ghost use Rattle.basin_gen.specs.Entries.{inflow_at, node_at, node_behind, river_at, canal_at};
-ghost use Rattle.basin_gen.specs.Generator.{nodes_of, rivers_of, canals_of, draws_of_node, draws_of_nodes, count_of_canals};
+ghost use Rattle.basin_gen.specs.Generator.{nodes_of, rivers_of, canals_of, draws_of_node, draws_of_nodes};
+ghost use Rattle.basin_gen.specs.Generator.{count_of_canals};
 
 use crate::draws::Draws;
 use crate::names::numbered;

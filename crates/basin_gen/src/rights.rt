@@ -30,7 +30,8 @@ pub(crate) fn right(name: Name, kind: RightKind, year: u16, order: u32, want: u6
 
 /// A right whose year and want are drawn.
 fn drawn_right(name: Name, kind: RightKind, order: u32, draws: &mut Draws) -> Right
-    ensures value { result ≡ right_of name kind (1850 + drawn draws.old.state 100) order (drawn (next draws.old.state) 300) }
+    ensures value { result ≡ right_of name kind (1850 + drawn draws.old.state 100) order
+        (drawn (next draws.old.state) 300) }
     ensures after { draws.new.state ≡ next (next draws.old.state) }
 {
     let year = 1850 + draws.draw(100) as u16;

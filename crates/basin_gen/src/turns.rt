@@ -20,8 +20,12 @@ pub(crate) struct Made {
 /// Makes the right of turn `k`.
 fn add_right(made: &mut Made, size: u32, k: u32, draws: &mut Draws) -> Result<(), AllocError>
     requires size { 2 ≤ size }
-    ensures diversions { OnOk result (made.new.diversions.items ≡ made.old.diversions.items ++ (if k % 4 == 3 then [] else diversion_at size k draws.old.state ∷ [])) }
-    ensures instreams { OnOk result (made.new.instreams.items ≡ made.old.instreams.items ++ (if k % 4 == 3 then instream_at size k draws.old.state ∷ [] else [])) }
+    ensures diversions { OnOk result
+        (made.new.diversions.items ≡ made.old.diversions.items ++ (if k % 4 == 3 then [] else diversion_at size k
+        draws.old.state ∷ [])) }
+    ensures instreams { OnOk result
+        (made.new.instreams.items ≡ made.old.instreams.items ++ (if k % 4 == 3 then instream_at size k
+        draws.old.state ∷ [] else [])) }
     ensures returns { OnOk result (made.new.returns.items ≡ made.old.returns.items) }
     ensures after { OnOk result (draws.new.state ≡ later draws.old.state 3) }
 {
@@ -42,7 +46,9 @@ fn add_return(
     draws: &mut Draws,
 ) -> Result<(), AllocError>
     requires size { 2 ≤ size }
-    ensures value { OnOk result (returns.new.items ≡ returns.old.items ++ (if k % 4 == 0 then return_at size (3 * (k / 4)) draws.old.state ∷ [] else [])) }
+    ensures value { OnOk result
+        (returns.new.items ≡ returns.old.items ++ (if k % 4 == 0 then return_at size (3 * (k / 4)) draws.old.state ∷ []
+        else [])) }
     ensures after { OnOk result (draws.new.state ≡ later draws.old.state (if k % 4 == 0 then 3 else 0)) }
 {
     if k % 4 == 0 {

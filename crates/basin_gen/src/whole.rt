@@ -2,7 +2,8 @@
 ghost use Rattle.std.specs.Prelude.{◌≡◌, ◌-◌, ◌*◌, ◌<◌, ◌≤◌, ◌++◌, IfOk, OnOk};
 ghost use Rattle.water_model.specs.Valid.{IsValidBasin, IsSeriesOf};
 ghost use Rattle.basin_gen.specs.Draws.{later};
-ghost use Rattle.basin_gen.specs.Generator.{rivers_of, canals_of, diversions_of, instreams_of, returns_of, zones_of, draws_of_turns, count_of_turns, count_of_canals, generated};
+ghost use Rattle.basin_gen.specs.Generator.{rivers_of, canals_of, diversions_of, instreams_of, returns_of, zones_of};
+ghost use Rattle.basin_gen.specs.Generator.{draws_of_turns, count_of_turns, count_of_canals, generated};
 
 use crate::draws::Draws;
 use crate::network::{add_canals, nodes, rivers};
@@ -17,8 +18,10 @@ use water_text::month::Month;
 fn links(alloc: Global, size: u32, draws: &mut Draws) -> Result<Vec<Link>, AllocError>
     requires some { 1 ≤ size }
     requires size { size ≤ 2000 }
-    ensures value { IfOk result (λ made. made.items ≡ rivers_of size draws.old.state ++ canals_of size (later draws.old.state (size - 1))) }
-    ensures after { OnOk result (draws.new.state ≡ later (later draws.old.state (size - 1)) (2 * count_of_canals size)) }
+    ensures value { IfOk result
+        (λ made. made.items ≡ rivers_of size draws.old.state ++ canals_of size (later draws.old.state (size - 1))) }
+    ensures after { OnOk result
+        (draws.new.state ≡ later (later draws.old.state (size - 1)) (2 * count_of_canals size)) }
 {
     let mut links = rivers(alloc, size, draws)?;
     add_canals(&mut links, size, draws)?;
@@ -78,8 +81,8 @@ fn basin(alloc: Global, number: u32, size: u32) -> Result<Basin, AllocError>
     })
 }
 
-/// The basin of a number with `size` nodes, 2 to 2,000, and its series, which is empty because no node is gauged. The basin is
-/// valid, and one number and size always make the same one. Its run is 60 months from October 1950.
+/// The basin of a number with `size` nodes, 2 to 2,000, and its series, which is empty because no node is gauged. The
+/// basin is valid, and one number and size always make the same one. Its run is 60 months from October 1950.
 ///
 /// `AllocError` comes only where memory runs out, and then nothing is left.
 #[tactic(auto, using(crate::proofs::Validity::generated_valid, crate::proofs::Validity::no_series))]

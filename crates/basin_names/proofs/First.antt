@@ -1,5 +1,6 @@
 -- The first entry of a name.
-use Rattle.std.proofs.Common.{◌≡◌, ℕ, suc, ◌+◌, ◌<◌, ◌≤◌, Bool, true, false, refl, sym, ◌∙◌, arith, List, [], ◌∷◌, length, drop, position, Option, Some, None, is_some, if◌then◌else◌, inl, inr, zero-add}
+use Rattle.std.proofs.Common.{◌≡◌, ℕ, suc, ◌+◌, ◌<◌, ◌≤◌, Bool, true, false, refl, sym, ◌∙◌, arith, List, [], ◌∷◌}
+use Rattle.std.proofs.Common.{length, drop, position, Option, Some, None, is_some, if◌then◌else◌, inl, inr, zero-add}
 use Rattle.std.specs.Prelude.{cond, nat_lt, not, IfSome}
 use Rattle.std.specs.Borrow.{Bor}
 use Rattle.std.specs.List.{position_or_len}
@@ -19,7 +20,8 @@ bytes_eq-sym xs ys =
     elim (cases_Bool (bytes_eq xs ys)) [
       | inl same ↦ same ∙ sym ((bytes_eq-Decides ys xs).1 (sym ((bytes_eq-Decides xs ys).0 same)))
       | inr other ↦ elim (cases_Bool (bytes_eq ys xs)) [
-        | inl same ↦ absurd (false≢true (sym other ∙ (bytes_eq-Decides xs ys).1 (sym ((bytes_eq-Decides ys xs).0 same))))
+        | inl same ↦
+            absurd (false≢true (sym other ∙ (bytes_eq-Decides xs ys).1 (sym ((bytes_eq-Decides ys xs).0 same))))
         | inr same ↦ other ∙ sym same
       ]
     ]
@@ -57,12 +59,17 @@ first_from_is : {X : Type 0} (p : X → Bool) (place : ℕ) (xs : List X) →
 first_from_is p place [] = refl
 first_from_is {X} p place (x ∷ xs) = by_test (p x) (first_from_is p (place + 1) xs)
   where
-    later : (k count : ℕ) → cond (nat_lt k count) (Some (place + 1 + k)) None ≡ cond (nat_lt (1 + k) (suc count)) (Some (place + (1 + k))) None
+    later : (k count : ℕ) →
+        cond (nat_lt k count) (Some (place + 1 + k)) None ≡ cond (nat_lt (1 + k) (suc count)) (Some (place + (1 + k)))
+        None
     later k count = grind (arith, nat_tests)
 
-    by_test : (t : Bool) → first_from p (place + 1) xs ≡ cond (nat_lt (position_or_len p xs) (length xs)) (Some (place + 1 + position_or_len p xs)) None →
+    by_test : (t : Bool) →
+        first_from p (place + 1) xs ≡ cond (nat_lt (position_or_len p xs) (length xs))
+        (Some (place + 1 + position_or_len p xs)) None →
         (if t then Some place else first_from p (place + 1) xs)
-        ≡ cond (nat_lt (if not t then 1 + position_or_len p xs else 0) (suc (length xs))) (Some (place + (if not t then 1 + position_or_len p xs else 0))) None
+        ≡ cond (nat_lt (if not t then 1 + position_or_len p xs else 0) (suc (length xs)))
+        (Some (place + (if not t then 1 + position_or_len p xs else 0))) None
     by_test true h = grind (arith, nat_tests)
     by_test false h = h ∙ later (position_or_len p xs) (length xs)
 
@@ -75,7 +82,8 @@ pub all_placed : {X : Type 0} (p : X → Bool) (xs : List X) (i : ℕ) (kept : O
 all_placed p xs i kept l h = sym (or_none kept) ∙ (rw (drop_all i xs l) at h) ∙ first_is_position p xs
 
 -- what is found is within the list
-pub within : {X : Type 0} (p : X → Bool) (xs : List X) (o : Option ℕ) → o ≡ position p xs → IfSome o (λ i. i < length xs)
+pub within : {X : Type 0} (p : X → Bool) (xs : List X) (o : Option ℕ) → o ≡ position p xs →
+    IfSome o (λ i. i < length xs)
 within p xs None e = tt
 within p [] (Some i) e = cc
 within p (x ∷ xs) (Some i) e = (position-Some p (x ∷ xs) i x (sym e)).0

@@ -1,5 +1,5 @@
-//! The nodes and the rights of a basin by their names. A map of them costs the sum of the names once, and each look-up then
-//! the length of the name that is sought.
+//! The nodes and the rights of a basin by their names. A map of them costs the sum of the names once, and each look-up
+//! then the length of the name that is sought.
 #![tactic(auto)]
 
 mod nodes;

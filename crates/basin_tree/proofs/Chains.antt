@@ -1,5 +1,6 @@
 -- Lists and keys in the code beside those of the definitions.
-use Rattle.std.proofs.Common.{◌≡◌, ℕ, ◌<◌, List, [], ◌∷◌, length, map, Bool, true, nat_le, ◌&&◌, ◌==◌, not, String, Global, string_bytes, Some, refl, ap, arith}
+use Rattle.std.proofs.Common.{◌≡◌, ℕ, ◌<◌, List, [], ◌∷◌, length, map, Bool, true, nat_le, ◌&&◌, ◌==◌, not, String}
+use Rattle.std.proofs.Common.{Global, string_bytes, Some, refl, ap, arith}
 use Rattle.std.specs.List.{list_any, list_all}
 use Rattle.std.specs.Map.{keys_of as entry_keys}
 use Rattle.std.specs.Option.{option_map_or}
@@ -25,9 +26,12 @@ names_of_keys [] = refl
 names_of_keys (e ∷ es) = ap (λ names. string_bytes e.0 ∷ names) (names_of_keys es)
 
 -- the unknown keys of a table, by the keys of its map
-pub unknown_by : (format : ℕ) (keys : List Key) (rows : List KeyRow) (es : List (String Global × Value)) → map row_of keys ≡ rows →
+pub unknown_by : (format : ℕ) (keys : List Key) (rows : List KeyRow) (es : List (String Global × Value)) →
+    map row_of keys ≡ rows →
     list_any (λ name. not (is_known format rows name)) (names_in (members_view es))
-    ≡ list_any (λ name. not (list_any (λ key. nat_le key.since format && bytes_eq (string_bytes name) key.name.now) keys)) (entry_keys es)
+    ≡ list_any
+    (λ name. not (list_any (λ key. nat_le key.since format && bytes_eq (string_bytes name) key.name.now) keys))
+    (entry_keys es)
 unknown_by format keys rows es e =
     rw (← e) (rw (names_of_keys es, list_any-map string_bytes) (simp (list_any-map row_of) refl))
 

@@ -1,5 +1,6 @@
 -- Faults of keys and values: whether an entry has them. Each is one test of an entry, given the whole document.
-use Rattle.std.specs.Prelude.{ℕ, nat_le, ◌==◌, List, [], ◌∷◌, Bool, false, not, ◌&&◌, ◌||◌, is_some, codes, option_and_then}
+use Rattle.std.specs.Prelude.{ℕ, nat_le, ◌==◌, List, [], ◌∷◌, Bool, false, not, ◌&&◌, ◌||◌, is_some, codes}
+use Rattle.std.specs.Prelude.{option_and_then}
 use Rattle.std.specs.List.{list_any}
 use Rattle.std.specs.Option.{option_map_or}
 use Rattle.std.specs.Str.{bytes_eq}

@@ -6,7 +6,8 @@ use Rattle.toml.specs.Data.{Data, as_str, as_integer, as_bool, as_array, as_tabl
 use Rattle.water_text.specs.Shapes.{has_shape}
 use Rattle.toml_tree.specs.Items.{items_len, items_all}
 use Rattle.basin_tree.specs.declared.tables.Kind.{Kind}
-use Rattle.basin_tree.specs.declared.tables.Kind.TheVariants.{Tables, Whole, Truth, Name, Refers, MonthText, DateText, Monthly, Want, CalendarMonths, Inflow, Points}
+use Rattle.basin_tree.specs.declared.tables.Kind.TheVariants.{Tables, Whole, Truth, Name, Refers, MonthText, DateText}
+use Rattle.basin_tree.specs.declared.tables.Kind.TheVariants.{Monthly, Want, CalendarMonths, Inflow, Points}
 
 abbrev pub is_whole : Data → Bool
 is_whole d = is_some (as_integer d)

@@ -1,10 +1,12 @@
 -- Faults of names and counts: whether an entry has them. Each is one test of an entry, given the whole document.
-use Rattle.std.specs.Prelude.{ℕ, ◌+◌, ◌-◌, nat_lt, nat_le, List, Bool, false, not, is_some, codes, Option, None, Some, option_and_then}
+use Rattle.std.specs.Prelude.{ℕ, ◌+◌, ◌-◌, nat_lt, nat_le, List, Bool, false, not, is_some, codes, Option, None, Some}
+use Rattle.std.specs.Prelude.{option_and_then}
 use Rattle.std.specs.Option.{option_map_or}
 use Rattle.toml.specs.Data.{Data, Members, get_member, get_item, get, as_str, as_array, as_bool}
 use Rattle.water_text.specs.Names.{is_name}
 use Rattle.basin_tree.specs.declared.tables.BasinTable.{BasinTable}
-use Rattle.basin_tree.specs.declared.tables.BasinTable.TheVariants.{Top, Node, Link, Reservoir, Diversion, Instream, Zone, Return}
+use Rattle.basin_tree.specs.declared.tables.BasinTable.TheVariants.{Top, Node, Link, Reservoir, Diversion, Instream}
+use Rattle.basin_tree.specs.declared.tables.BasinTable.TheVariants.{Zone, Return}
 use Rattle.basin_tree.specs.declared.tables.Space.{Space}
 use Rattle.basin_tree.specs.declared.tables.Space.TheVariants.{Nodes, Links, Reservoirs, Rights}
 use Rattle.basin_tree.specs.declared.tables.Kind.{Kind}

@@ -4,7 +4,9 @@ use Rattle.std.specs.List.{find}
 use Rattle.std.specs.Option.{option_or}
 use Rattle.toml.specs.Data.{Members}
 use Rattle.basin_tree.specs.declared.fault.BasinFault.{BasinFault}
-use Rattle.basin_tree.specs.declared.fault.BasinFault.TheVariants.{UnknownKey, MissingKey, WrongKind, OutOfRange, BadName, TooMany, SameName, NoSuchName, OutletReservoir}
+use Rattle.basin_tree.specs.declared.fault.BasinFault.TheVariants.{UnknownKey, MissingKey, WrongKind, OutOfRange}
+use Rattle.basin_tree.specs.declared.fault.BasinFault.TheVariants.{BadName, TooMany, SameName, NoSuchName}
+use Rattle.basin_tree.specs.declared.fault.BasinFault.TheVariants.{OutletReservoir}
 use Rattle.basin_tree.specs.declared.walk.Finding.{Finding}
 use Rattle.basin_tree.specs.Entries.{Entry, entries_of, found_at}
 use Rattle.basin_tree.specs.KeyFaults.{unknown_key, missing_key, wrong_kind, out_of_range}

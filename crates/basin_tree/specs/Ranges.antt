@@ -4,7 +4,8 @@ use Rattle.std.specs.Option.{option_map_or}
 use Rattle.toml.specs.Data.{Data, Items, item, Members, as_str, as_integer, as_array}
 use Rattle.water_text.specs.Months.{read_month, month_within}
 use Rattle.basin_tree.specs.declared.tables.Kind.{Kind}
-use Rattle.basin_tree.specs.declared.tables.Kind.TheVariants.{Whole, MonthText, Monthly, Want, CalendarMonths, Inflow, Points}
+use Rattle.basin_tree.specs.declared.tables.Kind.TheVariants.{Whole, MonthText, Monthly, Want, CalendarMonths, Inflow}
+use Rattle.basin_tree.specs.declared.tables.Kind.TheVariants.{Points}
 use Rattle.toml_tree.specs.Items.{items_all}
 use Rattle.toml_tree.specs.Values.{is_between, whole_at, text_or_empty}
 

@@ -1,10 +1,12 @@
 -- The tables of a basin file and the keys of each.
 use Rattle.std.specs.Prelude.{ℕ, ◌^◌, ◌*◌, List, [], ◌∷◌, Bool, true, false, codes}
 use Rattle.basin_tree.specs.declared.tables.BasinTable.{BasinTable}
-use Rattle.basin_tree.specs.declared.tables.BasinTable.TheVariants.{Top, Node, Link, Reservoir, Diversion, Instream, Zone, Return}
+use Rattle.basin_tree.specs.declared.tables.BasinTable.TheVariants.{Top, Node, Link, Reservoir, Diversion, Instream}
+use Rattle.basin_tree.specs.declared.tables.BasinTable.TheVariants.{Zone, Return}
 use Rattle.basin_tree.specs.declared.tables.Key.{Key}
 use Rattle.basin_tree.specs.declared.tables.Kind.{Kind}
-use Rattle.basin_tree.specs.declared.tables.Kind.TheVariants.{Tables, Whole, Truth, Name, Refers, MonthText, DateText, Monthly, Want, CalendarMonths, Inflow, Points}
+use Rattle.basin_tree.specs.declared.tables.Kind.TheVariants.{Tables, Whole, Truth, Name, Refers, MonthText, DateText}
+use Rattle.basin_tree.specs.declared.tables.Kind.TheVariants.{Monthly, Want, CalendarMonths, Inflow, Points}
 use Rattle.basin_tree.specs.declared.tables.Space.TheVariants.{Nodes, Links, Reservoirs, Diversions}
 
 -- the word for a table. The entries of each but the top are listed at this key of the top table

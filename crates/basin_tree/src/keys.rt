@@ -10,7 +10,8 @@ ghost use Rattle.toml_tree.specs.Items.{items_len};
 ghost use Rattle.basin_tree.specs.Documents.{tree_of};
 ghost use Rattle.basin_tree.specs.declared.tables.Kind.{Kind};
 ghost use Rattle.basin_tree.specs.Tables.{keys_of};
-ghost use Rattle.basin_tree.specs.KeyFaults.{unknown_key, missing_key, lacks_key, has_no_nodes, shuts_no_canal, any_value};
+ghost use Rattle.basin_tree.specs.KeyFaults.{unknown_key, missing_key, lacks_key, has_no_nodes, shuts_no_canal};
+ghost use Rattle.basin_tree.specs.KeyFaults.{any_value};
 
 use crate::document::Document;
 use crate::tables::{BasinTable, Key, Kind, keys};

@@ -1,5 +1,6 @@
 -- Marks of two lists by the bits of both words.
-use Rattle.std.proofs.Common.{◌≡◌, ◌==◌, ℕ, ◌+◌, ◌-◌, ◌*◌, ◌/◌, ◌%◌, ◌<◌, ◌≤◌, zero, suc, min, Bool, true, false, List, ◌&&◌, bit_and, refl, ap, sym, ◌∙◌, inl, inr, arith}
+use Rattle.std.proofs.Common.{◌≡◌, ◌==◌, ℕ, ◌+◌, ◌-◌, ◌*◌, ◌/◌, ◌%◌, ◌<◌, ◌≤◌, zero, suc, min, Bool, true, false, List}
+use Rattle.std.proofs.Common.{◌&&◌, bit_and, refl, ap, sym, ◌∙◌, inl, inr, arith}
 use Rattle.std.specs.Prelude.{slice_index}
 use Rattle.std.specs.Int.{bit_at}
 use Rattle.std.proofs.lemmas.Bool.{cases_lt}
@@ -18,7 +19,8 @@ both_ones x (suc (suc y)) h k = absurd (omega arith)
 abbrev word_in_both : List ℕ → List ℕ → ℕ → ℕ
 word_in_both words others at = bit_and (slice_index words at) (slice_index others at)
 
-both_is : (words others : List ℕ) (q : ℕ) → in_both words others q ≡ (bit_at (word_in_both words others (q / 64)) (q % 64) == 1)
+both_is : (words others : List ℕ) (q : ℕ) →
+    in_both words others q ≡ (bit_at (word_in_both words others (q / 64)) (q % 64) == 1)
 both_is words others q =
     let w = slice_index words (q / 64) in
     let o = slice_index others (q / 64) in
@@ -38,21 +40,25 @@ at_bit words others at q n after before is =
 
 -- no place of the words so far, and none of this word below a bit
 pub unmarked_to : (words others : List ℕ) (from places at low last : ℕ) →
-    ((q : ℕ) → from ≤ q → q < places → q < at * 64 → in_both words others q ≡ false) → low ≡ from - at * 64 → last ≤ (at + 1) * 64 →
+    ((q : ℕ) → from ≤ q → q < places → q < at * 64 → in_both words others q ≡ false) → low ≡ from - at * 64 →
+    last ≤ (at + 1) * 64 →
     ((i : ℕ) → low ≤ i → i < last - at * 64 → bit_at (word_in_both words others at) i ≡ 0) →
     (q : ℕ) → from ≤ q → q < places → q < last → in_both words others q ≡ false
-unmarked_to words others from places at low last earlier start end zeros q after below before = elim (cases_lt q (at * 64)) [
-  | inl h ↦ earlier q after below h
-  | inr h ↦ at_bit words others at q 0 h (omega arith) (zeros (q - at * 64) (omega (arith, start)) (omega arith))
-]
+unmarked_to words others from places at low last earlier start end zeros q after below before =
+    elim (cases_lt q (at * 64)) [
+      | inl h ↦ earlier q after below h
+      | inr h ↦ at_bit words others at q 0 h (omega arith) (zeros (q - at * 64) (omega (arith, start)) (omega arith))
+    ]
 
 pub next_found : (words others : List ℕ) (from places at low bit : ℕ) →
     ((q : ℕ) → from ≤ q → q < places → q < at * 64 → in_both words others q ≡ false) → low ≡ from - at * 64 →
-    IsLowestFrom (word_in_both words others at) low bit → at * 64 + bit < places → IsNextInBoth words others from places (at * 64 + bit)
+    IsLowestFrom (word_in_both words others at) low bit → at * 64 + bit < places →
+    IsNextInBoth words others from places (at * 64 + bit)
 next_found words others from places at low bit earlier start lowest inside = record {
   after = omega (arith, start, lowest.after);
   below = inside;
-  marked = at_bit words others at (at * 64 + bit) 1 (omega arith) (omega (arith, lowest.below)) (ap (bit_at (word_in_both words others at)) shift ∙ lowest.one);
+  marked = at_bit words others at (at * 64 + bit) 1 (omega arith) (omega (arith, lowest.below))
+      (ap (bit_at (word_in_both words others at)) shift ∙ lowest.one);
   least = λ q after before.
       unmarked_to words others from places at low (at * 64 + bit) earlier start (omega (arith, lowest.below))
       (λ i above below. lowest.least i above (omega arith)) q after (omega arith) before;

@@ -1,5 +1,6 @@
 -- Nodes are given to their first callers, and lists of these along the order.
-use Rattle.std.proofs.Common.{◌≡◌, ◌≢◌, ℕ, ◌+◌, ◌-◌, ◌/◌, ◌%◌, ◌^◌, ◌<◌, ◌≤◌, ◌==◌, Bool, true, false, ◌&&◌, not, refl, sym, ap, ◌∙◌, arith, inl, inr, List, [], ◌∷◌, length, get_or, take, replicate, subst}
+use Rattle.std.proofs.Common.{◌≡◌, ◌≢◌, ℕ, ◌+◌, ◌-◌, ◌/◌, ◌%◌, ◌^◌, ◌<◌, ◌≤◌, ◌==◌, Bool, true, false, ◌&&◌, not, refl}
+use Rattle.std.proofs.Common.{sym, ap, ◌∙◌, arith, inl, inr, List, [], ◌∷◌, length, get_or, take, replicate, subst}
 use Rattle.std.specs.Prelude.{Option, Some, None, find, is_none, slice_set, if◌then◌else◌}
 use Rattle.std.specs.Option.{option_map_or, option_or}
 use Rattle.std.specs.Int.{bit_at}
@@ -15,13 +16,16 @@ use Rattle.calls.specs.Callers.{caller_at, AreFree}
 -- A right's set is gone over from its least node on.
 
 -- the nodes below a place are given to the right where they are free and in its set, and the others are as they were
-pub record IsClaimed (nodes right from : ℕ) (set : List ℕ) (before now : List (Option ℕ)) (free rest : List ℕ) : Type 0 where
-  pub given : (n : ℕ) → n < from → n < nodes → caller_at now n ≡ (if in_both free set n then Some right else caller_at before n)
-  pub left : (n : ℕ) → n < from → n < nodes → is_marked rest n ≡ is_marked free n && not (is_marked set n)
-  pub callers_stay : (n : ℕ) → from ≤ n → caller_at now n ≡ caller_at before n
-  pub free_stay : (n : ℕ) → from ≤ n → is_marked rest n ≡ is_marked free n
+pub record IsClaimed (nodes right from : ℕ) (set : List ℕ) (before now : List (Option ℕ)) (free rest : List ℕ) : Type 0
+  where
+    pub given : (n : ℕ) → n < from → n < nodes →
+        caller_at now n ≡ (if in_both free set n then Some right else caller_at before n)
+    pub left : (n : ℕ) → n < from → n < nodes → is_marked rest n ≡ is_marked free n && not (is_marked set n)
+    pub callers_stay : (n : ℕ) → from ≤ n → caller_at now n ≡ caller_at before n
+    pub free_stay : (n : ℕ) → from ≤ n → is_marked rest n ≡ is_marked free n
 
-pub claims_begin : (nodes right : ℕ) (set : List ℕ) (callers : List (Option ℕ)) (free : List ℕ) → IsClaimed nodes right 0 set callers callers free free
+pub claims_begin : (nodes right : ℕ) (set : List ℕ) (callers : List (Option ℕ)) (free : List ℕ) →
+    IsClaimed nodes right 0 set callers callers free free
 claims_begin nodes right set callers free = record {
   given = λ n below within. absurd (omega arith);
   left = λ n below within. absurd (omega arith);
@@ -40,20 +44,27 @@ not_both true false h = refl
 not_both false q h = refl
 
 -- a node beyond, which the set and the free nodes don't both mark, is as it has to be
-pub unclaimed : (nodes right from : ℕ) (set : List ℕ) (before now : List (Option ℕ)) (free left : List ℕ) → IsClaimed nodes right from set before now free left →
+pub unclaimed : (nodes right from : ℕ) (set : List ℕ) (before now : List (Option ℕ)) (free left : List ℕ) →
+    IsClaimed nodes right from set before now free left →
     (n : ℕ) → from ≤ n → in_both left set n ≡ false →
-    (caller_at now n ≡ (if in_both free set n then Some right else caller_at before n)) × (is_marked left n ≡ is_marked free n && not (is_marked set n))
+    (caller_at now n ≡ (if in_both free set n then Some right else caller_at before n)) ×
+    (is_marked left n ≡ is_marked free n && not (is_marked set n))
 unclaimed nodes right from set before now free left h n above apart =
-    let none : in_both free set n ≡ false = ap (λ (p : Bool). p && is_marked set n) (sym (h.free_stay n above)) ∙ apart in
+    let none : in_both free set n ≡ false =
+    ap (λ (p : Bool). p && is_marked set n) (sym (h.free_stay n above)) ∙ apart in
     let other : (if in_both free set n then Some right else caller_at before n) ≡ caller_at before n = rw none refl in
     (h.callers_stay n above ∙ sym other, h.free_stay n above ∙ not_both (is_marked free n) (is_marked set n) none)
 
-pub claims_next : (nodes right from p : ℕ) (set : List ℕ) (before now : List (Option ℕ)) (free left after : List ℕ) → IsClaimed nodes right from set before now free left →
-    IsNextInBoth left set from nodes p → p < length now → is_marked after p ≡ false → ((q : ℕ) → q ≢ p → is_marked after q ≡ is_marked left q) →
+pub claims_next : (nodes right from p : ℕ) (set : List ℕ) (before now : List (Option ℕ)) (free left after : List ℕ) →
+    IsClaimed nodes right from set before now free left →
+    IsNextInBoth left set from nodes p → p < length now → is_marked after p ≡ false →
+    ((q : ℕ) → q ≢ p → is_marked after q ≡ is_marked left q) →
     IsClaimed nodes right (p + 1) set before (slice_set now p (Some right)) free after
 claims_next nodes right from p set before now free left after h next inside off others = record {
   given = λ n below within. elim (cases_eq n p) [
-    | inl same ↦ subst (λ (k : ℕ). caller_at (slice_set now p (Some right)) k ≡ (if in_both free set k then Some right else caller_at before k)) (sym same) here
+    | inl same ↦
+        subst (λ (k : ℕ). caller_at (slice_set now p (Some right))
+        k ≡ (if in_both free set k then Some right else caller_at before k)) (sym same) here
     | inr apart ↦ get_or-set_other now p n (Some right) None apart ∙ elim (cases_lt n from) [
       | inl early ↦ h.given n early within
       | inr late ↦ (unclaimed nodes right from set before now free left h n late (next.least n late (omega arith))).0
@@ -66,7 +77,8 @@ claims_next nodes right from p set before now free left after h next inside off 
       | inr late ↦ (unclaimed nodes right from set before now free left h n late (next.least n late (omega arith))).1
     ]
   ];
-  callers_stay = λ n above. get_or-set_other now p n (Some right) None (λ same. omega (arith, same)) ∙ h.callers_stay n (omega (arith, next.after));
+  callers_stay = λ n above. get_or-set_other now p n (Some right) None (λ same. omega (arith, same))
+      ∙ h.callers_stay n (omega (arith, next.after));
   free_stay = λ n above. others n (λ same. omega (arith, same)) ∙ h.free_stay n (omega (arith, next.after));
 }
   where
@@ -88,9 +100,11 @@ claims_next nodes right from p set before now free left after h next inside off 
 pub set_holds : (nodes n : ℕ) (words : List ℕ) (set : Option (List Bool)) → Some (marks nodes words) ≡ set → n < nodes →
     option_map_or (λ cut. has cut n) set false ≡ is_marked words n
 set_holds nodes n words set is below =
-    ap (λ (s : Option (List Bool)). option_map_or (λ cut. has cut n) s false) (sym is) ∙ get_or-marks nodes words n false below
+    ap (λ (s : Option (List Bool)). option_map_or (λ cut. has cut n) s false) (sym is)
+    ∙ get_or-marks nodes words n false below
 
-pub turn_gives : (short in_set : Bool) (right : ℕ) (before : Option ℕ) (free set : Bool) → free ≡ is_none before → short ≡ true → in_set ≡ set →
+pub turn_gives : (short in_set : Bool) (right : ℕ) (before : Option ℕ) (free set : Bool) → free ≡ is_none before →
+    short ≡ true → in_set ≡ set →
     (if free && set then Some right else before) ≡ option_or before (if short && in_set then Some right else None)
 turn_gives true s right None f s2 h e k = rw (h, k) refl
 turn_gives true s right (Some x) f s2 h e k = rw h refl
@@ -100,7 +114,8 @@ turn_gives false s right before f s2 h e k = cc
 
 -- the first of one more
 pub find_more : (p : ℕ → Bool) (order : List ℕ) (i : ℕ) → i < length order →
-    option_or (find p (take i order)) (if p (get_or order i 0) then Some (get_or order i 0) else None) ≡ find p (take (i + 1) order)
+    option_or (find p (take i order)) (if p (get_or order i 0) then Some (get_or order i 0) else None) ≡ find p
+    (take (i + 1) order)
 find_more p order i l =
     sym (ap (find p) (take_more order i 0 l) ∙ find-append p (take i order) (get_or order i 0 ∷ []))
 

@@ -1,5 +1,6 @@
 -- The first caller at a right's node is the right's, where it is senior to the right, and else the right has none.
-use Rattle.std.proofs.Common.{◌≡◌, ℕ, zero, suc, ◌<◌, Bool, true, false, refl, sym, ap, ◌∙◌, arith, inl, inr, List, [], ◌∷◌, length, get_or, subst}
+use Rattle.std.proofs.Common.{◌≡◌, ℕ, zero, suc, ◌<◌, Bool, true, false, refl, sym, ap, ◌∙◌, arith, inl, inr, List, []}
+use Rattle.std.proofs.Common.{◌∷◌, length, get_or, subst}
 use Rattle.std.specs.Prelude.{Option, Some, None, nat_lt, ◌&&◌, slice_index, find}
 use Rattle.std.specs.Option.{option_map_or}
 use Rattle.water_model.specs.Basin.{is_senior, taking_node}
@@ -22,11 +23,14 @@ has_at (x ∷ xs) zero l = inl refl
 has_at (x ∷ xs) (suc i) l = inr (has_at xs i (omega arith))
 
 -- the order has rights alone
-pub order_in_range : (rights : List Right) (order : List ℕ) (i : ℕ) → order ≡ by_seniority rights → i < length order → get_or order i 0 < length rights
-order_in_range rights order i is l = seniors_below rights (get_or order i 0) (subst (λ (xs : List ℕ). Has xs (get_or order i 0)) is (has_at order i l))
+pub order_in_range : (rights : List Right) (order : List ℕ) (i : ℕ) → order ≡ by_seniority rights → i < length order →
+    get_or order i 0 < length rights
+order_in_range rights order i is l =
+    seniors_below rights (get_or order i 0) (subst (λ (xs : List ℕ). Has xs (get_or order i 0)) is (has_at order i l))
 
 -- a right calls where it is short at the node and senior
-tested : (b : Basin) (m : MonthRecord) (right node caller : ℕ) → nat_lt 0 (slice_index m.want right) ≡ true → taking_node b right ≡ Some node →
+tested : (b : Basin) (m : MonthRecord) (right node caller : ℕ) → nat_lt 0 (slice_index m.want right) ≡ true →
+    taking_node b right ≡ Some node →
     calls b m right caller ≡ is_short_at m caller node && is_senior b caller right
 unfolding calls
 tested b m right node caller wanted at =
@@ -42,7 +46,8 @@ tested b m right node caller wanted at =
     turned false q r = refl
 
 -- the first that passes one test is the first that passes both, if it does
-first_of : (p s q : ℕ → Bool) → ((x : ℕ) → q x ≡ p x && s x) → (xs : List ℕ) (c : ℕ) → find p xs ≡ Some c → s c ≡ true → find q xs ≡ Some c
+first_of : (p s q : ℕ → Bool) → ((x : ℕ) → q x ≡ p x && s x) → (xs : List ℕ) (c : ℕ) → find p xs ≡ Some c → s c ≡ true →
+    find q xs ≡ Some c
 first_of p s q both [] c h e = let none : None ≡ Some c = h in cc
 first_of p s q both (x ∷ xs) c h e = by_test (p x) refl (first_of p s q both xs c)
   where
@@ -61,20 +66,24 @@ find-no p [] h = refl
 find-no p (x ∷ xs) h = rw (h x (inl refl)) (find-no p xs (λ y k. h y (inr k)))
 
 -- who is found is a right
-pub first_below : (b : Basin) (m : MonthRecord) (node caller : ℕ) → first_caller b m node ≡ Some caller → caller < length b.rights
+pub first_below : (b : Basin) (m : MonthRecord) (node caller : ℕ) → first_caller b m node ≡ Some caller →
+    caller < length b.rights
 first_below b m node caller is =
-    let found = find-passes (λ c. is_short_at m c node) (seniors_first b) caller is in seniors_below b.rights caller found.1
+    let found = find-passes (λ c. is_short_at m c node) (seniors_first b) caller is in
+    seniors_below b.rights caller found.1
 
 -- A right that wants water at a node.
 
-pub first_calls : (b : Basin) (m : MonthRecord) (right node caller : ℕ) → nat_lt 0 (slice_index m.want right) ≡ true → taking_node b right ≡ Some node →
+pub first_calls : (b : Basin) (m : MonthRecord) (right node caller : ℕ) → nat_lt 0 (slice_index m.want right) ≡ true →
+    taking_node b right ≡ Some node →
     first_caller b m node ≡ Some caller → is_senior b caller right ≡ true → calling_right b m right ≡ Some caller
 unfolding calling_right
 first_calls b m right node caller wanted at is senior =
     first_of (λ c. is_short_at m c node) (λ c. is_senior b c right) (λ c. calls b m right c)
     (λ c. tested b m right node c wanted at) (seniors_first b) caller is senior
 
-pub nobody_short : (b : Basin) (m : MonthRecord) (right node : ℕ) → nat_lt 0 (slice_index m.want right) ≡ true → taking_node b right ≡ Some node →
+pub nobody_short : (b : Basin) (m : MonthRecord) (right node : ℕ) → nat_lt 0 (slice_index m.want right) ≡ true →
+    taking_node b right ≡ Some node →
     first_caller b m node ≡ None → calling_right b m right ≡ None
 unfolding calling_right
 nobody_short b m right node wanted at is = find-no (λ c. calls b m right c) (seniors_first b) (λ x k.
@@ -82,8 +91,10 @@ nobody_short b m right node wanted at is = find-no (λ c. calls b m right c) (se
     tested b m right node x wanted at ∙ rw short refl)
 
 -- where the first isn't senior to the right, none is
-pub first_junior : (b : Basin) (m : MonthRecord) (right node caller : ℕ) → AreStrict b.rights → nat_lt 0 (slice_index m.want right) ≡ true →
-    taking_node b right ≡ Some node → first_caller b m node ≡ Some caller → is_senior b caller right ≡ false → calling_right b m right ≡ None
+pub first_junior : (b : Basin) (m : MonthRecord) (right node caller : ℕ) → AreStrict b.rights →
+    nat_lt 0 (slice_index m.want right) ≡ true →
+    taking_node b right ≡ Some node → first_caller b m node ≡ Some caller → is_senior b caller right ≡ false →
+    calling_right b m right ≡ None
 unfolding calling_right
 first_junior b m right node caller strict wanted at is junior =
     find-no (λ c. calls b m right c) (seniors_first b) (λ x k. tested b m right node x wanted at ∙ none x k)
@@ -93,7 +104,8 @@ first_junior b m right node caller strict wanted at is junior =
 
     not_senior : (x : ℕ) → Has (seniors_first b) x → is_short_at m x node ≡ true → is_senior b x right ≡ true → ⊥
     not_senior x k short senior =
-        elim (find-first b.rights (λ c. is_short_at m c node) (seniors_first b) caller x (seniors_ordered b.rights strict) is k short) [
+        elim (find-first b.rights (λ c. is_short_at m c node) (seniors_first b) caller x
+        (seniors_ordered b.rights strict) is k short) [
           | inl same ↦ clash (ap (λ y. is_senior b y right) (sym same) ∙ senior)
           | inr before ↦ clash (senior_trans b.rights caller x right before senior)
         ]
@@ -108,11 +120,13 @@ first_junior b m right node caller strict wanted at is junior =
 
 -- A right that wants nothing, and an instream right.
 
-none_calls : (b : Basin) (m : MonthRecord) (right : ℕ) → ((caller : ℕ) → calls b m right caller ≡ false) → calling_right b m right ≡ None
+none_calls : (b : Basin) (m : MonthRecord) (right : ℕ) → ((caller : ℕ) → calls b m right caller ≡ false) →
+    calling_right b m right ≡ None
 unfolding calling_right
 none_calls b m right h = find-no (λ c. calls b m right c) (seniors_first b) (λ x k. h x)
 
-not_wanted : (b : Basin) (m : MonthRecord) (right caller : ℕ) → nat_lt 0 (slice_index m.want right) ≡ false → calls b m right caller ≡ false
+not_wanted : (b : Basin) (m : MonthRecord) (right caller : ℕ) → nat_lt 0 (slice_index m.want right) ≡ false →
+    calls b m right caller ≡ false
 unfolding calls
 not_wanted b m right caller e =
     rw e (third (nat_lt (slice_index m.delivered caller) (slice_index m.want caller)) (is_senior b caller right)
@@ -123,11 +137,13 @@ not_wanted b m right caller e =
     third true false s = refl
     third false q s = refl
 
-not_taken : (b : Basin) (m : MonthRecord) (right caller : ℕ) → taking_node b right ≡ None → calls b m right caller ≡ false
+not_taken : (b : Basin) (m : MonthRecord) (right caller : ℕ) → taking_node b right ≡ None →
+    calls b m right caller ≡ false
 unfolding calls
 not_taken b m right caller e =
     rw (e, outside (cut_of m caller))
-    (fourth (nat_lt (slice_index m.delivered caller) (slice_index m.want caller)) (is_senior b caller right) (nat_lt 0 (slice_index m.want right)))
+    (fourth (nat_lt (slice_index m.delivered caller) (slice_index m.want caller)) (is_senior b caller right)
+    (nat_lt 0 (slice_index m.want right)))
   where
     outside : (set : Option (List Bool)) → option_map_or (λ cut. node_within None cut) set false ≡ false
     outside None = refl
@@ -139,8 +155,10 @@ not_taken b m right caller e =
     fourth true false r = refl
     fourth false q r = refl
 
-pub nothing_wanted : (b : Basin) (m : MonthRecord) (right : ℕ) → nat_lt 0 (slice_index m.want right) ≡ false → calling_right b m right ≡ None
+pub nothing_wanted : (b : Basin) (m : MonthRecord) (right : ℕ) → nat_lt 0 (slice_index m.want right) ≡ false →
+    calling_right b m right ≡ None
 nothing_wanted b m right e = none_calls b m right (λ caller. not_wanted b m right caller e)
 
-pub nothing_taken : (b : Basin) (m : MonthRecord) (right : ℕ) → taking_node b right ≡ None → calling_right b m right ≡ None
+pub nothing_taken : (b : Basin) (m : MonthRecord) (right : ℕ) → taking_node b right ≡ None →
+    calling_right b m right ≡ None
 nothing_taken b m right e = none_calls b m right (λ caller. not_taken b m right caller e)

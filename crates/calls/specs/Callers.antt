@@ -1,5 +1,6 @@
 -- The first caller at each node.
-use Rattle.std.specs.Prelude.{◌≡◌, ℕ, ◌<◌, ◌≤◌, ◌&&◌, Bool, false, List, length, find, slice_index, slice_index_or, nat_lt, is_none, Option, None}
+use Rattle.std.specs.Prelude.{◌≡◌, ℕ, ◌<◌, ◌≤◌, ◌&&◌, Bool, false, List, length, find, slice_index, slice_index_or}
+use Rattle.std.specs.Prelude.{nat_lt, is_none, Option, None}
 use Rattle.std.specs.Option.{option_map_or}
 use Rattle.bit_words.specs.Marks.{is_marked}
 use Rattle.water_model.specs.History.{cut_of}
@@ -11,7 +12,8 @@ use Rattle.water_model.specs.declared.types.MonthRecord.{MonthRecord}
 -- whether a right is short and has a set that holds the node
 abbrev pub is_short_at : MonthRecord → ℕ → ℕ → Bool
 is_short_at m caller node =
-    nat_lt (slice_index m.delivered caller) (slice_index m.want caller) && option_map_or (λ set. has set node) (cut_of m caller) false
+    nat_lt (slice_index m.delivered caller) (slice_index m.want caller) && option_map_or (λ set. has set node)
+    (cut_of m caller) false
 
 -- the most senior right that is short and has a set that holds the node, or none
 abbrev pub first_caller : Basin → MonthRecord → ℕ → Option ℕ

@@ -1,7 +1,8 @@
 //! Which right another right answers to.
 #![tactic(auto)]
 
-ghost use Rattle.std.specs.Prelude.{◌≡◌, ℕ, ◌*◌, ◌<◌, ◌≤◌, ◌&&◌, not, if◌then◌else◌, length, nat_lt, slice_index, Some, None};
+ghost use Rattle.std.specs.Prelude.{◌≡◌, ℕ, ◌*◌, ◌<◌, ◌≤◌, ◌&&◌, not, if◌then◌else◌, length, nat_lt, slice_index, Some};
+ghost use Rattle.std.specs.Prelude.{None};
 ghost use Rattle.std.specs.Option.{option_or};
 ghost use Rattle.bit_words.specs.Marks.{in_both, is_marked};
 ghost use Rattle.water_model.specs.Basin.{is_senior};

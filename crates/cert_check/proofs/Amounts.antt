@@ -1,5 +1,6 @@
 -- The amounts of a history are those of a text.
-use Rattle.std.proofs.Common.{◌≡◌, ℕ, zero, suc, ◌+◌, ◌-◌, ◌*◌, ◌^◌, ◌<◌, ◌≤◌, refl, sym, ap, subst, ◌∙◌, arith, List, [], ◌∷◌, length, map, take}
+use Rattle.std.proofs.Common.{◌≡◌, ℕ, zero, suc, ◌+◌, ◌-◌, ◌*◌, ◌^◌, ◌<◌, ◌≤◌, refl, sym, ap, subst, ◌∙◌, arith, List}
+use Rattle.std.proofs.Common.{[], ◌∷◌, length, map, take}
 use Rattle.std.specs.Prelude.{Option, Some, None, option_map, unwrap_or, slice_get, slice_index}
 use Rattle.std.proofs.lemmas.List.Elements.{All-from_get_or}
 use Rattle.std.proofs.lemmas.Option.{get_or_from_slice_get}
@@ -31,7 +32,8 @@ all_small xs n len h = All-from_get_or (λ x. x ≤ 10 ^ 15) xs 0 (λ k l. h k (
 
 -- the front of a partial history is one
 
-get_front : {X : Type 0} (xs : List X) (i j : ℕ) (x : X) → slice_get (take i xs) j ≡ Some x → (j < i) × (slice_get xs j ≡ Some x)
+get_front : {X : Type 0} (xs : List X) (i j : ℕ) (x : X) → slice_get (take i xs) j ≡ Some x → (j < i) ×
+    (slice_get xs j ≡ Some x)
 get_front [] zero j x h = cc
 get_front [] (suc i) j x h = cc
 get_front (y ∷ ys) zero j x h = cc
@@ -51,20 +53,30 @@ take_fewer [] (suc i) = omega arith
 take_fewer (x ∷ xs) zero = omega arith
 take_fewer (x ∷ xs) (suc i) = omega (arith, take_fewer xs i)
 
-front_partial : (b : Basin) (series : Inflows) (records : List MonthRecord) (i : ℕ) → IsPartialHistory b series records → IsPartialHistory b series (take i records)
+front_partial : (b : Basin) (series : Inflows) (records : List MonthRecord) (i : ℕ) →
+    IsPartialHistory b series records → IsPartialHistory b series (take i records)
 front_partial b series records i h = record {
   within = omega (arith, take_fewer records i, h.within);
-  each = λ j m e. (let r = get_front records i j m e in subst (λ (xs : List MonthRecord). Follows b series xs m) (sym (take_front records i j r.0)) (h.each j m r.1));
+  each = λ j m e. (let r = get_front records i j m e in
+      subst (λ (xs : List MonthRecord). Follows b series xs m) (sym (take_front records i j r.0)) (h.each j m r.1));
 }
 
 -- Reservoirs.
 
-closing_small : (b : Basin) (series : Inflows) (before : List MonthRecord) (m : MonthRecord) → IsValidBasin b → IsSeriesOf b series → Follows b series before m → (v : ℕ) → v < length b.reservoirs →
+closing_small : (b : Basin) (series : Inflows) (before : List MonthRecord) (m : MonthRecord) → IsValidBasin b →
+    IsSeriesOf b series → Follows b series before m → (v : ℕ) → v < length b.reservoirs →
     slice_index m.closing v ≤ 10 ^ 15
 closing_small b series before m valid fits f v l =
-    omega (arith, f.closing v l, valid.few.rights, all_most (length b.rights) (10 ^ 9) (λ r. is_zone_of b r v) (λ r. slice_index m.plan.take r) (follows_small b series before m valid fits f).takes)
+    omega (
+      arith,
+      f.closing v l,
+      valid.few.rights,
+      all_most (length b.rights) (10 ^ 9) (λ r. is_zone_of b r v)
+          (λ r. slice_index m.plan.take r) (follows_small b series before m valid fits f).takes,
+    )
 
-opening_small : (b : Basin) (series : Inflows) (before : List MonthRecord) → IsValidBasin b → IsSeriesOf b series → IsPartialHistory b series before → (v : ℕ) → v < length b.reservoirs →
+opening_small : (b : Basin) (series : Inflows) (before : List MonthRecord) → IsValidBasin b → IsSeriesOf b series →
+    IsPartialHistory b series before → (v : ℕ) → v < length b.reservoirs →
     slice_index (opening_after b before) v ≤ 10 ^ 15
 opening_small b series before valid fits partial v l = by_last (slice_get before (length before - 1)) refl
   where
@@ -74,30 +86,40 @@ opening_small b series before valid fits partial v l = by_last (slice_get before
     first : slice_index (map (λ v. v.opening) b.reservoirs) v ≤ 10 ^ 15
     first =
         let entry = entry_holds (λ x. IsValidReservoir b x) b.reservoirs v valid.reservoirs l in
-        let at : slice_get (map (λ v. v.opening) b.reservoirs) v ≡ Some entry.0.opening = mapped b.reservoirs v ∙ ap (λ o. option_map (λ v. v.opening) o) entry.1 in
-        rw (get_or_from_slice_get (map (λ v. v.opening) b.reservoirs) v entry.0.opening 0 at) (omega (arith, entry.2.opening))
+        let at : slice_get (map (λ v. v.opening) b.reservoirs) v ≡ Some entry.0.opening =
+        mapped b.reservoirs v ∙ ap (λ o. option_map (λ v. v.opening) o) entry.1 in
+        rw (get_or_from_slice_get (map (λ v. v.opening) b.reservoirs) v entry.0.opening 0 at)
+        (omega (arith, entry.2.opening))
       where
-        mapped : (xs : List reservoir.Reservoir) (k : ℕ) → slice_get (map (λ v. v.opening) xs) k ≡ option_map (λ v. v.opening) (slice_get xs k)
+        mapped : (xs : List reservoir.Reservoir) (k : ℕ) →
+            slice_get (map (λ v. v.opening) xs) k ≡ option_map (λ v. v.opening) (slice_get xs k)
         mapped [] k = refl
         mapped (x ∷ xs) zero = refl
         mapped (x ∷ xs) (suc k) = mapped xs k
 
-    by_last : (o : Option MonthRecord) → slice_get before (length before - 1) ≡ o → slice_index (opening_after b before) v ≤ 10 ^ 15
+    by_last : (o : Option MonthRecord) → slice_get before (length before - 1) ≡ o →
+        slice_index (opening_after b before) v ≤ 10 ^ 15
     by_last None e = rw (ap opens e) first
-    by_last (Some m) e = rw (ap opens e) (closing_small b series (take (length before - 1) before) m valid fits (partial.each (length before - 1) m e) v l)
+    by_last (Some m) e =
+        rw (ap opens e)
+        (closing_small b series (take (length before - 1) before) m valid fits (partial.each (length before - 1) m e) v
+        l)
 
 -- what a month supplies is small
 
-whole_supply : (b : Basin) (series : Inflows) (before : List MonthRecord) (m : MonthRecord) → IsValidBasin b → IsSeriesOf b series → IsPartialHistory b series before →
+whole_supply : (b : Basin) (series : Inflows) (before : List MonthRecord) (m : MonthRecord) → IsValidBasin b →
+    IsSeriesOf b series → IsPartialHistory b series before →
     Follows b series before m → total (length b.nodes) (λ n. slice_index m.supply n) ≤ 36 * 10 ^ 12
 whole_supply b series before m valid fits partial f =
     let small = supply_small b series before m.evaporated m.index valid fits partial in
     let same = total_same (length b.nodes) (λ n. slice_index m.supply n)
-    (λ n. inflow_at b series n m.index + returned_at b (map (λ k. k.delivered) before) n m.index + stored_at b (opening_after b before) m.evaporated n)
+    (λ n. inflow_at b series n m.index + returned_at b (map (λ k. k.delivered) before) n m.index + stored_at b
+    (opening_after b before) m.evaporated n)
     (λ n l. f.supply n l ∙ rw (f.returned n l, f.opening) refl) in
     omega (arith, small, same)
 
-pub history_amounts : (b : Basin) (series : Inflows) (before : List MonthRecord) (m : MonthRecord) → IsValidBasin b → IsSeriesOf b series → IsPartialHistory b series before →
+pub history_amounts : (b : Basin) (series : Inflows) (before : List MonthRecord) (m : MonthRecord) → IsValidBasin b →
+    IsSeriesOf b series → IsPartialHistory b series before →
     length before < b.months → Follows b series before m → HasTextAmounts m
 history_amounts b series before m valid fits partial left f = record {
   listed = listed;
@@ -115,8 +137,13 @@ history_amounts b series before m valid fits partial left f = record {
     evaporated : (v : ℕ) → v < length b.reservoirs → slice_index m.evaporated v ≤ 10 ^ 15
     evaporated v l =
         let entry = entry_at b.reservoirs v l in
-        let is : slice_index m.evaporated v ≡ evaporation entry.0.area (slice_index m.opening v) (slice_index entry.0.rate (in_year b m.index)) =
-        f.evaporated v l ∙ ap (λ o. unwrap_or (option_map (λ (r : reservoir.Reservoir). evaporation r.area (slice_index m.opening v) (slice_index r.rate (in_year b m.index))) o) 0) entry.1 in
+        let is : slice_index m.evaporated v ≡ evaporation entry.0.area (slice_index m.opening v)
+        (slice_index entry.0.rate (in_year b m.index)) =
+        f.evaporated v l
+        ∙ ap (λ o. unwrap_or
+        (option_map
+        (λ (r : reservoir.Reservoir). evaporation r.area (slice_index m.opening v)
+        (slice_index r.rate (in_year b m.index))) o) 0) entry.1 in
         omega (arith, is, opening v l)
 
     wanted : (r : ℕ) → r < length b.rights → slice_index m.want r ≤ 10 ^ 9
@@ -129,13 +156,15 @@ history_amounts b series before m valid fits partial left f = record {
       arith,
       f.returned n l,
       term_le_total (length b.nodes) (λ n. returned_at b (map (λ k. k.delivered) before) n m.index) n l,
-      returns_small b (map (λ k. k.delivered) before) m.index valid (deliveries_small b series before valid fits partial),
+      returns_small b (map (λ k. k.delivered) before) m.index valid
+          (deliveries_small b series before valid fits partial),
     ))
     listed quantity.Used = all_small m.used (length b.rights) f.fits.used
         (λ r l. omega (
           arith,
           f.used r l,
-          used_most b (map (λ k. k.delivered) before) r m.index (10 ^ 9) (deliveries_small b series before valid fits partial r),
+          used_most b (map (λ k. k.delivered) before) r m.index (10 ^ 9)
+              (deliveries_small b series before valid fits partial r),
           f.index,
           valid.run.months.1,
         ))
@@ -151,11 +180,13 @@ history_amounts b series before m valid fits partial left f = record {
         (closing_small b series before m valid fits f)
 
 -- the records of a history are such as a text tells
-pub history_texts : (b : Basin) (series : Inflows) (records : List MonthRecord) → IsValidBasin b → IsSeriesOf b series → IsPartialHistory b series records → AreTextMonths b series records
+pub history_texts : (b : Basin) (series : Inflows) (records : List MonthRecord) → IsValidBasin b → IsSeriesOf b series →
+    IsPartialHistory b series records → AreTextMonths b series records
 history_texts b series records valid fits h = record {
   within = h.within;
   each = λ i m e. (let f = h.each i m e in
-      IsTextMonth-Follows b series (take i records) m f (history_amounts b series (take i records) m valid fits (front_partial b series records i h) (left i m e) f));
+      IsTextMonth-Follows b series (take i records) m f
+      (history_amounts b series (take i records) m valid fits (front_partial b series records i h) (left i m e) f));
 }
   where
     shorter : {X : Type 0} (xs : List X) (i : ℕ) (x : X) → slice_get xs i ≡ Some x → length (take i xs) < length xs

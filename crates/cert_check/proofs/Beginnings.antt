@@ -1,5 +1,6 @@
 -- What a checker begins with.
-use Rattle.std.proofs.Common.{◌≡◌, ℕ, zero, suc, ◌+◌, ◌≤◌, Bool, true, false, refl, sym, ap, ◌∙◌, arith, List, [], ◌∷◌, ◌++◌, length, map, replicate, filter, add-one, zero-add}
+use Rattle.std.proofs.Common.{◌≡◌, ℕ, zero, suc, ◌+◌, ◌≤◌, Bool, true, false, refl, sym, ap, ◌∙◌, arith, List, [], ◌∷◌}
+use Rattle.std.proofs.Common.{◌++◌, length, map, replicate, filter, add-one, zero-add}
 use Rattle.std.specs.Prelude.{Option, Some, None, ◌&&◌, nat_le, if◌then◌else◌}
 use Rattle.std.specs.List.{list_all}
 use Rattle.std.proofs.lemmas.Bool.Decides.{nat_tests}
@@ -39,7 +40,8 @@ no_outlet p n = least n
     least : (n : ℕ) → true ≡ nat_le 0 n
     least n = grind (arith, nat_tests)
 
-pub last_more : (p : ℕ → Bool) (k last n : ℕ) → last ≤ k → list_all (λ other. nat_le other n) (filter p (numbers_from 0 k)) ≡ nat_le last n →
+pub last_more : (p : ℕ → Bool) (k last n : ℕ) → last ≤ k →
+    list_all (λ other. nat_le other n) (filter p (numbers_from 0 k)) ≡ nat_le last n →
     list_all (λ other. nat_le other n) (filter p (numbers_from 0 (k + 1))) ≡ nat_le (if p k then k else last) n
 last_more p k last n most h =
     rw add-one (ap (λ xs. list_all (λ other. nat_le other n) (filter p xs)) (numbers_more 0 k)
@@ -54,7 +56,9 @@ last_more p k last n most h =
     alone true = refl
     alone false = refl
 
-    by_test : (t : Bool) → list_all (λ other. nat_le other n) (filter p (numbers_from 0 k)) && list_all (λ other. nat_le other n) (if t then k ∷ [] else []) ≡ nat_le (if t then k else last) n
+    by_test : (t : Bool) →
+        list_all (λ other. nat_le other n) (filter p (numbers_from 0 k)) && list_all (λ other. nat_le other n)
+        (if t then k ∷ [] else []) ≡ nat_le (if t then k else last) n
     by_test true = ap (λ q. q && (nat_le k n && true)) h ∙ both last k n most
     by_test false = alone (list_all (λ other. nat_le other n) (filter p (numbers_from 0 k))) ∙ h
 
@@ -137,7 +141,8 @@ keeps_nothing b series a e = record {
 }
 
 -- a book of no line
-pub first_book : (b : Basin) (series : Inflows) (k : Book) → k.reader.basin ≡ b → reader.StandsFor k.reader [] → Keeps b series k.account.value (nothing_told b) →
+pub first_book : (b : Basin) (series : Inflows) (k : Book) → k.reader.basin ≡ b → reader.StandsFor k.reader [] →
+    Keeps b series k.account.value (nothing_told b) →
     k.read ≡ 0 → k.last_other ≡ 0 → k.ended ≡ false → IsBookOf b series k []
 first_book b series k basin stands account read last ended = record {
   items = [];

@@ -18,47 +18,75 @@ use Rattle.cert_check.specs.Shows.{Shows}
 use Rattle.cert_check.proofs.Supplies.{supply_at}
 
 -- what is told to be stored is within what the months before left
-stored_most : (b : Basin) (opening opens evaporated : List ℕ) (n : ℕ) → ((v : ℕ) → slice_index opening v ≤ slice_index opens v) → stored_at b opening evaporated n ≤ stored_at b opens [] n
+stored_most : (b : Basin) (opening opens evaporated : List ℕ) (n : ℕ) →
+    ((v : ℕ) → slice_index opening v ≤ slice_index opens v) → stored_at b opening evaporated n ≤ stored_at b opens [] n
 stored_most b opening opens evaporated n h =
     total_where_le (length b.reservoirs) (λ v. is_at (node_of_reservoir b v) n) (λ v. is_at (node_of_reservoir b v) n)
-    (λ v. slice_index opening v - slice_index evaporated v) (λ v. slice_index opens v - slice_index [] v) (λ v l e. (e, less (slice_index opening v) (slice_index evaporated v) (slice_index opens v) (h v)))
+    (λ v. slice_index opening v - slice_index evaporated v) (λ v. slice_index opens v - slice_index [] v)
+    (λ v l e. (e, less (slice_index opening v) (slice_index evaporated v) (slice_index opens v) (h v)))
   where
     less : (x y z : ℕ) → x ≤ z → x - y ≤ z - 0
     less x y z k = omega arith
 
-pub told_small : (b : Basin) (series : Inflows) (t : Told) → IsValidBasin b → IsSeriesOf b series → IsPartialHistory b series t.months → IsUnderWay b series t →
-    total (length b.nodes) (λ n. inflow_at b series n t.now.index + slice_index t.now.returned n + stored_at b t.now.opening t.now.evaporated n) ≤ 36 * 10 ^ 12
+pub told_small : (b : Basin) (series : Inflows) (t : Told) → IsValidBasin b → IsSeriesOf b series →
+    IsPartialHistory b series t.months → IsUnderWay b series t →
+    total (length b.nodes)
+    (λ n. inflow_at b series n t.now.index + slice_index t.now.returned n + stored_at b t.now.opening
+    t.now.evaporated n) ≤ 36 * 10 ^ 12
 told_small b series t valid fits partial way =
     let all = supply_small b series t.months [] t.now.index valid fits partial in
-    let each = total_le (length b.nodes) (λ n. inflow_at b series n t.now.index + slice_index t.now.returned n + stored_at b t.now.opening t.now.evaporated n)
-    (λ n. inflow_at b series n t.now.index + returned_at b (map (λ m. m.delivered) t.months) n t.now.index + stored_at b (opening_after b t.months) [] n) (λ n l. term n) in
+    let each =
+    total_le (length b.nodes)
+    (λ n. inflow_at b series n t.now.index + slice_index t.now.returned n + stored_at b t.now.opening
+    t.now.evaporated n)
+    (λ n. inflow_at b series n t.now.index + returned_at b (map (λ m. m.delivered) t.months) n t.now.index + stored_at b
+    (opening_after b t.months) [] n) (λ n l. term n) in
     omega (arith, all, each)
   where
-    term : (n : ℕ) → inflow_at b series n t.now.index + slice_index t.now.returned n + stored_at b t.now.opening t.now.evaporated n
-        ≤ inflow_at b series n t.now.index + returned_at b (map (λ m. m.delivered) t.months) n t.now.index + stored_at b (opening_after b t.months) [] n
+    term : (n : ℕ) →
+        inflow_at b series n t.now.index + slice_index t.now.returned n + stored_at b t.now.opening t.now.evaporated n
+        ≤ inflow_at b series n t.now.index + returned_at b (map (λ m. m.delivered) t.months) n t.now.index + stored_at b
+        (opening_after b t.months) [] n
     term n =
-        let same : returned_at b (map (λ m. m.delivered) t.months) n t.now.index ≡ returned_at b (map (λ m. m.delivered) t.months) n (length t.months) =
+        let same : returned_at b (map (λ m. m.delivered) t.months) n t.now.index ≡ returned_at b
+        (map (λ m. m.delivered) t.months) n (length t.months) =
         ap (returned_at b (map (λ m. m.delivered) t.months) n) way.index in
-        omega (arith, way.bounded.returned n, same, stored_most b t.now.opening (opening_after b t.months) t.now.evaporated n way.bounded.opening)
+        omega (
+          arith,
+          way.bounded.returned n,
+          same,
+          stored_most b t.now.opening (opening_after b t.months)
+              t.now.evaporated n way.bounded.opening,
+        )
 
 -- so is what a record shows
 pub shown_small : (b : Basin) (series : Inflows) (m : MonthRecord) (t : Told) → IsValidBasin b →
     IsSeriesOf b series → IsPartialHistory b series t.months → IsUnderWay b series t → Shows m t.now →
-    total (length b.nodes) (λ n. inflow_at b series n m.index + slice_index m.returned n + stored_at b m.opening m.evaporated n) ≤ 36 * 10 ^ 12
-shown_small b series m t valid fits partial way s = rw (s.index, s.returned, s.opening, s.evaporated) (told_small b series t valid fits partial way)
+    total (length b.nodes)
+    (λ n. inflow_at b series n m.index + slice_index m.returned n + stored_at b m.opening m.evaporated n) ≤ 36 * 10
+    ^ 12
+shown_small b series m t valid fits partial way s =
+    rw (s.index, s.returned, s.opening, s.evaporated) (told_small b series t valid fits partial way)
 
 pub node_small : (b : Basin) (series : Inflows) (m : MonthRecord) (t : Told) (n : ℕ) → IsValidBasin b →
     IsSeriesOf b series → IsPartialHistory b series t.months → IsUnderWay b series t → Shows m t.now →
-    n < length b.nodes → inflow_at b series n m.index + slice_index m.returned n + stored_at b m.opening m.evaporated n ≤ 36 * 10 ^ 12
+    n < length b.nodes →
+    inflow_at b series n m.index + slice_index m.returned n + stored_at b m.opening m.evaporated n ≤ 36 * 10 ^ 12
 node_small b series m t n valid fits partial way s l =
-    let one = term_le_total (length b.nodes) (λ k. inflow_at b series k m.index + slice_index m.returned k + stored_at b m.opening m.evaporated k) n l in
+    let one =
+    term_le_total (length b.nodes)
+    (λ k. inflow_at b series k m.index + slice_index m.returned k + stored_at b m.opening m.evaporated k) n l in
     omega (arith, one, shown_small b series m t valid fits partial way s)
 
 -- the supply that is told
-pub supplies_small : (b : Basin) (series : Inflows) (t : Told) (supply : List ℕ) → IsValidBasin b → IsSeriesOf b series → IsPartialHistory b series t.months → IsUnderWay b series t →
+pub supplies_small : (b : Basin) (series : Inflows) (t : Told) (supply : List ℕ) → IsValidBasin b →
+    IsSeriesOf b series → IsPartialHistory b series t.months → IsUnderWay b series t →
     supply ≡ (with_supply b series t.now).supply → total (length b.nodes) (λ n. slice_index supply n) ≤ 36 * 10 ^ 12
 supplies_small b series t supply valid fits partial way is =
-    let same = total_same (length b.nodes) (λ n. slice_index supply n) (λ n. inflow_at b series n t.now.index + slice_index t.now.returned n + stored_at b t.now.opening t.now.evaporated n)
+    let same =
+    total_same (length b.nodes) (λ n. slice_index supply n)
+    (λ n. inflow_at b series n t.now.index + slice_index t.now.returned n + stored_at b t.now.opening
+    t.now.evaporated n)
     (λ n l. ap (λ xs. slice_index xs n) is ∙ supply_at b series t.now n l) in
     omega (arith, same, told_small b series t valid fits partial way)
 

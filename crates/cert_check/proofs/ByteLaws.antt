@@ -1,5 +1,6 @@
 -- Bytes are accepted exactly where they are the text of a history.
-use Rattle.std.proofs.Common.{◌≡◌, ℕ, ◌<◌, ◌≤◌, refl, sym, ap, ◌∙◌, arith, List, [], ◌∷◌, ◌++◌, length, map, append_assoc, append-nil, inl, inr}
+use Rattle.std.proofs.Common.{◌≡◌, ℕ, ◌<◌, ◌≤◌, refl, sym, ap, ◌∙◌, arith, List, [], ◌∷◌, ◌++◌, length, map}
+use Rattle.std.proofs.Common.{append_assoc, append-nil, inl, inr}
 use Rattle.std.specs.Prelude.{Result, Ok, Err, IsOk, is_ok, ◌==◌}
 use Rattle.std.specs.List.{flat_map, join_with_byte}
 use Rattle.std.proofs.lemmas.Bool.{cases_lt}
@@ -31,29 +32,38 @@ AreOfHistory b series bytes = (records : List MonthRecord) × IsHistory b series
 
 -- The text of a history is accepted.
 
-accepted : (b : Basin) (series : Inflows) (bytes : List ℕ) → IsValidBasin b → IsSeriesOf b series → AreOfHistory b series bytes → IsOk (text_verdict b series bytes)
+accepted : (b : Basin) (series : Inflows) (bytes : List ℕ) → IsValidBasin b → IsSeriesOf b series →
+    AreOfHistory b series bytes → IsOk (text_verdict b series bytes)
 accepted b series bytes valid fits h =
     let items = items_of b h.0 in
     let pieces : pieces_of bytes ≡ map (line_of b) items ++ [] ∷ [] =
-    ap pieces_of h.2 ∙ lines_of_bytes b valid items (records_of_text b series h.0 valid (history_texts b series h.0 valid fits h.1.partial)) in
+    ap pieces_of h.2
+    ∙ lines_of_bytes b valid items
+    (records_of_text b series h.0 valid (history_texts b series h.0 valid fits h.1.partial)) in
     ap is_ok (ap (λ ps. verdict b series (lines_of_pieces ps) (rest_of_pieces ps)) pieces
     ∙ (short_rest b series (map (line_of b) items) [] (omega arith) ∙ histories_give_yes b series h.0 valid fits h.1))
 
 -- A text that is accepted is that of a history.
 
 -- lines with a line feed behind each
-joined : (b : Basin) (items : List Item) → join_with_byte 10 (map (line_of b) items ++ [] ∷ []) ≡ flat_map (whole_line b) items
+joined : (b : Basin) (items : List Item) →
+    join_with_byte 10 (map (line_of b) items ++ [] ∷ []) ≡ flat_map (whole_line b) items
 joined b [] = refl
 joined b (i ∷ []) = sym (append-nil (line_of b i ++ 10 ∷ []))
 joined b (i ∷ j ∷ items) =
-    ap (λ bytes. line_of b i ++ 10 ∷ bytes) (joined b (j ∷ items)) ∙ sym (append_assoc (line_of b i) (10 ∷ []) (flat_map (whole_line b) (j ∷ items)))
+    ap (λ bytes. line_of b i ++ 10 ∷ bytes) (joined b (j ∷ items))
+    ∙ sym (append_assoc (line_of b i) (10 ∷ []) (flat_map (whole_line b) (j ∷ items)))
 
 -- the last line of a text is short
-last_short : (b : Basin) (records : List MonthRecord) → IsValidBasin b → length (behind_last (map (line_of b) (items_of b records))) ≤ 128
+last_short : (b : Basin) (records : List MonthRecord) → IsValidBasin b →
+    length (behind_last (map (line_of b) (items_of b records))) ≤ 128
 last_short b records valid =
     let same : length (behind_last (map (line_of b) (items_of b records))) ≡ length (line_of b (line.Done b.months)) =
-    ap (λ ls. length (behind_last ls)) (map-append (items_of_head b ++ flat_map (items_of_month b) records) (line.Done b.months))
-    ∙ ap length (behind_last-end (map (line_of b) (items_of_head b ++ flat_map (items_of_month b) records)) (line_of b (line.Done b.months))) in
+    ap (λ ls. length (behind_last ls))
+    (map-append (items_of_head b ++ flat_map (items_of_month b) records) (line.Done b.months))
+    ∙ ap length
+    (behind_last-end (map (line_of b) (items_of_head b ++ flat_map (items_of_month b) records))
+    (line_of b (line.Done b.months))) in
     omega (arith, line_short b valid (line.Done b.months) (record { of_basin = tt; numbers = valid.run.months }))
   where
     map-append : (xs : List Item) (i : Item) → map (line_of b) (xs ++ i ∷ []) ≡ map (line_of b) xs ++ line_of b i ∷ []
@@ -72,30 +82,47 @@ record HasEnd (pieces : List (List ℕ)) : Type 0 where
 end_of : (piece : List ℕ) (pieces : List (List ℕ)) → HasEnd (piece ∷ pieces)
 end_of piece [] = record { front = []; rest = piece; are = refl }
 end_of piece (next ∷ pieces) =
-    let end = end_of next pieces in record { front = piece ∷ end.front; rest = end.rest; are = ap (λ ps. piece ∷ ps) end.are }
+    let end = end_of next pieces in
+    record { front = piece ∷ end.front; rest = end.rest; are = ap (λ ps. piece ∷ ps) end.are }
 
 some_end : (pieces : List (List ℕ)) → 0 < length pieces → HasEnd pieces
 some_end [] h = absurd (omega arith)
 some_end (piece ∷ pieces) h = end_of piece pieces
 
-of_history : (b : Basin) (series : Inflows) (bytes : List ℕ) → IsValidBasin b → IsOk (text_verdict b series bytes) → AreOfHistory b series bytes
+of_history : (b : Basin) (series : Inflows) (bytes : List ℕ) → IsValidBasin b → IsOk (text_verdict b series bytes) →
+    AreOfHistory b series bytes
 of_history b series bytes valid h =
-    by_rest (some_end (pieces_of bytes) (omega (arith, length-slice_split (λ byte. byte == 10) bytes))) (ok_of (text_verdict b series bytes) h)
+    by_rest (some_end (pieces_of bytes) (omega (arith, length-slice_split (λ byte. byte == 10) bytes)))
+    (ok_of (text_verdict b series bytes) h)
   where
-    by_rest : HasEnd (pieces_of bytes) → (items : List Item) × (text_verdict b series bytes ≡ Ok items) → AreOfHistory b series bytes
+    by_rest : HasEnd (pieces_of bytes) → (items : List Item) × (text_verdict b series bytes ≡ Ok items) →
+        AreOfHistory b series bytes
     by_rest end ok = elim (cases_lt 128 (length end.rest)) [
       | inl long ↦
-          let said = yes_gives_history b series (end.front ++ end.rest ∷ []) [] ok.0 valid (sym (along ∙ long_rest b series end.front end.rest long) ∙ ok.1) in
-          let last : length end.rest ≡ length (behind_last (map (line_of b) (items_of b said.0))) = ap length (sym (behind_last-end end.front end.rest) ∙ ap behind_last said.2) in
+          let said =
+          yes_gives_history b series (end.front ++ end.rest ∷ []) [] ok.0 valid
+          (sym (along ∙ long_rest b series end.front end.rest long) ∙ ok.1) in
+          let last : length end.rest ≡ length (behind_last (map (line_of b) (items_of b said.0))) =
+          ap length (sym (behind_last-end end.front end.rest) ∙ ap behind_last said.2) in
           absurd (omega (arith, last_short b said.0 valid))
       | inr short ↦
-          let said = yes_gives_history b series end.front end.rest ok.0 valid (sym (along ∙ short_rest b series end.front end.rest short) ∙ ok.1) in
-          let pieces : pieces_of bytes ≡ map (line_of b) (items_of b said.0) ++ [] ∷ [] = end.are ∙ (ap (λ ls. ls ++ end.rest ∷ []) said.2 ∙ ap (λ rest. map (line_of b) (items_of b said.0) ++ rest ∷ []) said.3) in
-          (said.0, said.1, sym (join_with_byte-slice_split 10 bytes) ∙ (ap (join_with_byte 10) pieces ∙ joined b (items_of b said.0)))
+          let said =
+          yes_gives_history b series end.front end.rest ok.0 valid
+          (sym (along ∙ short_rest b series end.front end.rest short) ∙ ok.1) in
+          let pieces : pieces_of bytes ≡ map (line_of b) (items_of b said.0) ++ [] ∷ [] =
+          end.are ∙ (ap (λ ls. ls ++ end.rest ∷ []) said.2
+          ∙ ap (λ rest. map (line_of b) (items_of b said.0) ++ rest ∷ []) said.3) in (
+            said.0,
+            said.1,
+            sym (join_with_byte-slice_split 10 bytes)
+                ∙ (ap (join_with_byte 10) pieces ∙ joined b (items_of b said.0)),
+          )
     ]
       where
-        along : text_verdict b series bytes ≡ verdict b series (lines_of_pieces (end.front ++ end.rest ∷ [])) (rest_of_pieces (end.front ++ end.rest ∷ []))
+        along : text_verdict b series bytes ≡ verdict b series (lines_of_pieces (end.front ++ end.rest ∷ []))
+            (rest_of_pieces (end.front ++ end.rest ∷ []))
         along = ap (λ ps. verdict b series (lines_of_pieces ps) (rest_of_pieces ps)) end.are
 
 pub yes_exactly_for_histories : YesExactlyForHistories
-yes_exactly_for_histories b series bytes valid fits = (of_history b series bytes valid, accepted b series bytes valid fits)
+yes_exactly_for_histories b series bytes valid fits =
+    (of_history b series bytes valid, accepted b series bytes valid fits)

@@ -1,5 +1,6 @@
 -- What the rows say of `called` lines, and of the lines behind them.
-use Rattle.std.proofs.Common.{◌≡◌, ℕ, ◌+◌, ◌<◌, ◌≤◌, Bool, true, false, refl, sym, ap, ◌∙◌, arith, List, [], ◌∷◌, ◌++◌, length, map, fold, append_assoc, append-nil, length-append}
+use Rattle.std.proofs.Common.{◌≡◌, ℕ, ◌+◌, ◌<◌, ◌≤◌, Bool, true, false, refl, sym, ap, ◌∙◌, arith, List, [], ◌∷◌, ◌++◌}
+use Rattle.std.proofs.Common.{length, map, fold, append_assoc, append-nil, length-append}
 use Rattle.std.specs.Prelude.{Option, Some, None, ◌&&◌, ◌==◌, not, nat_lt, slice_get, slice_index}
 use Rattle.std.specs.List.{flat_map}
 use Rattle.std.proofs.lemmas.Bool.Decides.{nat_tests}
@@ -21,19 +22,23 @@ clash : {X : Type 0} → true ≡ false → X
 clash h = cc
 
 -- callers follow from deliveries, wants and sets
-pub same_callers : (b : Basin) (m k : MonthRecord) → m.delivered ≡ k.delivered → m.want ≡ k.want → m.cuts.sets ≡ k.cuts.sets → callers_due b m ≡ callers_due b k
+pub same_callers : (b : Basin) (m k : MonthRecord) → m.delivered ≡ k.delivered → m.want ≡ k.want →
+    m.cuts.sets ≡ k.cuts.sets → callers_due b m ≡ callers_due b k
 unfolding calling_right calls
 same_callers b m k d w s = rw (d, w, s) refl
 
 abbrev pub called_line : ℕ × ℕ → Item
 called_line due = line.Called due.0 due.1
 
-pub called_lines : (f : ℕ → Option ℕ) (xs : List ℕ) → flat_map (λ r. called_items r (f r)) xs ≡ map called_line (flat_map (λ r. caller_due r (f r)) xs)
+pub called_lines : (f : ℕ → Option ℕ) (xs : List ℕ) →
+    flat_map (λ r. called_items r (f r)) xs ≡ map called_line (flat_map (λ r. caller_due r (f r)) xs)
 called_lines f [] = refl
 called_lines f (x ∷ xs) = by_caller (f x) (called_lines f xs)
   where
-    by_caller : (o : Option ℕ) → flat_map (λ r. called_items r (f r)) xs ≡ map called_line (flat_map (λ r. caller_due r (f r)) xs) →
-        called_items x o ++ flat_map (λ r. called_items r (f r)) xs ≡ map called_line (caller_due x o ++ flat_map (λ r. caller_due r (f r)) xs)
+    by_caller : (o : Option ℕ) →
+        flat_map (λ r. called_items r (f r)) xs ≡ map called_line (flat_map (λ r. caller_due r (f r)) xs) →
+        called_items x o ++ flat_map (λ r. called_items r (f r)) xs ≡ map called_line
+        (caller_due x o ++ flat_map (λ r. caller_due r (f r)) xs)
     by_caller None h = h
     by_caller (Some c) h = ap (λ is. line.Called x c ∷ is) h
 
@@ -54,13 +59,17 @@ is_the_pair r c due e = rw e (itself r c)
     itself : (r c : ℕ) → not (r == r && c == c) ≡ false
     itself r c = grind (arith, nat_tests)
 
-pub at_length : (before : List (ℕ × ℕ)) (due : ℕ × ℕ) (others : List (ℕ × ℕ)) → slice_get (before ++ due ∷ others) (length before) ≡ Some due
+pub at_length : (before : List (ℕ × ℕ)) (due : ℕ × ℕ) (others : List (ℕ × ℕ)) →
+    slice_get (before ++ due ∷ others) (length before) ≡ Some due
 at_length [] due others = refl
 at_length (x ∷ before) due others = at_length before due others
 
-pub called_good : (b : Basin) (series : Inflows) (dues others before : List (ℕ × ℕ)) (t : Told) → Callers b series dues before t → dues ≡ before ++ others →
-    AreGood b series t (map called_line others) × Callers b series dues dues (fold (tell b series) t (map called_line others))
-called_good b series dues [] before t c is = (tt, record { all = c.all; due = c.due; count = c.count ∙ ap length (sym (append-nil before) ∙ sym is) })
+pub called_good : (b : Basin) (series : Inflows) (dues others before : List (ℕ × ℕ)) (t : Told) →
+    Callers b series dues before t → dues ≡ before ++ others →
+    AreGood b series t (map called_line others) ×
+    Callers b series dues dues (fold (tell b series) t (map called_line others))
+called_good b series dues [] before t c is =
+    (tt, record { all = c.all; due = c.due; count = c.count ∙ ap length (sym (append-nil before) ∙ sym is) })
 called_good b series dues (x ∷ xs) before t c is =
     let rest = called_good b series dues xs (before ++ x ∷ []) (tell b series t (called_line x)) (record {
       all = record { settled = λ r e. never r e; none_left = c.all.none_left };
@@ -96,7 +105,8 @@ pub record Behind (b : Basin) (series : Inflows) (dues : List (ℕ × ℕ)) (tak
   pub callers : Callers b series dues dues t
   pub take_is : t.now.plan.take ≡ take
 
-pub closings : (b : Basin) (series : Inflows) (dues : List (ℕ × ℕ)) (take : List ℕ) (a : ℕ → ℕ) → Section b series (Behind b series dues take)
+pub closings : (b : Basin) (series : Inflows) (dues : List (ℕ × ℕ)) (take : List ℕ) (a : ℕ → ℕ) →
+    Section b series (Behind b series dues take)
     (λ x. a x ≡ total_where (length b.rights) (λ r. is_zone_of b r x) (λ r. slice_index take r))
     (λ x. line.Amount quantity.Closing x (a x))
 closings b series dues take a = record {
@@ -134,7 +144,8 @@ closings b series dues take a = record {
     never : {X : Type 0} (r : ℕ) → None ≡ Some r → X
     never r e = cc
 
-pub end_good : (b : Basin) (series : Inflows) (dues : List (ℕ × ℕ)) (t : Told) → Callers b series dues dues t → NoneHolds (rows b series t line.End)
+pub end_good : (b : Basin) (series : Inflows) (dues : List (ℕ × ℕ)) (t : Told) → Callers b series dues dues t →
+    NoneHolds (rows b series t line.End)
 end_good b series dues t c = (
   loose_fails b series t line.End c.all.settled,
   (
@@ -159,7 +170,9 @@ pub record AreCalled (b : Basin) (series : Inflows) (others rest : List (ℕ × 
   pub now : (fold (tell b series) t (map called_line others)).now ≡ t.now
   pub months : (fold (tell b series) t (map called_line others)).months ≡ t.months
 
-due_at : (before rest : List (ℕ × ℕ)) (r c : ℕ) → not (is_due r c (slice_get (before ++ rest) (length before))) ≡ false → (more : List (ℕ × ℕ)) × (rest ≡ (r, c) ∷ more)
+due_at : (before rest : List (ℕ × ℕ)) (r c : ℕ) →
+    not (is_due r c (slice_get (before ++ rest) (length before))) ≡ false → (more : List (ℕ × ℕ)) ×
+    (rest ≡ (r, c) ∷ more)
 due_at [] [] r c h = clash h
 due_at [] (x ∷ rest) r c h = (rest, ap (λ y. y ∷ rest) (pair x (both (x.0 == r) (x.1 == c) h)))
   where
@@ -175,13 +188,16 @@ due_at [] (x ∷ rest) r c h = (rest, ap (λ y. y ∷ rest) (pair x (both (x.0 =
     pair (i, j) k = rw (equal i r k.0, equal j c k.1) refl
 due_at (x ∷ before) rest r c h = due_at before rest r c h
 
-pub called_told : (b : Basin) (series : Inflows) (others rest before : List (ℕ × ℕ)) (t : Told) → AreGood b series t (map called_line others) →
+pub called_told : (b : Basin) (series : Inflows) (others rest before : List (ℕ × ℕ)) (t : Told) →
+    AreGood b series t (map called_line others) →
     callers_due b t.now ≡ before ++ rest → t.called ≡ length before → AreCalled b series others rest t
-called_told b series [] rest before t g is count = record { more = rest; are = refl; called = omega arith; now = refl; months = refl }
+called_told b series [] rest before t g is count =
+    record { more = rest; are = refl; called = omega arith; now = refl; months = refl }
 called_told b series ((r, c) ∷ xs) rest before t g is count =
     let first = due_at before rest r c (rw (← is, ← count) g.0.1.1.1.0) in
     let further = called_told b series xs first.0 (before ++ (r, c) ∷ []) (tell b series t (line.Called r c)) g.1
-    (is ∙ (ap (λ ys. before ++ ys) first.1 ∙ sym (append_assoc before ((r, c) ∷ []) first.0))) (omega (arith, count, length-append before ((r, c) ∷ []))) in
+    (is ∙ (ap (λ ys. before ++ ys) first.1 ∙ sym (append_assoc before ((r, c) ∷ []) first.0)))
+    (omega (arith, count, length-append before ((r, c) ∷ []))) in
     record {
       more = further.more;
       are = first.1 ∙ ap (λ ys. (r, c) ∷ ys) further.are;
@@ -191,7 +207,8 @@ called_told b series ((r, c) ∷ xs) rest before t g is count =
     }
 
 -- the open set is settled by the first `called` line, or behind them
-pub settled_called : (b : Basin) (series : Inflows) (others : List (ℕ × ℕ)) (t : Told) → AreGood b series t (map called_line others) →
+pub settled_called : (b : Basin) (series : Inflows) (others : List (ℕ × ℕ)) (t : Told) →
+    AreGood b series t (map called_line others) →
     IsSettled b series (fold (tell b series) t (map called_line others)) → IsSettled b series t
 settled_called b series [] t g h = h
 settled_called b series (x ∷ xs) t g h = settled b series t (called_line x) refl g.0.0
@@ -219,7 +236,9 @@ pub end_past : (b : Basin) (series : Inflows) (t : Told) → NoneHolds (rows b s
 end_past b series t n = record {
   all = record {
     settled = settled b series t line.End refl n.0;
-    none_left = λ r l s f. (let set = none_missing b t line.End n.1.0 r l s refl in let never : None ≡ Some set.0 = sym f ∙ set.1 in cc);
+    none_left =
+        λ r l s f. (let set = none_missing b t line.End n.1.0 r l s refl in let never : None ≡ Some set.0 =
+        sym f ∙ set.1 in cc);
   };
   count = at_most (length (callers_due b t.now)) t.called n.1.1.1.0;
 }

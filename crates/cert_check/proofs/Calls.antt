@@ -1,5 +1,6 @@
 -- What the rows say of `call` lines and of the nodes of their sets.
-use Rattle.std.proofs.Common.{◌≡◌, ℕ, zero, suc, ◌+◌, ◌<◌, Bool, true, false, refl, sym, ap, subst, ◌∙◌, arith, inl, inr, List, [], ◌∷◌, ◌++◌, length, fold}
+use Rattle.std.proofs.Common.{◌≡◌, ℕ, zero, suc, ◌+◌, ◌<◌, Bool, true, false, refl, sym, ap, subst, ◌∙◌, arith, inl}
+use Rattle.std.proofs.Common.{inr, List, [], ◌∷◌, ◌++◌, length, fold}
 use Rattle.std.specs.Prelude.{Option, Some, None, ◌&&◌, ◌||◌, not, is_none, slice_set}
 use Rattle.std.specs.List.{list_any, flat_map}
 use Rattle.std.specs.Option.{option_map_or}
@@ -35,7 +36,8 @@ set_here c r v l = entry_set c.sets r v l
 pub set_apart : (c : CutSets) (r k : ℕ) (v : Option (List Bool)) → (k ≡ r → ⊥) → set_of (with_set c r v) k ≡ set_of c k
 set_apart c r k v h = in_list c.sets r k h
   where
-    in_list : (xs : Sets) (r k : ℕ) → (k ≡ r → ⊥) → of_entry (slice_set xs r v) k (λ s. s) None ≡ of_entry xs k (λ s. s) None
+    in_list : (xs : Sets) (r k : ℕ) → (k ≡ r → ⊥) →
+        of_entry (slice_set xs r v) k (λ s. s) None ≡ of_entry xs k (λ s. s) None
     in_list [] r k h = refl
     in_list (x ∷ xs) zero zero h = absurd (h refl)
     in_list (x ∷ xs) zero (suc k) h = refl
@@ -51,11 +53,13 @@ pub record Sees (b : Basin) (series : Inflows) (m : MonthRecord) (now : MonthRec
   pub sets : length now.cuts.sets ≡ length b.rights
 
 -- the set is a tight cut, by what is told
-pub told_tight : (b : Basin) (series : Inflows) (m now : MonthRecord) (r : ℕ) (set : List Bool) → Sees b series m now → cut_of now r ≡ Some set →
+pub told_tight : (b : Basin) (series : Inflows) (m now : MonthRecord) (r : ℕ) (set : List Bool) → Sees b series m now →
+    cut_of now r ≡ Some set →
     has_tight b (with_supply b series now) r ≡ is_tight b m r set
 told_tight b series m now r set s e = rw (e, s.supply, s.month, s.delivered) refl
 
-pub told_short : (b : Basin) (series : Inflows) (m now : MonthRecord) (r : ℕ) → Sees b series m now → is_short now r ≡ is_short m r
+pub told_short : (b : Basin) (series : Inflows) (m now : MonthRecord) (r : ℕ) → Sees b series m now →
+    is_short now r ≡ is_short m r
 told_short b series m now r s = rw (s.delivered, s.want) refl
 
 -- the set of the open call is a tight cut
@@ -66,13 +70,15 @@ pub loose_fails : (b : Basin) (series : Inflows) (t : Told) (i : Item) → IsSet
     not (is_member i) && option_map_or (λ r. not (has_tight b (with_supply b series t.now) r)) t.calling false ≡ false
 loose_fails b series t i h = by_call (not (is_member i)) t.calling refl
   where
-    by_call : (p : Bool) (o : Option ℕ) → t.calling ≡ o → p && option_map_or (λ r. not (has_tight b (with_supply b series t.now) r)) o false ≡ false
+    by_call : (p : Bool) (o : Option ℕ) → t.calling ≡ o →
+        p && option_map_or (λ r. not (has_tight b (with_supply b series t.now) r)) o false ≡ false
     by_call false o e = refl
     by_call true None e = refl
     by_call true (Some r) e = ap not (h r e)
 
 pub settled : (b : Basin) (series : Inflows) (t : Told) (i : Item) → is_member i ≡ false →
-    not (is_member i) && option_map_or (λ r. not (has_tight b (with_supply b series t.now) r)) t.calling false ≡ false → IsSettled b series t
+    not (is_member i) && option_map_or (λ r. not (has_tight b (with_supply b series t.now) r)) t.calling false ≡ false →
+    IsSettled b series t
 settled b series t i other h r e = untrue (has_tight b (with_supply b series t.now) r) (rw (other, e) at h)
   where
     untrue : (p : Bool) → true && not p ≡ false → p ≡ true
@@ -80,7 +86,8 @@ settled b series t i other h r e = untrue (has_tight b (with_supply b series t.n
     untrue false k = cc
 
 -- a short right without a set that the line passes over is missed
-pub missing_fails : (b : Basin) (t : Told) (i : Item) → ((r : ℕ) → r < length b.rights → is_short t.now r ≡ true → cut_of t.now r ≡ None → passes b i r ≡ true → ⊥) →
+pub missing_fails : (b : Basin) (t : Told) (i : Item) →
+    ((r : ℕ) → r < length b.rights → is_short t.now r ≡ true → cut_of t.now r ≡ None → passes b i r ≡ true → ⊥) →
     cut_missing b t i ≡ false
 missing_fails b t i h = over (places_of b.rights) (λ r m. by_right r (numbers_from-below 0 (length b.rights) r m).1)
   where
@@ -95,16 +102,21 @@ missing_fails b t i h = over (places_of b.rights) (λ r m. by_right r (numbers_f
     no_set (Some x) e = cc
 
     by_right : (r : ℕ) → r < 0 + length b.rights → is_short t.now r && is_none (cut_of t.now r) && passes b i r ≡ false
-    by_right r l = none (is_short t.now r) (is_none (cut_of t.now r)) (passes b i r) (λ short free passed. h r (omega arith) short (no_set (cut_of t.now r) free) passed)
+    by_right r l =
+        none (is_short t.now r) (is_none (cut_of t.now r)) (passes b i r)
+        (λ short free passed. h r (omega arith) short (no_set (cut_of t.now r) free) passed)
 
     over : (xs : List ℕ) → ((r : ℕ) → Has xs r → is_short t.now r && is_none (cut_of t.now r) && passes b i r ≡ false) →
         list_any (λ r. is_short t.now r && is_none (cut_of t.now r) && passes b i r) xs ≡ false
     over [] k = refl
     over (x ∷ xs) k = rw (k x (inl refl)) (over xs (λ r m. k r (inr m)))
 
-pub none_missing : (b : Basin) (t : Told) (i : Item) → cut_missing b t i ≡ false → (r : ℕ) → r < length b.rights → is_short t.now r ≡ true → passes b i r ≡ true →
+pub none_missing : (b : Basin) (t : Told) (i : Item) → cut_missing b t i ≡ false → (r : ℕ) → r < length b.rights →
+    is_short t.now r ≡ true → passes b i r ≡ true →
     (set : List Bool) × (cut_of t.now r ≡ Some set)
-none_missing b t i h r l short passed = by_set (cut_of t.now r) refl (over (places_of b.rights) h (numbers_from-has 0 (length b.rights) r r l (omega arith)))
+none_missing b t i h r l short passed =
+    by_set (cut_of t.now r) refl
+    (over (places_of b.rights) h (numbers_from-has 0 (length b.rights) r r l (omega arith)))
   where
     first : (p q : Bool) → p || q ≡ false → p ≡ false
     first true q k = cc
@@ -114,11 +126,16 @@ none_missing b t i h r l short passed = by_set (cut_of t.now r) refl (over (plac
     other true q k = cc
     other false q k = k
 
-    over : (xs : List ℕ) → list_any (λ r. is_short t.now r && is_none (cut_of t.now r) && passes b i r) xs ≡ false → Has xs r →
+    over : (xs : List ℕ) → list_any (λ r. is_short t.now r && is_none (cut_of t.now r) && passes b i r) xs ≡ false →
+        Has xs r →
         is_short t.now r && is_none (cut_of t.now r) && passes b i r ≡ false
     over [] k m = absurd m
-    over (x ∷ xs) k (inl is) = rw is (first (is_short t.now x && is_none (cut_of t.now x) && passes b i x) (list_any (λ r. is_short t.now r && is_none (cut_of t.now r) && passes b i r) xs) k)
-    over (x ∷ xs) k (inr m) = over xs (other (is_short t.now x && is_none (cut_of t.now x) && passes b i x) (list_any (λ r. is_short t.now r && is_none (cut_of t.now r) && passes b i r) xs) k) m
+    over (x ∷ xs) k (inl is) =
+        rw is (first (is_short t.now x && is_none (cut_of t.now x) && passes b i x)
+        (list_any (λ r. is_short t.now r && is_none (cut_of t.now r) && passes b i r) xs) k)
+    over (x ∷ xs) k (inr m) =
+        over xs (other (is_short t.now x && is_none (cut_of t.now x) && passes b i x)
+        (list_any (λ r. is_short t.now r && is_none (cut_of t.now r) && passes b i r) xs) k) m
 
     all : (p q s : Bool) → p ≡ true → q ≡ true → s ≡ true → p && q && s ≡ false → ⊥
     all true true true e f g k = clash k
@@ -126,14 +143,18 @@ none_missing b t i h r l short passed = by_set (cut_of t.now r) refl (over (plac
     all true false s e f g k = clash (sym f)
     all false q s e f g k = clash (sym e)
 
-    by_set : (o : Option (List Bool)) → cut_of t.now r ≡ o → is_short t.now r && is_none (cut_of t.now r) && passes b i r ≡ false → (set : List Bool) × (cut_of t.now r ≡ Some set)
-    by_set None e k = absurd (all (is_short t.now r) (is_none (cut_of t.now r)) (passes b i r) short (ap is_none e) passed k)
+    by_set : (o : Option (List Bool)) → cut_of t.now r ≡ o →
+        is_short t.now r && is_none (cut_of t.now r) && passes b i r ≡ false → (set : List Bool) ×
+        (cut_of t.now r ≡ Some set)
+    by_set None e k =
+        absurd (all (is_short t.now r) (is_none (cut_of t.now r)) (passes b i r) short (ap is_none e) passed k)
     by_set (Some set) e k = (set, e)
 
 -- A right's call.
 
 call_good : (b : Basin) (series : Inflows) (t : Told) (r : ℕ) → IsSettled b series t → is_short t.now r ≡ true →
-    ((s : ℕ) → s < length b.rights → is_short t.now s ≡ true → cut_of t.now s ≡ None → is_senior b s r ≡ true → ⊥) → NoneHolds (rows b series t (line.Call r))
+    ((s : ℕ) → s < length b.rights → is_short t.now s ≡ true → cut_of t.now s ≡ None → is_senior b s r ≡ true → ⊥) →
+    NoneHolds (rows b series t (line.Call r))
 call_good b series t r settled short passed =
     (loose_fails b series t (line.Call r) settled, (missing_fails b t (line.Call r) passed, (ap not short, (refl, tt))))
 
@@ -147,11 +168,13 @@ pub record Calling (b : Basin) (series : Inflows) (m : MonthRecord) (xs : List �
 -- the sets of a record are right: each short right has a tight one, and every other none
 pub record HasRightSets (b : Basin) (m : MonthRecord) : Type 0 where
   pub sized : (r : ℕ) (set : List Bool) → cut_of m r ≡ Some set → length set ≡ length b.nodes
-  pub short : (r : ℕ) → r < length b.rights → is_short m r ≡ true → (set : List Bool) × (cut_of m r ≡ Some set) × (is_tight b m r set ≡ true)
+  pub short : (r : ℕ) → r < length b.rights → is_short m r ≡ true → (set : List Bool) × (cut_of m r ≡ Some set) ×
+      (is_tight b m r set ≡ true)
   pub met : (r : ℕ) → r < length b.rights → is_short m r ≡ false → cut_of m r ≡ None
 
 -- what is told behind a right's call
-pub sees_more : (b : Basin) (series : Inflows) (m : MonthRecord) (t : Told) (r : ℕ) (set : List Bool) → Sees b series m t.now → Sees b series m (put_cut t r set).now
+pub sees_more : (b : Basin) (series : Inflows) (m : MonthRecord) (t : Told) (r : ℕ) (set : List Bool) →
+    Sees b series m t.now → Sees b series m (put_cut t r set).now
 sees_more b series m t r set s = record {
   month = s.month;
   delivered = s.delivered;
@@ -163,11 +186,15 @@ sees_more b series m t r set s = record {
 abbrev pub behind_call : Told → ℕ → List Bool → Told
 behind_call t r set = record (put_cut t r set) { calling = Some r }
 
-calling_more : (b : Basin) (series : Inflows) (m : MonthRecord) (r : ℕ) (rs : List ℕ) (set : List Bool) (t : Told) → r < length b.rights → (Has rs r → ⊥) →
-    cut_of m r ≡ Some set → is_tight b m r set ≡ true → Calling b series m (r ∷ rs) t → Calling b series m rs (behind_call t r set)
+calling_more : (b : Basin) (series : Inflows) (m : MonthRecord) (r : ℕ) (rs : List ℕ) (set : List Bool) (t : Told) →
+    r < length b.rights → (Has rs r → ⊥) →
+    cut_of m r ≡ Some set → is_tight b m r set ≡ true → Calling b series m (r ∷ rs) t →
+    Calling b series m rs (behind_call t r set)
 calling_more b series m r rs set t l once e tight c = record {
   sees = sees_more b series m t r set c.sees;
-  settled = λ s is. (let same : Some r ≡ Some s = is in let eq : r ≡ s = cc in subst (λ (x : ℕ). has_tight b (with_supply b series (put_cut t r set).now) x ≡ true) eq here);
+  settled =
+      λ s is. (let same : Some r ≡ Some s = is in let eq : r ≡ s = cc in
+      subst (λ (x : ℕ). has_tight b (with_supply b series (put_cut t r set).now) x ≡ true) eq here);
   sets = λ s k none. by_place s k none;
   free = λ s h. set_apart t.now.cuts r s (Some set) (λ is. once (subst (λ (x : ℕ). Has rs x) is h)) ∙ c.free s (inr h);
 }
@@ -176,7 +203,8 @@ calling_more b series m r rs set t l once e tight c = record {
     within = omega (arith, c.sees.sets)
 
     here : has_tight b (with_supply b series (put_cut t r set).now) r ≡ true
-    here = told_tight b series m (put_cut t r set).now r set (sees_more b series m t r set c.sees) (set_here t.now.cuts r (Some set) within) ∙ tight
+    here = told_tight b series m (put_cut t r set).now r set (sees_more b series m t r set c.sees)
+        (set_here t.now.cuts r (Some set) within) ∙ tight
 
     by_place : (s : ℕ) → s < length b.rights → (Has rs s → ⊥) → cut_of (put_cut t r set).now s ≡ cut_of m s
     by_place s k none = elim (cases_eq s r) [
@@ -192,36 +220,50 @@ pub once_in_order : (b : Basin) (r : ℕ) (rs : List ℕ) → IsOrdered b.rights
 once_in_order b r rs o h = clash (sym (o.0 r h) ∙ not_senior_to_itself b r)
 
 -- the `call` lines of right sets are not refuted
-pub calls_good : (b : Basin) (series : Inflows) (m : MonthRecord) → HasRightSets b m → (xs : List ℕ) → IsOrdered b.rights xs → ((r : ℕ) → Has xs r → r < length b.rights) →
+pub calls_good : (b : Basin) (series : Inflows) (m : MonthRecord) → HasRightSets b m → (xs : List ℕ) →
+    IsOrdered b.rights xs → ((r : ℕ) → Has xs r → r < length b.rights) →
     (t : Told) → Calling b series m xs t →
-    AreGood b series t (flat_map (λ r. call_items r (cut_of m r)) xs) × Calling b series m [] (fold (tell b series) t (flat_map (λ r. call_items r (cut_of m r)) xs))
+    AreGood b series t (flat_map (λ r. call_items r (cut_of m r)) xs) ×
+    Calling b series m [] (fold (tell b series) t (flat_map (λ r. call_items r (cut_of m r)) xs))
 calls_good b series m right [] o below t c = (tt, c)
-calls_good b series m right (r ∷ rs) o below t c = by_test (is_short m r) refl (calls_good b series m right rs o.1 (λ s h. below s (inr h)))
+calls_good b series m right (r ∷ rs) o below t c =
+    by_test (is_short m r) refl (calls_good b series m right rs o.1 (λ s h. below s (inr h)))
   where
     within : r < length b.rights
     within = below r (inl refl)
 
     Further : Type 0
     Further = (u : Told) → Calling b series m rs u →
-        AreGood b series u (flat_map (λ r. call_items r (cut_of m r)) rs) × Calling b series m [] (fold (tell b series) u (flat_map (λ r. call_items r (cut_of m r)) rs))
+        AreGood b series u (flat_map (λ r. call_items r (cut_of m r)) rs) ×
+        Calling b series m [] (fold (tell b series) u (flat_map (λ r. call_items r (cut_of m r)) rs))
 
     Whole : List Item → Type 0
     Whole items = AreGood b series t (items ++ flat_map (λ r. call_items r (cut_of m r)) rs)
         × Calling b series m [] (fold (tell b series) t (items ++ flat_map (λ r. call_items r (cut_of m r)) rs))
 
-    with_set : (set : List Bool) → cut_of m r ≡ Some set → is_tight b m r set ≡ true → is_short m r ≡ true → Further → Whole (call_items r (Some set))
+    with_set : (set : List Bool) → cut_of m r ≡ Some set → is_tight b m r set ≡ true → is_short m r ≡ true → Further →
+        Whole (call_items r (Some set))
     with_set set e tight short further =
-        let told : fold (tell b series) t (call_items r (Some set)) ≡ behind_call t r set = tell_call b series r set t (omega (arith, within, c.sees.sets)) (right.sized r set e) in
-        let rest = further (behind_call t r set) (calling_more b series m r rs set t within (once_in_order b r rs o) e tight c) in (
+        let told : fold (tell b series) t (call_items r (Some set)) ≡ behind_call t r set =
+        tell_call b series r set t (omega (arith, within, c.sees.sets)) (right.sized r set e) in
+        let rest =
+        further (behind_call t r set)
+        (calling_more b series m r rs set t within (once_in_order b r rs o) e tight c) in (
           good_both b series t (call_items r (Some set)) (flat_map (λ r. call_items r (cut_of m r)) rs) (
-            call_good b series t r c.settled (told_short b series m t.now r c.sees ∙ short) (λ s k short free senior. unpassed s k (sym (told_short b series m t.now s c.sees) ∙ short) free senior),
+            call_good b series t r c.settled (told_short b series m t.now r c.sees ∙ short)
+                (λ s k short free senior. unpassed s k (sym (told_short b series m t.now s c.sees) ∙ short) free
+                senior),
             members_good b series (members_from 0 set) (tell b series t (line.Call r)),
           )
               (rw told rest.0),
-          rw (fold-both (tell b series) t (call_items r (Some set)) (flat_map (λ r. call_items r (cut_of m r)) rs), told) rest.1,
+          rw (
+            fold-both (tell b series) t (call_items r (Some set)) (flat_map (λ r. call_items r (cut_of m r)) rs),
+            told,
+          ) rest.1,
         )
       where
-        unpassed : (s : ℕ) → s < length b.rights → is_short m s ≡ true → cut_of t.now s ≡ None → is_senior b s r ≡ true → ⊥
+        unpassed : (s : ℕ) → s < length b.rights → is_short m s ≡ true → cut_of t.now s ≡ None →
+            is_senior b s r ≡ true → ⊥
         unpassed s k short free senior =
             let own = right.short s k short in
             let never : None ≡ Some own.0 = sym free ∙ (c.sets s k (λ h. before h) ∙ own.1) in cc
@@ -233,7 +275,8 @@ calls_good b series m right (r ∷ rs) o below t c = by_test (is_short m r) refl
     by_test : (p : Bool) → is_short m r ≡ p → Further → Whole (call_items r (cut_of m r))
     by_test true short further =
         let own = right.short r within short in
-        subst (λ (x : Option (List Bool)). Whole (call_items r x)) (sym own.1) (with_set own.0 own.1 own.2 short further)
+        subst (λ (x : Option (List Bool)). Whole (call_items r x)) (sym own.1)
+        (with_set own.0 own.1 own.2 short further)
     by_test false met further =
         subst (λ (x : Option (List Bool)). Whole (call_items r x)) (sym (right.met r within met)) (further t (record {
           sees = c.sees;
@@ -252,7 +295,8 @@ calls_good b series m right (r ∷ rs) o below t c = by_test (is_short m r) refl
 -- The converse: what `call` lines say that are not refuted.
 
 -- the set that is open before some calls is settled by the first of them, or behind them
-settled_before : (b : Basin) (series : Inflows) (cut : ℕ → Option (List Bool)) (xs : List ℕ) (t : Told) → AreGood b series t (flat_map (λ r. call_items r (cut r)) xs) →
+settled_before : (b : Basin) (series : Inflows) (cut : ℕ → Option (List Bool)) (xs : List ℕ) (t : Told) →
+    AreGood b series t (flat_map (λ r. call_items r (cut r)) xs) →
     IsSettled b series (fold (tell b series) t (flat_map (λ r. call_items r (cut r)) xs)) → IsSettled b series t
 settled_before b series cut [] t g h = h
 settled_before b series cut (r ∷ rs) t g h = by_set (cut r) (settled_before b series cut rs t) g h
@@ -260,17 +304,21 @@ settled_before b series cut (r ∷ rs) t g h = by_set (cut r) (settled_before b 
     by_set : (o : Option (List Bool)) → (AreGood b series t (flat_map (λ r. call_items r (cut r)) rs) →
         IsSettled b series (fold (tell b series) t (flat_map (λ r. call_items r (cut r)) rs)) → IsSettled b series t) →
         AreGood b series t (call_items r o ++ flat_map (λ r. call_items r (cut r)) rs) →
-        IsSettled b series (fold (tell b series) t (call_items r o ++ flat_map (λ r. call_items r (cut r)) rs)) → IsSettled b series t
+        IsSettled b series (fold (tell b series) t (call_items r o ++ flat_map (λ r. call_items r (cut r)) rs)) →
+        IsSettled b series t
     by_set None further g h = further g h
     by_set (Some set) further g h = settled b series t (line.Call r) refl g.0.0
 
-pub calls_told : (b : Basin) (series : Inflows) (m : MonthRecord) → ((r : ℕ) (set : List Bool) → cut_of m r ≡ Some set → length set ≡ length b.nodes) →
-    (xs : List ℕ) → ((r : ℕ) → Has xs r → r < length b.rights) → (t : Told) → Sees b series m t.now → AreGood b series t (flat_map (λ r. call_items r (cut_of m r)) xs) →
+pub calls_told : (b : Basin) (series : Inflows) (m : MonthRecord) →
+    ((r : ℕ) (set : List Bool) → cut_of m r ≡ Some set → length set ≡ length b.nodes) →
+    (xs : List ℕ) → ((r : ℕ) → Has xs r → r < length b.rights) → (t : Told) → Sees b series m t.now →
+    AreGood b series t (flat_map (λ r. call_items r (cut_of m r)) xs) →
     IsSettled b series (fold (tell b series) t (flat_map (λ r. call_items r (cut_of m r)) xs)) →
     (r : ℕ) (set : List Bool) → Has xs r → cut_of m r ≡ Some set → (is_short m r ≡ true) × (is_tight b m r set ≡ true)
 calls_told b series m sized [] below t s g h r set k e = absurd k
 calls_told b series m sized (x ∷ xs) below t s g h r set k e =
-    by_set (cut_of m x) refl g h (λ u v a c l. calls_told b series m sized xs (λ y z. below y (inr z)) u v a c r set l e)
+    by_set (cut_of m x) refl g h
+    (λ u v a c l. calls_told b series m sized xs (λ y z. below y (inr z)) u v a c r set l e)
   where
     Answer : Type 0
     Answer = (is_short m r ≡ true) × (is_tight b m r set ≡ true)
@@ -279,7 +327,8 @@ calls_told b series m sized (x ∷ xs) below t s g h r set k e =
     others = flat_map (λ r. call_items r (cut_of m r)) xs
 
     Further : Type 0
-    Further = (u : Told) → Sees b series m u.now → AreGood b series u others → IsSettled b series (fold (tell b series) u others) → Has xs r → Answer
+    Further = (u : Told) → Sees b series m u.now → AreGood b series u others →
+        IsSettled b series (fold (tell b series) u others) → Has xs r → Answer
 
     by_set : (o : Option (List Bool)) → cut_of m x ≡ o → AreGood b series t (call_items x o ++ others) →
         IsSettled b series (fold (tell b series) t (call_items x o ++ others)) → Further → Answer
@@ -312,6 +361,8 @@ calls_told b series m sized (x ∷ xs) below t s g h r set k e =
             let eq : own ≡ set = cc in
             let settled_now = settled_before b series (λ r. cut_of m r) xs (behind_call t x own) rest ended x refl in
             let short : is_short t.now x ≡ true = not_met (is_short t.now x) (a.0.1.1.0) in
-            let tight = sym (told_tight b series m (put_cut t x own).now x own sees (set_here t.now.cuts x (Some own) (omega (arith, below x (inl refl), s.sets)))) ∙ settled_now in
+            let tight =
+            sym (told_tight b series m (put_cut t x own).now x own sees
+            (set_here t.now.cuts x (Some own) (omega (arith, below x (inl refl), s.sets)))) ∙ settled_now in
             (ap (is_short m) is ∙ (sym (told_short b series m t.now x s) ∙ short), rw (is, ← eq) tight)
         by_place (inr l) = further (behind_call t x own) sees rest ended l

@@ -1,5 +1,6 @@
 -- An account keeps what is told with one line more.
-use Rattle.std.proofs.Common.{◌≡◌, ℕ, zero, suc, ◌+◌, ◌≤◌, Bool, true, false, refl, sym, ap, ◌∙◌, arith, List, [], ◌∷◌, ◌++◌, length, map, replicate, take, length-append}
+use Rattle.std.proofs.Common.{◌≡◌, ℕ, zero, suc, ◌+◌, ◌≤◌, Bool, true, false, refl, sym, ap, ◌∙◌, arith, List, [], ◌∷◌}
+use Rattle.std.proofs.Common.{◌++◌, length, map, replicate, take, length-append}
 use Rattle.std.specs.Prelude.{Option, Some, None, ◌&&◌, not, is_some, slice_index, slice_set, slice_get, if◌then◌else◌}
 use Rattle.std.proofs.lemmas.List.{length-map, length-replicate, map-append}
 use Rattle.std.proofs.lemmas.Option.{slice_get_past}
@@ -27,7 +28,8 @@ use Rattle.cert_check.specs.Keeping.{Keeps, callers_of, is_supplied}
 use Rattle.cert_check.specs.Walks.{IsDueFrom, behind}
 use Rattle.cert_check.specs.declared.account.Account.{Account}
 use Rattle.cert_check.specs.declared.answering.Due.{Due}
-use Rattle.cert_check.proofs.Fitting.{Stays, callers_kept, callers_same, callers_stay, fits_amount, fits_behind, fits_same, lacks_stay, shows_amount, stays, supply_stays, with_amount}
+use Rattle.cert_check.proofs.Fitting.{Stays, callers_kept, callers_same, callers_stay, fits_amount, fits_behind}
+use Rattle.cert_check.proofs.Fitting.{fits_same, lacks_stay, shows_amount, stays, supply_stays, with_amount}
 use Rattle.cert_check.proofs.Rows.{good_row}
 use Rattle.cert_check.proofs.RunSound.{opens_with_last}
 
@@ -72,8 +74,24 @@ keeps_amount b series a t q x amount k = record {
     told = stays q x amount t.now
 
 -- a `deliver` line, before the `called` lines
-pub keeps_delivery : (b : Basin) (series : Inflows) (a : Account) (t : Told) (x amount want : ℕ) → t.called ≡ 0 → Keeps b series a t →
-    Keeps b series (record a { month = record a.month { delivered = slice_set a.month.delivered x amount; want = slice_set a.month.want x want; plan = record a.month.plan { take = slice_set a.month.plan.take x (if is_some (taking_node b x) then amount else 0) } }; calling = None; has_closes = false; has_callers = false; passed = 0; answered = 0 }) (tell b series t (line.Deliver x amount want))
+pub keeps_delivery : (b : Basin) (series : Inflows) (a : Account) (t : Told) (x amount want : ℕ) → t.called ≡ 0 →
+    Keeps b series a t →
+    Keeps b series
+    (record a {
+      month =
+          record a.month {
+            delivered = slice_set a.month.delivered x amount;
+            want = slice_set a.month.want x want;
+            plan =
+                record a.month.plan { take = slice_set a.month.plan.take x (if is_some (taking_node b x) then amount else 0) };
+          };
+      calling = None;
+      has_closes = false;
+      has_callers = false;
+      passed = 0;
+      answered = 0;
+    })
+    (tell b series t (line.Deliver x amount want))
 keeps_delivery b series a t x amount want none k = record {
   fits = record {
     month = fits_same b a.month _ (rw (
@@ -119,7 +137,8 @@ keeps_delivery b series a t x amount want none k = record {
   answered = none;
 }
 
-no_sets : (sets : List (Option (List Bool))) (n : ℕ) → length sets ≡ n → map {A = Option (List Bool)} {B = Option (List Bool)} (λ _. None) sets ≡ replicate n None
+no_sets : (sets : List (Option (List Bool))) (n : ℕ) → length sets ≡ n →
+    map {A = Option (List Bool)} {B = Option (List Bool)} (λ _. None) sets ≡ replicate n None
 no_sets [] zero e = refl
 no_sets [] (suc n) e = absurd (omega (arith, e))
 no_sets (x ∷ sets) zero e = absurd (omega (arith, e))
@@ -129,7 +148,8 @@ zeros : (xs : List ℕ) (n : ℕ) → length xs ≡ n → replicate {A = ℕ} (l
 zeros xs n e = ap (λ k. replicate {A = ℕ} k 0) e
 
 -- a `month` line
-pub keeps_month : (b : Basin) (series : Inflows) (a : Account) (t : Told) (month : Month) → IsMonth month → Keeps b series a t →
+pub keeps_month : (b : Basin) (series : Inflows) (a : Account) (t : Told) (month : Month) → IsMonth month →
+    Keeps b series a t →
     Keeps b series (record a {
       month = record a.month {
         index = a.done;
@@ -139,7 +159,12 @@ pub keeps_month : (b : Basin) (series : Inflows) (a : Account) (t : Told) (month
         returned = replicate (length a.month.returned) 0;
         used = replicate (length a.month.used) 0;
         want = replicate (length a.month.want) 0;
-        plan = record { flow = replicate (length a.month.plan.flow) 0; take = replicate (length a.month.plan.take) 0; out = replicate (length a.month.plan.out) 0 };
+        plan = record {
+          flow = replicate (length a.month.plan.flow) 0;
+          take =
+              replicate (length a.month.plan.take) 0;
+          out = replicate (length a.month.plan.out) 0;
+        };
         delivered = replicate (length a.month.delivered) 0;
         cuts = without_sets a.month.cuts;
         closing = replicate (length a.month.closing) 0;
@@ -209,7 +234,9 @@ keeps_month b series a t month calendar k = record {
 }
 
 -- a `called` line, with so many rights whose callers are told
-pub keeps_called : (b : Basin) (series : Inflows) (a : Account) (t : Told) (x caller next : ℕ) → next ≤ length b.rights → t.called + 1 ≡ length (callers_of b t.now (take next (seniors_first b))) → Keeps b series a t →
+pub keeps_called : (b : Basin) (series : Inflows) (a : Account) (t : Told) (x caller next : ℕ) →
+    next ≤ length b.rights → t.called + 1 ≡ length (callers_of b t.now (take next (seniors_first b))) →
+    Keeps b series a t →
     Keeps b series (record a { calling = None; answered = next }) (tell b series t (line.Called x caller))
 keeps_called b series a t x caller next l more k = record {
   fits = record {
@@ -240,16 +267,33 @@ keeps_called b series a t x caller next l more k = record {
 
 -- the deliveries of one month more
 delivered_more : (b : Basin) (series : Inflows) (a : Account) (t : Told) → Keeps b series a t →
-    map (λ m. m.delivered) (t.months ++ with_supply b series t.now ∷ []) ≡ map (λ m. m.delivered) t.months ++ a.month.delivered ∷ []
-delivered_more b series a t k = map-append (λ m. m.delivered) t.months (with_supply b series t.now ∷ []) ∙ ap (λ xs. map (λ m. m.delivered) t.months ++ xs ∷ []) (sym k.shows.delivered)
+    map (λ m. m.delivered) (t.months ++ with_supply b series t.now ∷ []) ≡ map (λ m. m.delivered)
+    t.months ++ a.month.delivered ∷ []
+delivered_more b series a t k =
+    map-append (λ m. m.delivered) t.months (with_supply b series t.now ∷ [])
+    ∙ ap (λ xs. map (λ m. m.delivered) t.months ++ xs ∷ []) (sym k.shows.delivered)
 
-months_count : (b : Basin) (a : Account) (t : Told) → length (map (λ m. m.delivered) t.months ++ a.month.delivered ∷ []) ≡ length t.months + 1
-months_count b a t = length-append (map (λ m. m.delivered) t.months) (a.month.delivered ∷ []) ∙ ap (λ n. n + 1) (length-map t.months (λ m. m.delivered))
+months_count : (b : Basin) (a : Account) (t : Told) →
+    length (map (λ m. m.delivered) t.months ++ a.month.delivered ∷ []) ≡ length t.months + 1
+months_count b a t =
+    length-append (map (λ m. m.delivered) t.months) (a.month.delivered ∷ [])
+    ∙ ap (λ n. n + 1) (length-map t.months (λ m. m.delivered))
 
 -- an `end` line
-pub keeps_end : (b : Basin) (series : Inflows) (a : Account) (t : Told) (lags : List OnTheWay) (comes used : List ℕ) → lag.StandsFor lags b.returns (map (λ m. m.delivered) t.months ++ a.month.delivered ∷ []) → HasReturned b (map (λ m. m.delivered) t.months ++ a.month.delivered ∷ []) comes →
+pub keeps_end : (b : Basin) (series : Inflows) (a : Account) (t : Told) (lags : List OnTheWay) (comes used : List ℕ) →
+    lag.StandsFor lags b.returns (map (λ m. m.delivered) t.months ++ a.month.delivered ∷ []) →
+    HasReturned b (map (λ m. m.delivered) t.months ++ a.month.delivered ∷ []) comes →
     HasUsed b (map (λ m. m.delivered) t.months ++ a.month.delivered ∷ []) used → Keeps b series a t →
-    Keeps b series (record a { done = a.done + 1; lags = lags; opens = a.month.closing; comes = comes; used = used; calling = None }) (tell b series t (line.End))
+    Keeps b series
+    (record a {
+      done = a.done + 1;
+      lags = lags;
+      opens = a.month.closing;
+      comes = comes;
+      used = used;
+      calling =
+          None;
+    }) (tell b series t (line.End))
 keeps_end b series a t lags comes used stands back spent k = record {
   fits = record {
     month = k.fits.month;
@@ -268,7 +312,9 @@ keeps_end b series a t lags comes used stands back spent k = record {
   done = omega (arith, k.done, length-append t.months (with_supply b series t.now ∷ []));
   lags = rw (delivered_more b series a t k) stands;
   opens = k.shows.closing ∙ sym (opens_with_last b t.months (with_supply b series t.now));
-  comes = λ n l. back.each n l ∙ rw (delivered_more b series a t k, length-append t.months (with_supply b series t.now ∷ [])) (ap (returned_at b (map (λ m. m.delivered) t.months ++ a.month.delivered ∷ []) n) (months_count b a t));
+  comes = λ n l. back.each n l
+      ∙ rw (delivered_more b series a t k, length-append t.months (with_supply b series t.now ∷ []))
+      (ap (returned_at b (map (λ m. m.delivered) t.months ++ a.month.delivered ∷ []) n) (months_count b a t));
   used = rw (delivered_more b series a t k) spent;
   supply = k.supply;
   closes = k.closes;
@@ -278,18 +324,25 @@ keeps_end b series a t lags comes used stands back spent k = record {
 }
 
 -- the callers that are told are those of the account's record
-pub callers_told : (b : Basin) (series : Inflows) (a : Account) (t : Told) → Keeps b series a t → (xs : List ℕ) → callers_of b a.month xs ≡ callers_of b t.now xs
+pub callers_told : (b : Basin) (series : Inflows) (a : Account) (t : Told) → Keeps b series a t → (xs : List ℕ) →
+    callers_of b a.month xs ≡ callers_of b t.now xs
 callers_told b series a t k xs = callers_same b a.month t.now k.shows.delivered k.shows.want k.shows.sets xs
 
 -- a good `called` line is that of the next right that answers to a caller
-pub keeps_next : (b : Basin) (series : Inflows) (a : Account) (t : Told) (x caller : ℕ) (due : Option Due) → Keeps b series a t →
+pub keeps_next : (b : Basin) (series : Inflows) (a : Account) (t : Told) (x caller : ℕ) (due : Option Due) →
+    Keeps b series a t →
     first_row b series t (line.Called x caller) ≡ None → IsDueFrom b a.month a.answered due →
-    Keeps b series (record a { calling = None; answered = behind a.answered due }) (tell b series t (line.Called x caller))
+    Keeps b series (record a { calling = None; answered = behind a.answered due })
+    (tell b series t (line.Called x caller))
 keeps_next b series a t x caller None k good all =
-    clash (sym (ap (λ o. not (is_due x caller o)) (past (callers_due b t.now) t.called (omega (arith, k.answered, ap length same)))) ∙ (good_row b series t (line.Called x caller) good).1.1.1.0)
+    clash (sym
+    (ap (λ o. not (is_due x caller o))
+    (past (callers_due b t.now) t.called (omega (arith, k.answered, ap length same))))
+    ∙ (good_row b series t (line.Called x caller) good).1.1.1.0)
   where
     same : callers_due b t.now ≡ callers_of b t.now (take a.answered (seniors_first b))
-    same = sym (callers_told b series a t k (seniors_first b)) ∙ (all ∙ callers_told b series a t k (take a.answered (seniors_first b)))
+    same = sym (callers_told b series a t k (seniors_first b))
+        ∙ (all ∙ callers_told b series a t k (take a.answered (seniors_first b)))
 
     past : (xs : List (ℕ × ℕ)) (n : ℕ) → n ≡ length xs → slice_get xs n ≡ None
     past xs n e = slice_get_past xs n (omega arith)
@@ -297,13 +350,23 @@ keeps_next b series a t x caller None k good all =
     clash : {X : Type 0} → true ≡ false → X
     clash e = cc
 keeps_next b series a t x caller (Some due) k good next =
-    keeps_called b series a t x caller (due.place + 1) (omega (arith, next.within, length-by_seniority b.rights)) (omega (arith, k.answered, ap length more, length-append (callers_of b t.now (take a.answered (seniors_first b))) ((due.right, due.caller) ∷ []))) k
+    keeps_called b series a t x caller (due.place + 1) (omega (arith, next.within, length-by_seniority b.rights))
+    (omega (
+      arith,
+      k.answered,
+      ap length more,
+      length-append (callers_of b t.now (take a.answered (seniors_first b))) ((due.right, due.caller) ∷ []),
+    )) k
   where
-    more : callers_of b t.now (take (due.place + 1) (seniors_first b)) ≡ callers_of b t.now (take a.answered (seniors_first b)) ++ (due.right, due.caller) ∷ []
+    more : callers_of b t.now (take (due.place + 1) (seniors_first b)) ≡ callers_of b t.now
+        (take a.answered (seniors_first b)) ++ (due.right, due.caller) ∷ []
     more =
         sym (callers_told b series a t k (take (due.place + 1) (seniors_first b)))
-        ∙ (next.up_to ∙ ap (λ xs. xs ++ (due.right, due.caller) ∷ []) (callers_told b series a t k (take a.answered (seniors_first b))))
+        ∙ (next.up_to
+        ∙ ap (λ xs. xs ++ (due.right, due.caller) ∷ [])
+        (callers_told b series a t k (take a.answered (seniors_first b))))
 
 -- the same, where the line and the account are known by an equation
-pub along : (b : Basin) (series : Inflows) (t : Told) (a c : Account) (x y : Item) → x ≡ y → c ≡ a → Keeps b series a (tell b series t y) → Keeps b series c (tell b series t x)
+pub along : (b : Basin) (series : Inflows) (t : Told) (a c : Account) (x y : Item) → x ≡ y → c ≡ a →
+    Keeps b series a (tell b series t y) → Keeps b series c (tell b series t x)
 along b series t a c x y e f k = rw (e, f) k

@@ -71,79 +71,193 @@ abbrev pub at : ℕ → RefutedKind → Option Refuted
 at n kind = Some (record { line = n; kind = kind })
 
 -- enough for the senior right, and too little for the junior
-enough_for_one : refusal (verdict (basin 80) no_series (codes "river-result 1" ∷ codes "run 1900-01 1" ∷ codes "month 1900-01" ∷ codes "flow a 60" ∷ codes "flow b 0" ∷ codes "deliver old 60 60" ∷ codes "deliver new 20 50" ∷ codes "out mouth 0" ∷ codes "call new" ∷ codes "in top" ∷ codes "in mid" ∷ codes "in mouth" ∷ codes "end" ∷ codes "done 1" ∷ []) []) ≡ None
-unfolding digits total greatest_where has_shape read_month read_amount read_plain is_name numbers_from members_from by_seniority line_of fields_of month_lines calling_right calls is_same_shape fits due_in_month due word_of item_with item_of read_line first_row judge
+enough_for_one : refusal
+    (verdict (basin 80) no_series
+    (codes "river-result 1" ∷ codes "run 1900-01 1" ∷ codes "month 1900-01" ∷ codes "flow a 60" ∷ codes
+    "flow b 0" ∷ codes "deliver old 60 60" ∷ codes "deliver new 20 50" ∷ codes "out mouth 0" ∷ codes "call new" ∷ codes
+    "in top" ∷ codes "in mid" ∷ codes "in mouth" ∷ codes "end" ∷ codes "done 1" ∷ []) []) ≡ None
+unfolding digits total greatest_where has_shape read_month read_amount read_plain is_name numbers_from members_from
+    by_seniority line_of fields_of month_lines calling_right calls is_same_shape fits due_in_month due word_of item_with
+    item_of read_line first_row judge
 enough_for_one = refl
 
 -- too little for the senior right, on which the junior is called
-too_little : refusal (verdict (basin 50) no_series (codes "river-result 1" ∷ codes "run 1900-01 1" ∷ codes "month 1900-01" ∷ codes "flow a 50" ∷ codes "flow b 0" ∷ codes "deliver old 50 60" ∷ codes "deliver new 0 50" ∷ codes "out mouth 0" ∷ codes "call old" ∷ codes "in top" ∷ codes "in mid" ∷ codes "in mouth" ∷ codes "call new" ∷ codes "in top" ∷ codes "in mid" ∷ codes "in mouth" ∷ codes "called new old" ∷ codes "end" ∷ codes "done 1" ∷ []) []) ≡ None
-unfolding digits total greatest_where has_shape read_month read_amount read_plain is_name numbers_from members_from by_seniority line_of fields_of month_lines calling_right calls is_same_shape fits due_in_month due word_of item_with item_of read_line first_row judge
+too_little : refusal
+    (verdict (basin 50) no_series
+    (codes "river-result 1" ∷ codes "run 1900-01 1" ∷ codes "month 1900-01" ∷ codes "flow a 50" ∷ codes
+    "flow b 0" ∷ codes "deliver old 50 60" ∷ codes "deliver new 0 50" ∷ codes "out mouth 0" ∷ codes "call old" ∷ codes
+    "in top" ∷ codes "in mid" ∷ codes "in mouth" ∷ codes "call new" ∷ codes "in top" ∷ codes "in mid" ∷ codes
+    "in mouth" ∷ codes "called new old" ∷ codes "end" ∷ codes "done 1" ∷ []) []) ≡ None
+unfolding digits total greatest_where has_shape read_month read_amount read_plain is_name numbers_from members_from
+    by_seniority line_of fields_of month_lines calling_right calls is_same_shape fits due_in_month due word_of item_with
+    item_of read_line first_row judge
 too_little = refl
 
 -- the senior right is delivered 40 of the 50 that it could have
-cut_is_loose : refusal (verdict (basin 50) no_series (codes "river-result 1" ∷ codes "run 1900-01 1" ∷ codes "month 1900-01" ∷ codes "flow a 40" ∷ codes "flow b 0" ∷ codes "deliver old 40 60" ∷ codes "deliver new 10 50" ∷ codes "out mouth 0" ∷ codes "call old" ∷ codes "in top" ∷ codes "in mid" ∷ codes "in mouth" ∷ codes "call new" ∷ codes "in top" ∷ codes "in mid" ∷ codes "in mouth" ∷ codes "called new old" ∷ codes "end" ∷ codes "done 1" ∷ []) []) ≡ at 9 kind.CutLoose
-unfolding digits total greatest_where has_shape read_month read_amount read_plain is_name numbers_from members_from by_seniority line_of fields_of month_lines calling_right calls is_same_shape fits due_in_month due word_of item_with item_of read_line first_row judge
+cut_is_loose : refusal
+    (verdict (basin 50) no_series
+    (codes "river-result 1" ∷ codes "run 1900-01 1" ∷ codes "month 1900-01" ∷ codes "flow a 40" ∷ codes
+    "flow b 0" ∷ codes "deliver old 40 60" ∷ codes "deliver new 10 50" ∷ codes "out mouth 0" ∷ codes "call old" ∷ codes
+    "in top" ∷ codes "in mid" ∷ codes "in mouth" ∷ codes "call new" ∷ codes "in top" ∷ codes "in mid" ∷ codes
+    "in mouth" ∷ codes "called new old" ∷ codes "end" ∷ codes "done 1" ∷ []) []) ≡ at 9 kind.CutLoose
+unfolding digits total greatest_where has_shape read_month read_amount read_plain is_name numbers_from members_from
+    by_seniority line_of fields_of month_lines calling_right calls is_same_shape fits due_in_month due word_of item_with
+    item_of read_line first_row judge
 cut_is_loose = refl
 
 -- the senior right has no call
-call_is_missing : refusal (verdict (basin 50) no_series (codes "river-result 1" ∷ codes "run 1900-01 1" ∷ codes "month 1900-01" ∷ codes "flow a 50" ∷ codes "flow b 0" ∷ codes "deliver old 50 60" ∷ codes "deliver new 0 50" ∷ codes "out mouth 0" ∷ codes "call new" ∷ codes "in top" ∷ codes "in mid" ∷ codes "in mouth" ∷ codes "called new old" ∷ codes "end" ∷ codes "done 1" ∷ []) []) ≡ at 9 kind.CutMissing
-unfolding digits total greatest_where has_shape read_month read_amount read_plain is_name numbers_from members_from by_seniority line_of fields_of month_lines calling_right calls is_same_shape fits due_in_month due word_of item_with item_of read_line first_row judge
+call_is_missing : refusal
+    (verdict (basin 50) no_series
+    (codes "river-result 1" ∷ codes "run 1900-01 1" ∷ codes "month 1900-01" ∷ codes "flow a 50" ∷ codes
+    "flow b 0" ∷ codes "deliver old 50 60" ∷ codes "deliver new 0 50" ∷ codes "out mouth 0" ∷ codes "call new" ∷ codes
+    "in top" ∷ codes "in mid" ∷ codes "in mouth" ∷ codes "called new old" ∷ codes "end" ∷ codes "done 1" ∷ []) []) ≡ at
+    9 kind.CutMissing
+unfolding digits total greatest_where has_shape read_month read_amount read_plain is_name numbers_from members_from
+    by_seniority line_of fields_of month_lines calling_right calls is_same_shape fits due_in_month due word_of item_with
+    item_of read_line first_row judge
 call_is_missing = refl
 
-last_call_is_missing : refusal (verdict (basin 50) no_series (codes "river-result 1" ∷ codes "run 1900-01 1" ∷ codes "month 1900-01" ∷ codes "flow a 50" ∷ codes "flow b 0" ∷ codes "deliver old 50 60" ∷ codes "deliver new 0 50" ∷ codes "out mouth 0" ∷ codes "call old" ∷ codes "in top" ∷ codes "in mid" ∷ codes "in mouth" ∷ codes "called new old" ∷ codes "end" ∷ codes "done 1" ∷ []) []) ≡ at 13 kind.CutMissing
-unfolding digits total greatest_where has_shape read_month read_amount read_plain is_name numbers_from members_from by_seniority line_of fields_of month_lines calling_right calls is_same_shape fits due_in_month due word_of item_with item_of read_line first_row judge
+last_call_is_missing : refusal
+    (verdict (basin 50) no_series
+    (codes "river-result 1" ∷ codes "run 1900-01 1" ∷ codes "month 1900-01" ∷ codes "flow a 50" ∷ codes
+    "flow b 0" ∷ codes "deliver old 50 60" ∷ codes "deliver new 0 50" ∷ codes "out mouth 0" ∷ codes "call old" ∷ codes
+    "in top" ∷ codes "in mid" ∷ codes "in mouth" ∷ codes "called new old" ∷ codes "end" ∷ codes "done 1" ∷ []) []) ≡ at
+    13 kind.CutMissing
+unfolding digits total greatest_where has_shape read_month read_amount read_plain is_name numbers_from members_from
+    by_seniority line_of fields_of month_lines calling_right calls is_same_shape fits due_in_month due word_of item_with
+    item_of read_line first_row judge
 last_call_is_missing = refl
 
 -- the senior right is not short
-call_is_needless : refusal (verdict (basin 80) no_series (codes "river-result 1" ∷ codes "run 1900-01 1" ∷ codes "month 1900-01" ∷ codes "flow a 60" ∷ codes "flow b 0" ∷ codes "deliver old 60 60" ∷ codes "deliver new 20 50" ∷ codes "out mouth 0" ∷ codes "call old" ∷ codes "in top" ∷ codes "call new" ∷ codes "in top" ∷ codes "in mid" ∷ codes "in mouth" ∷ codes "end" ∷ codes "done 1" ∷ []) []) ≡ at 9 kind.CutNeedless
-unfolding digits total greatest_where has_shape read_month read_amount read_plain is_name numbers_from members_from by_seniority line_of fields_of month_lines calling_right calls is_same_shape fits due_in_month due word_of item_with item_of read_line first_row judge
+call_is_needless : refusal
+    (verdict (basin 80) no_series
+    (codes "river-result 1" ∷ codes "run 1900-01 1" ∷ codes "month 1900-01" ∷ codes "flow a 60" ∷ codes
+    "flow b 0" ∷ codes "deliver old 60 60" ∷ codes "deliver new 20 50" ∷ codes "out mouth 0" ∷ codes "call old" ∷ codes
+    "in top" ∷ codes "call new" ∷ codes "in top" ∷ codes "in mid" ∷ codes "in mouth" ∷ codes "end" ∷ codes
+    "done 1" ∷ []) []) ≡ at 9 kind.CutNeedless
+unfolding digits total greatest_where has_shape read_month read_amount read_plain is_name numbers_from members_from
+    by_seniority line_of fields_of month_lines calling_right calls is_same_shape fits due_in_month due word_of item_with
+    item_of read_line first_row judge
 call_is_needless = refl
 
-caller_is_missing : refusal (verdict (basin 50) no_series (codes "river-result 1" ∷ codes "run 1900-01 1" ∷ codes "month 1900-01" ∷ codes "flow a 50" ∷ codes "flow b 0" ∷ codes "deliver old 50 60" ∷ codes "deliver new 0 50" ∷ codes "out mouth 0" ∷ codes "call old" ∷ codes "in top" ∷ codes "in mid" ∷ codes "in mouth" ∷ codes "call new" ∷ codes "in top" ∷ codes "in mid" ∷ codes "in mouth" ∷ codes "end" ∷ codes "done 1" ∷ []) []) ≡ at 17 kind.Called
-unfolding digits total greatest_where has_shape read_month read_amount read_plain is_name numbers_from members_from by_seniority line_of fields_of month_lines calling_right calls is_same_shape fits due_in_month due word_of item_with item_of read_line first_row judge
+caller_is_missing : refusal
+    (verdict (basin 50) no_series
+    (codes "river-result 1" ∷ codes "run 1900-01 1" ∷ codes "month 1900-01" ∷ codes "flow a 50" ∷ codes
+    "flow b 0" ∷ codes "deliver old 50 60" ∷ codes "deliver new 0 50" ∷ codes "out mouth 0" ∷ codes "call old" ∷ codes
+    "in top" ∷ codes "in mid" ∷ codes "in mouth" ∷ codes "call new" ∷ codes "in top" ∷ codes "in mid" ∷ codes
+    "in mouth" ∷ codes "end" ∷ codes "done 1" ∷ []) []) ≡ at 17 kind.Called
+unfolding digits total greatest_where has_shape read_month read_amount read_plain is_name numbers_from members_from
+    by_seniority line_of fields_of month_lines calling_right calls is_same_shape fits due_in_month due word_of item_with
+    item_of read_line first_row judge
 caller_is_missing = refl
 
-caller_is_not_due : refusal (verdict (basin 80) no_series (codes "river-result 1" ∷ codes "run 1900-01 1" ∷ codes "month 1900-01" ∷ codes "flow a 60" ∷ codes "flow b 0" ∷ codes "deliver old 60 60" ∷ codes "deliver new 20 50" ∷ codes "out mouth 0" ∷ codes "call new" ∷ codes "in top" ∷ codes "in mid" ∷ codes "in mouth" ∷ codes "called new old" ∷ codes "end" ∷ codes "done 1" ∷ []) []) ≡ at 13 kind.Called
-unfolding digits total greatest_where has_shape read_month read_amount read_plain is_name numbers_from members_from by_seniority line_of fields_of month_lines calling_right calls is_same_shape fits due_in_month due word_of item_with item_of read_line first_row judge
+caller_is_not_due : refusal
+    (verdict (basin 80) no_series
+    (codes "river-result 1" ∷ codes "run 1900-01 1" ∷ codes "month 1900-01" ∷ codes "flow a 60" ∷ codes
+    "flow b 0" ∷ codes "deliver old 60 60" ∷ codes "deliver new 20 50" ∷ codes "out mouth 0" ∷ codes "call new" ∷ codes
+    "in top" ∷ codes "in mid" ∷ codes "in mouth" ∷ codes "called new old" ∷ codes "end" ∷ codes "done 1" ∷ []) []) ≡ at
+    13 kind.Called
+unfolding digits total greatest_where has_shape read_month read_amount read_plain is_name numbers_from members_from
+    by_seniority line_of fields_of month_lines calling_right calls is_same_shape fits due_in_month due word_of item_with
+    item_of read_line first_row judge
 caller_is_not_due = refl
 
-other_head : refusal (verdict (basin 50) no_series (codes "river-result 1" ∷ codes "run 1900-02 1" ∷ codes "month 1900-01" ∷ codes "flow a 50" ∷ codes "flow b 0" ∷ codes "deliver old 50 60" ∷ codes "deliver new 0 50" ∷ codes "out mouth 0" ∷ codes "call old" ∷ codes "in top" ∷ codes "in mid" ∷ codes "in mouth" ∷ codes "call new" ∷ codes "in top" ∷ codes "in mid" ∷ codes "in mouth" ∷ codes "called new old" ∷ codes "end" ∷ codes "done 1" ∷ []) []) ≡ at 2 kind.Head
-unfolding digits total greatest_where has_shape read_month read_amount read_plain is_name numbers_from members_from by_seniority line_of fields_of month_lines calling_right calls is_same_shape fits due_in_month due word_of item_with item_of read_line first_row judge
+other_head : refusal
+    (verdict (basin 50) no_series
+    (codes "river-result 1" ∷ codes "run 1900-02 1" ∷ codes "month 1900-01" ∷ codes "flow a 50" ∷ codes
+    "flow b 0" ∷ codes "deliver old 50 60" ∷ codes "deliver new 0 50" ∷ codes "out mouth 0" ∷ codes "call old" ∷ codes
+    "in top" ∷ codes "in mid" ∷ codes "in mouth" ∷ codes "call new" ∷ codes "in top" ∷ codes "in mid" ∷ codes
+    "in mouth" ∷ codes "called new old" ∷ codes "end" ∷ codes "done 1" ∷ []) []) ≡ at 2 kind.Head
+unfolding digits total greatest_where has_shape read_month read_amount read_plain is_name numbers_from members_from
+    by_seniority line_of fields_of month_lines calling_right calls is_same_shape fits due_in_month due word_of item_with
+    item_of read_line first_row judge
 other_head = refl
 
-above_want : refusal (verdict (basin 80) no_series (codes "river-result 1" ∷ codes "run 1900-01 1" ∷ codes "month 1900-01" ∷ codes "flow a 60" ∷ codes "flow b 0" ∷ codes "deliver old 61 60" ∷ codes "deliver new 20 50" ∷ codes "out mouth 0" ∷ codes "call new" ∷ codes "in top" ∷ codes "in mid" ∷ codes "in mouth" ∷ codes "end" ∷ codes "done 1" ∷ []) []) ≡ at 6 kind.Delivery
-unfolding digits total greatest_where has_shape read_month read_amount read_plain is_name numbers_from members_from by_seniority line_of fields_of month_lines calling_right calls is_same_shape fits due_in_month due word_of item_with item_of read_line first_row judge
+above_want : refusal
+    (verdict (basin 80) no_series
+    (codes "river-result 1" ∷ codes "run 1900-01 1" ∷ codes "month 1900-01" ∷ codes "flow a 60" ∷ codes
+    "flow b 0" ∷ codes "deliver old 61 60" ∷ codes "deliver new 20 50" ∷ codes "out mouth 0" ∷ codes "call new" ∷ codes
+    "in top" ∷ codes "in mid" ∷ codes "in mouth" ∷ codes "end" ∷ codes "done 1" ∷ []) []) ≡ at 6 kind.Delivery
+unfolding digits total greatest_where has_shape read_month read_amount read_plain is_name numbers_from members_from
+    by_seniority line_of fields_of month_lines calling_right calls is_same_shape fits due_in_month due word_of item_with
+    item_of read_line first_row judge
 above_want = refl
 
-other_want : refusal (verdict (basin 80) no_series (codes "river-result 1" ∷ codes "run 1900-01 1" ∷ codes "month 1900-01" ∷ codes "flow a 60" ∷ codes "flow b 0" ∷ codes "deliver old 60 61" ∷ codes "deliver new 20 50" ∷ codes "out mouth 0" ∷ codes "call new" ∷ codes "in top" ∷ codes "in mid" ∷ codes "in mouth" ∷ codes "end" ∷ codes "done 1" ∷ []) []) ≡ at 6 kind.Delivery
-unfolding digits total greatest_where has_shape read_month read_amount read_plain is_name numbers_from members_from by_seniority line_of fields_of month_lines calling_right calls is_same_shape fits due_in_month due word_of item_with item_of read_line first_row judge
+other_want : refusal
+    (verdict (basin 80) no_series
+    (codes "river-result 1" ∷ codes "run 1900-01 1" ∷ codes "month 1900-01" ∷ codes "flow a 60" ∷ codes
+    "flow b 0" ∷ codes "deliver old 60 61" ∷ codes "deliver new 20 50" ∷ codes "out mouth 0" ∷ codes "call new" ∷ codes
+    "in top" ∷ codes "in mid" ∷ codes "in mouth" ∷ codes "end" ∷ codes "done 1" ∷ []) []) ≡ at 6 kind.Delivery
+unfolding digits total greatest_where has_shape read_month read_amount read_plain is_name numbers_from members_from
+    by_seniority line_of fields_of month_lines calling_right calls is_same_shape fits due_in_month due word_of item_with
+    item_of read_line first_row judge
 other_want = refl
 
-not_in_balance : refusal (verdict (basin 80) no_series (codes "river-result 1" ∷ codes "run 1900-01 1" ∷ codes "month 1900-01" ∷ codes "flow a 60" ∷ codes "flow b 0" ∷ codes "deliver old 60 60" ∷ codes "deliver new 20 50" ∷ codes "out mouth 1" ∷ codes "call new" ∷ codes "in top" ∷ codes "in mid" ∷ codes "in mouth" ∷ codes "end" ∷ codes "done 1" ∷ []) []) ≡ at 8 kind.Balance
-unfolding digits total greatest_where has_shape read_month read_amount read_plain is_name numbers_from members_from by_seniority line_of fields_of month_lines calling_right calls is_same_shape fits due_in_month due word_of item_with item_of read_line first_row judge
+not_in_balance : refusal
+    (verdict (basin 80) no_series
+    (codes "river-result 1" ∷ codes "run 1900-01 1" ∷ codes "month 1900-01" ∷ codes "flow a 60" ∷ codes
+    "flow b 0" ∷ codes "deliver old 60 60" ∷ codes "deliver new 20 50" ∷ codes "out mouth 1" ∷ codes "call new" ∷ codes
+    "in top" ∷ codes "in mid" ∷ codes "in mouth" ∷ codes "end" ∷ codes "done 1" ∷ []) []) ≡ at 8 kind.Balance
+unfolding digits total greatest_where has_shape read_month read_amount read_plain is_name numbers_from members_from
+    by_seniority line_of fields_of month_lines calling_right calls is_same_shape fits due_in_month due word_of item_with
+    item_of read_line first_row judge
 not_in_balance = refl
 
-misplaced : refusal (verdict (basin 50) no_series (codes "river-result 1" ∷ codes "run 1900-01 1" ∷ codes "month 1900-01" ∷ codes "flow b 0" ∷ []) []) ≡ at 4 kind.BadLine
-unfolding digits total greatest_where has_shape read_month read_amount read_plain is_name numbers_from members_from by_seniority line_of fields_of month_lines calling_right calls is_same_shape fits due_in_month due word_of item_with item_of read_line first_row judge
+misplaced : refusal
+    (verdict (basin 50) no_series
+    (codes "river-result 1" ∷ codes "run 1900-01 1" ∷ codes "month 1900-01" ∷ codes "flow b 0" ∷ []) []) ≡ at 4
+    kind.BadLine
+unfolding digits total greatest_where has_shape read_month read_amount read_plain is_name numbers_from members_from
+    by_seniority line_of fields_of month_lines calling_right calls is_same_shape fits due_in_month due word_of item_with
+    item_of read_line first_row judge
 misplaced = refl
 
-cut_off : refusal (verdict (basin 50) no_series (codes "river-result 1" ∷ codes "run 1900-01 1" ∷ codes "month 1900-01" ∷ codes "flow a 50" ∷ codes "flow b 0" ∷ codes "deliver old 50 60" ∷ codes "deliver new 0 50" ∷ codes "out mouth 0" ∷ codes "call old" ∷ codes "in top" ∷ codes "in mid" ∷ codes "in mouth" ∷ codes "call new" ∷ codes "in top" ∷ codes "in mid" ∷ codes "in mouth" ∷ codes "called new old" ∷ codes "end" ∷ []) []) ≡ at 19 kind.EarlyEnd
-unfolding digits total greatest_where has_shape read_month read_amount read_plain is_name numbers_from members_from by_seniority line_of fields_of month_lines calling_right calls is_same_shape fits due_in_month due word_of item_with item_of read_line first_row judge
+cut_off : refusal
+    (verdict (basin 50) no_series
+    (codes "river-result 1" ∷ codes "run 1900-01 1" ∷ codes "month 1900-01" ∷ codes "flow a 50" ∷ codes
+    "flow b 0" ∷ codes "deliver old 50 60" ∷ codes "deliver new 0 50" ∷ codes "out mouth 0" ∷ codes "call old" ∷ codes
+    "in top" ∷ codes "in mid" ∷ codes "in mouth" ∷ codes "call new" ∷ codes "in top" ∷ codes "in mid" ∷ codes
+    "in mouth" ∷ codes "called new old" ∷ codes "end" ∷ []) []) ≡ at 19 kind.EarlyEnd
+unfolding digits total greatest_where has_shape read_month read_amount read_plain is_name numbers_from members_from
+    by_seniority line_of fields_of month_lines calling_right calls is_same_shape fits due_in_month due word_of item_with
+    item_of read_line first_row judge
 cut_off = refl
 
 -- a text that ends inside a set is not yet refuted for the set
-cut_off_in_a_set : refusal (verdict (basin 50) no_series (codes "river-result 1" ∷ codes "run 1900-01 1" ∷ codes "month 1900-01" ∷ codes "flow a 40" ∷ codes "flow b 0" ∷ codes "deliver old 40 60" ∷ codes "deliver new 10 50" ∷ codes "out mouth 0" ∷ codes "call old" ∷ codes "in top" ∷ []) []) ≡ at 11 kind.EarlyEnd
-unfolding digits total greatest_where has_shape read_month read_amount read_plain is_name numbers_from members_from by_seniority line_of fields_of month_lines calling_right calls is_same_shape fits due_in_month due word_of item_with item_of read_line first_row judge
+cut_off_in_a_set : refusal
+    (verdict (basin 50) no_series
+    (codes "river-result 1" ∷ codes "run 1900-01 1" ∷ codes "month 1900-01" ∷ codes "flow a 40" ∷ codes
+    "flow b 0" ∷ codes "deliver old 40 60" ∷ codes "deliver new 10 50" ∷ codes "out mouth 0" ∷ codes "call old" ∷ codes
+    "in top" ∷ []) []) ≡ at 11 kind.EarlyEnd
+unfolding digits total greatest_where has_shape read_month read_amount read_plain is_name numbers_from members_from
+    by_seniority line_of fields_of month_lines calling_right calls is_same_shape fits due_in_month due word_of item_with
+    item_of read_line first_row judge
 cut_off_in_a_set = refl
 
 nothing : refusal (verdict (basin 50) no_series ([]) []) ≡ at 1 kind.EarlyEnd
-unfolding digits total greatest_where has_shape read_month read_amount read_plain is_name numbers_from members_from by_seniority line_of fields_of month_lines calling_right calls is_same_shape fits due_in_month due word_of item_with item_of read_line first_row judge
+unfolding digits total greatest_where has_shape read_month read_amount read_plain is_name numbers_from members_from
+    by_seniority line_of fields_of month_lines calling_right calls is_same_shape fits due_in_month due word_of item_with
+    item_of read_line first_row judge
 nothing = refl
 
-one_line_more : refusal (verdict (basin 50) no_series (codes "river-result 1" ∷ codes "run 1900-01 1" ∷ codes "month 1900-01" ∷ codes "flow a 50" ∷ codes "flow b 0" ∷ codes "deliver old 50 60" ∷ codes "deliver new 0 50" ∷ codes "out mouth 0" ∷ codes "call old" ∷ codes "in top" ∷ codes "in mid" ∷ codes "in mouth" ∷ codes "call new" ∷ codes "in top" ∷ codes "in mid" ∷ codes "in mouth" ∷ codes "called new old" ∷ codes "end" ∷ codes "done 1" ∷ codes "end" ∷ []) []) ≡ at 20 kind.AfterEnd
-unfolding digits total greatest_where has_shape read_month read_amount read_plain is_name numbers_from members_from by_seniority line_of fields_of month_lines calling_right calls is_same_shape fits due_in_month due word_of item_with item_of read_line first_row judge
+one_line_more : refusal
+    (verdict (basin 50) no_series
+    (codes "river-result 1" ∷ codes "run 1900-01 1" ∷ codes "month 1900-01" ∷ codes "flow a 50" ∷ codes
+    "flow b 0" ∷ codes "deliver old 50 60" ∷ codes "deliver new 0 50" ∷ codes "out mouth 0" ∷ codes "call old" ∷ codes
+    "in top" ∷ codes "in mid" ∷ codes "in mouth" ∷ codes "call new" ∷ codes "in top" ∷ codes "in mid" ∷ codes
+    "in mouth" ∷ codes "called new old" ∷ codes "end" ∷ codes "done 1" ∷ codes "end" ∷ []) []) ≡ at 20 kind.AfterEnd
+unfolding digits total greatest_where has_shape read_month read_amount read_plain is_name numbers_from members_from
+    by_seniority line_of fields_of month_lines calling_right calls is_same_shape fits due_in_month due word_of item_with
+    item_of read_line first_row judge
 one_line_more = refl
 
-bytes_behind : refusal (verdict (basin 50) no_series (codes "river-result 1" ∷ codes "run 1900-01 1" ∷ codes "month 1900-01" ∷ codes "flow a 50" ∷ codes "flow b 0" ∷ codes "deliver old 50 60" ∷ codes "deliver new 0 50" ∷ codes "out mouth 0" ∷ codes "call old" ∷ codes "in top" ∷ codes "in mid" ∷ codes "in mouth" ∷ codes "call new" ∷ codes "in top" ∷ codes "in mid" ∷ codes "in mouth" ∷ codes "called new old" ∷ codes "end" ∷ codes "done 1" ∷ []) (codes "x")) ≡ at 20 kind.AfterEnd
-unfolding digits total greatest_where has_shape read_month read_amount read_plain is_name numbers_from members_from by_seniority line_of fields_of month_lines calling_right calls is_same_shape fits due_in_month due word_of item_with item_of read_line first_row judge
+bytes_behind : refusal
+    (verdict (basin 50) no_series
+    (codes "river-result 1" ∷ codes "run 1900-01 1" ∷ codes "month 1900-01" ∷ codes "flow a 50" ∷ codes
+    "flow b 0" ∷ codes "deliver old 50 60" ∷ codes "deliver new 0 50" ∷ codes "out mouth 0" ∷ codes "call old" ∷ codes
+    "in top" ∷ codes "in mid" ∷ codes "in mouth" ∷ codes "call new" ∷ codes "in top" ∷ codes "in mid" ∷ codes
+    "in mouth" ∷ codes "called new old" ∷ codes "end" ∷ codes "done 1" ∷ []) (codes "x")) ≡ at 20 kind.AfterEnd
+unfolding digits total greatest_where has_shape read_month read_amount read_plain is_name numbers_from members_from
+    by_seniority line_of fields_of month_lines calling_right calls is_same_shape fits due_in_month due word_of item_with
+    item_of read_line first_row judge
 bytes_behind = refl

@@ -1,11 +1,13 @@
 -- A text that comes in pieces: its lines with one piece more, and what is refused whatever follows.
-use Rattle.std.proofs.Common.{◌≡◌, ℕ, ◌+◌, ◌<◌, Bool, true, false, refl, sym, ap, ◌∙◌, arith, inl, inr, List, [], ◌∷◌, ◌++◌, length, take, drop, length-append, append_assoc, take-append-drop}
+use Rattle.std.proofs.Common.{◌≡◌, ℕ, ◌+◌, ◌<◌, Bool, true, false, refl, sym, ap, ◌∙◌, arith, inl, inr, List, [], ◌∷◌}
+use Rattle.std.proofs.Common.{◌++◌, length, take, drop, length-append, append_assoc, take-append-drop}
 use Rattle.std.specs.Prelude.{Option, Some, None, Result, Ok, Err, IsOk, nat_lt, not, slice_range, if◌then◌else◌}
 use Rattle.std.specs.List.{onto_first}
 use Rattle.std.proofs.Math.Seq.{take-add, take-append-add}
 use Rattle.std.proofs.lemmas.Bool.Decides.{nat_tests}
 use Rattle.std.proofs.lemmas.List.{take_all, take_rest}
-use Rattle.std.proofs.lemmas.List.Splits.{length-slice_split, slice_split-cons_yes, slice_split-cons_no, slice_split_none, slice_split_at}
+use Rattle.std.proofs.lemmas.List.Splits.{length-slice_split, slice_split-cons_yes, slice_split-cons_no}
+use Rattle.std.proofs.lemmas.List.Splits.{slice_split_none, slice_split_at}
 use Rattle.water_text.specs.LinesIn.{LineHeld, Takes, TakesAll, TakesToFeed, TakesToFull, is_feed, nothing_held}
 use Rattle.water_model.specs.declared.item.Item.{Item}
 use Rattle.water_model.specs.declared.types.Basin.{Basin}

@@ -17,11 +17,13 @@ found [] = refl
 found ((kind, holds) ∷ xs) = by_test holds (found xs)
   where
     by_test : (t : Bool) → option_map (λ (row : Row). row.0) (find (λ (row : Row). row.1) xs) ≡ first_of xs →
-        option_map (λ (row : Row). row.0) (find (λ (row : Row). row.1) ((kind, t) ∷ xs)) ≡ (if t then Some kind else first_of xs)
+        option_map (λ (row : Row). row.0)
+        (find (λ (row : Row). row.1) ((kind, t) ∷ xs)) ≡ (if t then Some kind else first_of xs)
     by_test true h = refl
     by_test false h = h
 
-pub first_is : (b : Basin) (series : Inflows) (t : Told) (i : Item) → first_row b series t i ≡ first_of (rows b series t i)
+pub first_is : (b : Basin) (series : Inflows) (t : Told) (i : Item) →
+    first_row b series t i ≡ first_of (rows b series t i)
 unfolding first_row
 first_is b series t i = found (rows b series t i)
 
@@ -38,5 +40,6 @@ none_first ((k, false) ∷ xs) ys h = none_first xs ys h
 
 -- What is known stays while what is told stays.
 
-pub still_awaits : (b : Basin) (series : Inflows) (a c : Account) (i : Item) → Awaits b series a i → ((t : Told) → Keeps b series a t → Keeps b series c t) → Awaits b series c i
+pub still_awaits : (b : Basin) (series : Inflows) (a c : Account) (i : Item) → Awaits b series a i →
+    ((t : Told) → Keeps b series a t → Keeps b series c t) → Awaits b series c i
 still_awaits b series a c i h k = record { told = h.told; keeps = k h.told h.keeps; comes = h.comes }

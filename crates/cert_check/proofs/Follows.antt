@@ -36,32 +36,46 @@ is_most x y h = grind (arith, nat_tests)
 
 -- Tight cuts, as a test and as a fact.
 
-separates_is : (b : Basin) (taking link : Option ℕ) (cut : List Bool) → Separates b taking link cut → separates b taking link cut ≡ true
+separates_is : (b : Basin) (taking link : Option ℕ) (cut : List Bool) → Separates b taking link cut →
+    separates b taking link cut ≡ true
 separates_is b taking None cut h = h
 separates_is b taking (Some link) cut h = rw (less_is link (length b.links) h.0) h.1
 
-is_separates : (b : Basin) (taking link : Option ℕ) (cut : List Bool) → separates b taking link cut ≡ true → Separates b taking link cut
+is_separates : (b : Basin) (taking link : Option ℕ) (cut : List Bool) → separates b taking link cut ≡ true →
+    Separates b taking link cut
 is_separates b taking None cut h = h
 is_separates b taking (Some link) cut h = parts (nat_lt link (length b.links)) refl h
   where
-    parts : (p : Bool) → nat_lt link (length b.links) ≡ p → p && leaves b cut link ≡ true → (link < length b.links) × (leaves b cut link ≡ true)
+    parts : (p : Bool) → nat_lt link (length b.links) ≡ p → p && leaves b cut link ≡ true → (link < length b.links) ×
+        (leaves b cut link ≡ true)
     parts true e k = (is_less link (length b.links) e, k)
     parts false e k = cc
 
-pub tight_is : (b : Basin) (m : MonthRecord) (r : ℕ) (cut : List Bool) → IsTight b m.month m.supply m.delivered r cut → is_tight b m r cut ≡ true
+pub tight_is : (b : Basin) (m : MonthRecord) (r : ℕ) (cut : List Bool) → IsTight b m.month m.supply m.delivered r cut →
+    is_tight b m r cut ≡ true
 tight_is b m r cut h =
-    all (length cut == length b.nodes) (separates b (taking_node b r) (instream_link b r) cut) (cut_capacity b m.month m.supply cut == slice_index m.delivered r + cut_kept b m.delivered r cut)
-    (equal_is (length cut) (length b.nodes) h.is_cut.one_each) (separates_is b (taking_node b r) (instream_link b r) cut h.is_cut.separates) (equal_is _ _ h.tight)
+    all (length cut == length b.nodes) (separates b (taking_node b r) (instream_link b r) cut)
+    (cut_capacity b m.month m.supply cut == slice_index m.delivered r + cut_kept b m.delivered r cut)
+    (equal_is (length cut) (length b.nodes) h.is_cut.one_each)
+    (separates_is b (taking_node b r) (instream_link b r) cut h.is_cut.separates) (equal_is _ _ h.tight)
   where
     all : (p q s : Bool) → p ≡ true → q ≡ true → s ≡ true → p && q && s ≡ true
     all p q s e f g = rw (e, f, g) refl
 
-pub is_tight_is : (b : Basin) (m : MonthRecord) (r : ℕ) (cut : List Bool) → is_tight b m r cut ≡ true → IsTight b m.month m.supply m.delivered r cut
+pub is_tight_is : (b : Basin) (m : MonthRecord) (r : ℕ) (cut : List Bool) → is_tight b m r cut ≡ true →
+    IsTight b m.month m.supply m.delivered r cut
 is_tight_is b m r cut h =
-    let three = parts (length cut == length b.nodes) (separates b (taking_node b r) (instream_link b r) cut) (cut_capacity b m.month m.supply cut == slice_index m.delivered r + cut_kept b m.delivered r cut) h in
+    let three =
+    parts (length cut == length b.nodes) (separates b (taking_node b r) (instream_link b r) cut)
+    (cut_capacity b m.month m.supply cut == slice_index m.delivered r + cut_kept b m.delivered r cut) h in
     record {
-      is_cut = record { one_each = equal (length cut) (length b.nodes) three.0; separates = is_separates b (taking_node b r) (instream_link b r) cut three.1 };
-      tight = equal (cut_capacity b m.month m.supply cut) (slice_index m.delivered r + cut_kept b m.delivered r cut) three.2;
+      is_cut = record {
+        one_each = equal (length cut) (length b.nodes) three.0;
+        separates =
+            is_separates b (taking_node b r) (instream_link b r) cut three.1;
+      };
+      tight = equal (cut_capacity b m.month m.supply cut) (slice_index m.delivered r + cut_kept b m.delivered r cut)
+          three.2;
     }
   where
     equal : (x y : ℕ) → x == y ≡ true → x ≡ y
@@ -73,19 +87,25 @@ is_tight_is b m r cut h =
     parts true false s e = cc
     parts false q s e = cc
 
-right_sets : (b : Basin) (series : Inflows) (before : List MonthRecord) (m : MonthRecord) → Follows b series before m → IsTextMonth b series before m → HasRightSets b m
+right_sets : (b : Basin) (series : Inflows) (before : List MonthRecord) (m : MonthRecord) → Follows b series before m →
+    IsTextMonth b series before m → HasRightSets b m
 right_sets b series before m f t = record {
   sized = λ r set e. (has_set b series before m t r set e).1;
-  short = λ r l short. (let s = f.short r l (is_less (slice_index m.delivered r) (slice_index m.want r) short) in (s.0, s.1, tight_is b m r s.0 s.2));
+  short = λ r l short. (let s = f.short r l (is_less (slice_index m.delivered r) (slice_index m.want r) short) in
+      (s.0, s.1, tight_is b m r s.0 s.2));
   met = λ r l met. f.met r l (is_most (slice_index m.delivered r) (slice_index m.want r) met);
 }
 
-amount_right : (b : Basin) (m : MonthRecord) (r : ℕ) (link : Option ℕ) → slice_index m.plan.take r ≤ slice_index m.want r →
-    slice_index m.delivered r ≡ delivery_by_link link (slice_index m.want r) m.plan r → amount_wrong link m.plan.flow (slice_index m.delivered r) (slice_index m.want r) ≡ false
+amount_right : (b : Basin) (m : MonthRecord) (r : ℕ) (link : Option ℕ) →
+    slice_index m.plan.take r ≤ slice_index m.want r →
+    slice_index m.delivered r ≡ delivery_by_link link (slice_index m.want r) m.plan r →
+    amount_wrong link m.plan.flow (slice_index m.delivered r) (slice_index m.want r) ≡ false
 amount_right b m r None most e = not_more (slice_index m.want r) (slice_index m.delivered r) (omega (arith, e))
-amount_right b m r (Some link) most e = same_is (slice_index m.delivered r) (min (slice_index m.want r) (slice_index m.plan.flow link)) e
+amount_right b m r (Some link) most e =
+    same_is (slice_index m.delivered r) (min (slice_index m.want r) (slice_index m.plan.flow link)) e
 
-pub follows_good : (b : Basin) (series : Inflows) (before : List MonthRecord) (m : MonthRecord) → Follows b series before m → IsTextMonth b series before m → IsGoodMonth b series before m
+pub follows_good : (b : Basin) (series : Inflows) (before : List MonthRecord) (m : MonthRecord) →
+    Follows b series before m → IsTextMonth b series before m → IsGoodMonth b series before m
 follows_good b series before m f t = record {
   opening = λ x h. ap (λ xs. slice_index xs x) f.opening;
   evaporated = λ x h. f.evaporated x (has-with_line b quantity.Evaporated x h).0;
@@ -93,8 +113,12 @@ follows_good b series before m f t = record {
   used = λ x h. f.used x (has-with_line b quantity.Used x h).0;
   flow = λ x h. not_more (carry_of b m.month x) (slice_index m.plan.flow x)
       (f.plan.carries x (has-with_line b quantity.Flow x h).0);
-  deliver = λ x h. (let l = seniors_below b.rights x h in (f.want x l, amount_right b m x (instream_link b x) (f.plan.wants x l) (f.delivered x l)));
-  balance = λ n l. equal_is (slice_index m.supply n + inflow_to b m.plan.flow n) (outflow_from b m.plan.flow n + taken_at b m.plan.take n + slice_index m.plan.out n) (f.plan.balance n l);
+  deliver =
+      λ x h. (let l = seniors_below b.rights x h in
+      (f.want x l, amount_right b m x (instream_link b x) (f.plan.wants x l) (f.delivered x l)));
+  balance =
+      λ n l. equal_is (slice_index m.supply n + inflow_to b m.plan.flow n)
+      (outflow_from b m.plan.flow n + taken_at b m.plan.take n + slice_index m.plan.out n) (f.plan.balance n l);
   sets = right_sets b series before m f t;
   closing = λ x h. f.closing x (has-with_line b quantity.Closing x h).0;
 }

@@ -1,5 +1,6 @@
 -- What is told behind the front of a text whose lines are good.
-use Rattle.std.proofs.Common.{◌≡◌, ℕ, zero, suc, ◌+◌, ◌<◌, Bool, true, false, refl, sym, ap, subst, ◌∙◌, arith, inl, inr, List, [], ◌∷◌, ◌++◌, length, map, fold, replicate, append_assoc, length-append}
+use Rattle.std.proofs.Common.{◌≡◌, ℕ, zero, suc, ◌+◌, ◌<◌, Bool, true, false, refl, sym, ap, subst, ◌∙◌, arith, inl}
+use Rattle.std.proofs.Common.{inr, List, [], ◌∷◌, ◌++◌, length, map, fold, replicate, append_assoc, length-append}
 use Rattle.std.specs.Prelude.{Option, Some, None, ◌⊎◌, ◌==◌, not}
 use Rattle.std.specs.List.{list_all, flat_map}
 use Rattle.std.proofs.lemmas.Bool.Decides.{nat_tests}
@@ -56,14 +57,16 @@ calls b s = flat_map (λ r. call_items r (s.cut r)) (seniors_first b)
 abbrev behind_calls : Basin → Sheet → List (ℕ × ℕ) → List Item
 behind_calls b s dues = map called_line dues ++ amounts_in b s quantity.Closing
 
-regroup : (b : Basin) (s : Sheet) (dues : List (ℕ × ℕ)) → sheet_lines b s dues ≡ (amounts b s ++ calls b s) ++ (behind_calls b s dues ++ line.End ∷ [])
+regroup : (b : Basin) (s : Sheet) (dues : List (ℕ × ℕ)) →
+    sheet_lines b s dues ≡ (amounts b s ++ calls b s) ++ (behind_calls b s dues ++ line.End ∷ [])
 regroup b s dues =
     group (amounts_in b s quantity.Opening) (amounts_in b s quantity.Evaporated) (amounts_in b s quantity.Returned)
     (amounts_in b s quantity.Used) (amounts_in b s quantity.Flow) (deliveries b s) (amounts_in b s quantity.Outflow)
     (calls b s) (map called_line dues) (amounts_in b s quantity.Closing) (line.End ∷ [])
   where
     group : (a c d e f g h i j k l : List Item) →
-        a ++ (c ++ (d ++ (e ++ (f ++ (g ++ (h ++ (i ++ (j ++ (k ++ l))))))))) ≡ ((a ++ (c ++ (d ++ (e ++ (f ++ (g ++ h)))))) ++ i) ++ ((j ++ k) ++ l)
+        a ++ (c ++ (d ++ (e ++ (f ++ (g ++ (h ++ (i ++ (j ++ (k ++ l))))))))) ≡
+        ((a ++ (c ++ (d ++ (e ++ (f ++ (g ++ h)))))) ++ i) ++ ((j ++ k) ++ l)
     group a c d e f g h i j k l = simp append_assoc
 
 all_amounts : (p : Item → Bool) → ((q : Quantity) (v n : ℕ) → is_closing q ≡ false → p (line.Amount q v n) ≡ true) →
@@ -102,7 +105,8 @@ calls_once cut [] apart (x ∷ xs) r ys e = cc
 calls_once cut (k ∷ rs) apart xs r ys e = by_set (cut k) refl (λ zs ws h. calls_once cut rs apart.1 zs r ws h)
   where
     Further : Type 0
-    Further = (zs ws : List Item) → flat_map (λ k. call_items k (cut k)) rs ≡ zs ++ line.Call r ∷ ws → (list_all (no_call r) zs ≡ true) × Has rs r
+    Further = (zs ws : List Item) → flat_map (λ k. call_items k (cut k)) rs ≡ zs ++ line.Call r ∷ ws →
+        (list_all (no_call r) zs ≡ true) × Has rs r
 
     differ : Has rs r → no_call r (line.Call k) ≡ true
     differ h = other k r (λ is. apart.0 (subst (Has rs) (sym is) h))
@@ -110,22 +114,31 @@ calls_once cut (k ∷ rs) apart xs r ys e = by_set (cut k) refl (λ zs ws h. cal
         other : (x y : ℕ) → (x ≡ y → ⊥) → not (x == y) ≡ true
         other x y none = grind (arith, nat_tests)
 
-    no_member : (xs ys : List Item) (set : List Bool) → map (λ n. line.Member n) (members_from 0 set) ≡ xs ++ line.Call r ∷ ys → ⊥
+    no_member : (xs ys : List Item) (set : List Bool) →
+        map (λ n. line.Member n) (members_from 0 set) ≡ xs ++ line.Call r ∷ ys → ⊥
     no_member xs ys set h =
-        let never : false ≡ true = all_at is_member xs (line.Call r) ys (ap (list_all is_member) (sym h) ∙ all_each is_member (λ n. line.Member n) (λ n. refl) (members_from 0 set)) in clash never
+        let never : false ≡ true =
+        all_at is_member xs (line.Call r) ys
+        (ap (list_all is_member) (sym h) ∙ all_each is_member (λ n. line.Member n) (λ n. refl) (members_from 0 set))
+        in clash never
       where
         clash : false ≡ true → ⊥
         clash e = cc
 
-    in_own : (set : List Bool) (xs zs : List Item) → line.Call k ∷ map (λ n. line.Member n) (members_from 0 set) ≡ xs ++ line.Call r ∷ zs → (list_all (no_call r) xs ≡ true) × Has (k ∷ rs) r
+    in_own : (set : List Bool) (xs zs : List Item) →
+        line.Call k ∷ map (λ n. line.Member n) (members_from 0 set) ≡ xs ++ line.Call r ∷ zs →
+        (list_all (no_call r) xs ≡ true) × Has (k ∷ rs) r
     in_own set [] zs h = let same : line.Call k ≡ line.Call r = cc in let is : r ≡ k = cc in (refl, inl is)
-    in_own set (x ∷ xs) zs h = let tail : map (λ n. line.Member n) (members_from 0 set) ≡ xs ++ line.Call r ∷ zs = cc in absurd (no_member xs zs set tail)
+    in_own set (x ∷ xs) zs h = let tail : map (λ n. line.Member n) (members_from 0 set) ≡ xs ++ line.Call r ∷ zs = cc in
+        absurd (no_member xs zs set tail)
 
     by_set : (o : Option (List Bool)) → cut k ≡ o → Further → (list_all (no_call r) xs ≡ true) × Has (k ∷ rs) r
     by_set None is further =
-        let f = further xs ys (ap (λ c. call_items k c ++ flat_map (λ k. call_items k (cut k)) rs) (sym is) ∙ e) in (f.0, inr f.1)
+        let f = further xs ys (ap (λ c. call_items k c ++ flat_map (λ k. call_items k (cut k)) rs) (sym is) ∙ e) in
+        (f.0, inr f.1)
     by_set (Some set) is further =
-        elim (stands_in (call_items k (Some set)) (flat_map (λ k. call_items k (cut k)) rs) xs (line.Call r) ys (ap (λ c. call_items k c ++ flat_map (λ k. call_items k (cut k)) rs) (sym is) ∙ e)) [
+        elim (stands_in (call_items k (Some set)) (flat_map (λ k. call_items k (cut k)) rs) xs (line.Call r) ys
+        (ap (λ c. call_items k c ++ flat_map (λ k. call_items k (cut k)) rs) (sym is) ∙ e)) [
           | inl own ↦ in_own set xs own.0 own.1
           | inr behind ↦ (let f = further behind.0 ys behind.2 in (
             ap (list_all (no_call r)) behind.1 ∙ all_both (no_call r) (call_items k (Some set)) behind.0
@@ -135,9 +148,11 @@ calls_once cut (k ∷ rs) apart xs r ys e = by_set (cut k) refl (λ zs ws h. cal
         ]
 
 -- nor before it in the month
-called_once : (b : Basin) → IsValidBasin b → (s : Sheet) (xs : List Item) (r : ℕ) (ys : List Item) → amounts b s ++ calls b s ≡ xs ++ line.Call r ∷ ys → list_all (no_call r) xs ≡ true
+called_once : (b : Basin) → IsValidBasin b → (s : Sheet) (xs : List Item) (r : ℕ) (ys : List Item) →
+    amounts b s ++ calls b s ≡ xs ++ line.Call r ∷ ys → list_all (no_call r) xs ≡ true
 called_once b valid s xs r ys e = elim (stands_in (amounts b s) (calls b s) xs (line.Call r) ys e) [
-  | inl front ↦ (let never : false ≡ true = all_at no_calls xs (line.Call r) front.0 (ap (list_all no_calls) (sym front.1)
+  | inl front ↦
+      (let never : false ≡ true = all_at no_calls xs (line.Call r) front.0 (ap (list_all no_calls) (sym front.1)
       ∙ all_amounts no_calls (λ q v n h. refl) (λ v n w. refl) b s) in absurd (clash never))
   | inr behind ↦ (let once = calls_once s.cut (seniors_first b) (seniors_apart b valid) behind.0 r ys behind.2 in
       ap (list_all (no_call r)) behind.1 ∙ all_both (no_call r) (amounts b s) behind.0
@@ -175,16 +190,21 @@ record IsAmid (b : Basin) (s : Sheet) (xs : List Item) (item : Item) : Type 0 wh
 clash : {X : Type 0} → false ≡ true → X
 clash e = cc
 
-stands_amid : (b : Basin) → IsValidBasin b → (s : Sheet) (dues : List (ℕ × ℕ)) (xs : List Item) (item : Item) (ys : List Item) → sheet_lines b s dues ≡ xs ++ item ∷ ys → IsAmid b s xs item
-stands_amid b valid s dues xs item ys e = elim (stands_in (amounts b s ++ calls b s) (behind_calls b s dues ++ line.End ∷ []) xs item ys (sym (regroup b s dues) ∙ e)) [
-  | inl front ↦ (let all = ap (list_all is_before_called) (sym front.1) ∙ all_front b s in record {
-    amid = all_weaker is_before_called is_amid before_is_amid xs (all_first is_before_called xs (item ∷ front.0) all);
-    within = amid_is_within item (before_is_amid item (all_at is_before_called xs item front.0 all));
-    front = λ h. all_first is_before_called xs (item ∷ front.0) all;
-    once = λ r is. called_once b valid s xs r front.0 (front.1 ∙ ap (λ i. xs ++ i ∷ front.0) is);
-  })
-  | inr behind ↦ in_second behind.0 behind.1 (stands_in (behind_calls b s dues) (line.End ∷ []) behind.0 item ys behind.2)
-]
+stands_amid : (b : Basin) → IsValidBasin b →
+    (s : Sheet) (dues : List (ℕ × ℕ)) (xs : List Item) (item : Item) (ys : List Item) →
+    sheet_lines b s dues ≡ xs ++ item ∷ ys → IsAmid b s xs item
+stands_amid b valid s dues xs item ys e =
+    elim (stands_in (amounts b s ++ calls b s) (behind_calls b s dues ++ line.End ∷ []) xs item ys
+    (sym (regroup b s dues) ∙ e)) [
+      | inl front ↦ (let all = ap (list_all is_before_called) (sym front.1) ∙ all_front b s in record {
+        amid = all_weaker is_before_called is_amid before_is_amid xs (all_first is_before_called xs (item ∷ front.0) all);
+        within = amid_is_within item (before_is_amid item (all_at is_before_called xs item front.0 all));
+        front = λ h. all_first is_before_called xs (item ∷ front.0) all;
+        once = λ r is. called_once b valid s xs r front.0 (front.1 ∙ ap (λ i. xs ++ i ∷ front.0) is);
+      })
+      | inr behind ↦
+          in_second behind.0 behind.1 (stands_in (behind_calls b s dues) (line.End ∷ []) behind.0 item ys behind.2)
+    ]
   where
     is_behind : Item → Bool
     is_behind (line.Called r c) = true
@@ -212,7 +232,8 @@ stands_amid b valid s dues xs item ys e = elim (stands_in (amounts b s ++ calls 
     no_call_is : (r : ℕ) → is_before_called item ≡ false → item ≡ line.Call r → list_all (no_call r) xs ≡ true
     no_call_is r h is = clash (sym h ∙ ap is_before_called is)
 
-    amid_xs : (zs : List Item) → xs ≡ (amounts b s ++ calls b s) ++ zs → list_all is_amid zs ≡ true → list_all is_amid xs ≡ true
+    amid_xs : (zs : List Item) → xs ≡ (amounts b s ++ calls b s) ++ zs → list_all is_amid zs ≡ true →
+        list_all is_amid xs ≡ true
     amid_xs zs is h = ap (list_all is_amid) is ∙ all_both is_amid (amounts b s ++ calls b s) zs front_amid h
 
     last_is : (zs : List Item) → line.End ∷ [] ≡ zs ++ item ∷ ys → (zs ≡ []) × (item ≡ line.End)
@@ -221,12 +242,15 @@ stands_amid b valid s dues xs item ys e = elim (stands_in (amounts b s ++ calls 
     last_is (z ∷ w ∷ zs) h = cc
 
     in_second : (zs : List Item) → xs ≡ (amounts b s ++ calls b s) ++ zs →
-        ((ws : List Item) × (behind_calls b s dues ≡ zs ++ item ∷ ws)) ⊎ ((ws : List Item) × (zs ≡ behind_calls b s dues ++ ws) × (line.End ∷ [] ≡ ws ++ item ∷ ys)) → IsAmid b s xs item
+        ((ws : List Item) × (behind_calls b s dues ≡ zs ++ item ∷ ws)) ⊎
+        ((ws : List Item) × (zs ≡ behind_calls b s dues ++ ws) × (line.End ∷ [] ≡ ws ++ item ∷ ys)) →
+        IsAmid b s xs item
     in_second zs is (inl (ws, here)) =
         let all = ap (list_all is_behind) (sym here) ∙ all_are in
         let own = behind_amid item (all_at is_behind zs item ws all) in
         record {
-          amid = amid_xs zs is (all_weaker is_behind is_amid (λ i h. (behind_amid i h).0) zs (all_first is_behind zs (item ∷ ws) all));
+          amid = amid_xs zs is
+              (all_weaker is_behind is_amid (λ i h. (behind_amid i h).0) zs (all_first is_behind zs (item ∷ ws) all));
           within = amid_is_within item own.0;
           front = λ h. clash (sym own.1 ∙ h);
           once = λ r eq. no_call_is r own.1 eq;
@@ -235,7 +259,8 @@ stands_amid b valid s dues xs item ys e = elim (stands_in (amounts b s ++ calls 
         let end = last_is ws last in
         let not_before : is_before_called item ≡ false = ap is_before_called end.1 in
         record {
-          amid = amid_xs zs is (ap (list_all is_amid) (all ∙ ap (λ vs. behind_calls b s dues ++ vs) end.0) ∙ all_both is_amid (behind_calls b s dues) []
+          amid = amid_xs zs is (ap (list_all is_amid) (all ∙ ap (λ vs. behind_calls b s dues ++ vs) end.0)
+              ∙ all_both is_amid (behind_calls b s dues) []
               (all_weaker is_behind is_amid (λ i h. (behind_amid i h).0) (behind_calls b s dues) all_are) refl);
           within = ap is_within end.1;
           front = λ h. clash (sym not_before ∙ h);
@@ -243,12 +268,16 @@ stands_amid b valid s dues xs item ys e = elim (stands_in (amounts b s ++ calls 
         }
 
 -- what is told when a line of a month may come
-within_month : (b : Basin) → IsValidBasin b → (series : Inflows) → IsSeriesOf b series → (before : List MonthRecord) (i : ℕ) (t : Told) (s : Sheet) (dues : List (ℕ × ℕ)) (xs : List Item) (item : Item) (ys : List Item) →
-    i ≡ length before → i < b.months → BehindMonths b series before t → sheet_lines b s dues ≡ xs ++ item ∷ ys → AreGood b series (tell b series t (line.Month (run_month b i))) xs →
+within_month : (b : Basin) → IsValidBasin b → (series : Inflows) → IsSeriesOf b series →
+    (before : List MonthRecord) (i : ℕ) (t : Told) (s : Sheet) (dues : List (ℕ × ℕ)) (xs : List Item) (item : Item)
+    (ys : List Item) →
+    i ≡ length before → i < b.months → BehindMonths b series before t → sheet_lines b s dues ≡ xs ++ item ∷ ys →
+    AreGood b series (tell b series t (line.Month (run_month b i))) xs →
     MayCome b series (fold (tell b series) (tell b series t (line.Month (run_month b i))) xs) item
 within_month b valid series fits before i t s dues xs item ys at left stands e g =
     let a = stands_amid b valid s dues xs item ys e in
-    let m = in_month b valid series fits before i at left xs (tell b series t (line.Month (run_month b i))) a.amid g (month_begins b series before i t at stands.months) in
+    let m = in_month b valid series fits before i at left xs (tell b series t (line.Month (run_month b i))) a.amid g
+    (month_begins b series before i t at stands.months) in
     record {
       partial = subst (IsPartialHistory b series) (sym m.months) stands.partial;
       outer = λ h. clash (sym h ∙ a.within);
@@ -274,7 +303,8 @@ within_month b valid series fits before i t s dues xs item ys at left stands e g
     none_calls r c = cc
 
 -- what is told when a line between the months may come
-between_months : (b : Basin) (series : Inflows) (before : List MonthRecord) (t : Told) (item : Item) → is_within item ≡ false → is_before_called item ≡ false → BehindMonths b series before t →
+between_months : (b : Basin) (series : Inflows) (before : List MonthRecord) (t : Told) (item : Item) →
+    is_within item ≡ false → is_before_called item ≡ false → BehindMonths b series before t →
     MayCome b series t item
 between_months b series before t item outer front stands = record {
   partial = subst (IsPartialHistory b series) (sym stands.months) stands.partial;
@@ -284,13 +314,17 @@ between_months b series before t item outer front stands = record {
   free = λ r is. clash (sym front ∙ ap is_before_called is);
 }
 
-months_front : (b : Basin) → IsValidBasin b → (series : Inflows) → IsSeriesOf b series → (n i : ℕ) (before : List MonthRecord) (t : Told) (items : List Item) (item : Item) (rest : List Item) →
-    i ≡ length before → i + n ≡ b.months → BehindMonths b series before t → Fills b (from_month b i n) (items ++ item ∷ rest) → AreGood b series t items →
+months_front : (b : Basin) → IsValidBasin b → (series : Inflows) → IsSeriesOf b series →
+    (n i : ℕ) (before : List MonthRecord) (t : Told) (items : List Item) (item : Item) (rest : List Item) →
+    i ≡ length before → i + n ≡ b.months → BehindMonths b series before t →
+    Fills b (from_month b i n) (items ++ item ∷ rest) → AreGood b series t items →
     MayCome b series (fold (tell b series) t items) item
 unfolding numbers_from
-months_front b valid series fits zero i before t items item rest at all stands h g = last items (last_line b (items ++ item ∷ rest) h) refl
+months_front b valid series fits zero i before t items item rest at all stands h g =
+    last items (last_line b (items ++ item ∷ rest) h) refl
   where
-    last : (xs : List Item) → xs ++ item ∷ rest ≡ line.Done b.months ∷ [] → xs ≡ items → MayCome b series (fold (tell b series) t items) item
+    last : (xs : List Item) → xs ++ item ∷ rest ≡ line.Done b.months ∷ [] → xs ≡ items →
+        MayCome b series (fold (tell b series) t items) item
     last [] e is =
         let done : item ≡ line.Done b.months = cc in
         subst (λ (ys : List Item). MayCome b series (fold (tell b series) t ys) item) is
@@ -298,33 +332,47 @@ months_front b valid series fits zero i before t items item rest at all stands h
     last (x ∷ []) e is = cc
     last (x ∷ y ∷ xs) e is = cc
 months_front b valid series fits (suc n) i before t items item rest at all stands h g =
-    by_items items (one_month b valid i n (items ++ item ∷ rest) h).are g (λ later u zs at' all' stands' h' g'. months_front b valid series fits n (suc i) later u zs item rest at' all' stands' h' g')
+    by_items items (one_month b valid i n (items ++ item ∷ rest) h).are g
+    (λ later u zs at' all' stands' h' g'. months_front b valid series fits n (suc i) later u zs item rest at' all'
+    stands' h' g')
   where
     o : OneMonth b i n (items ++ item ∷ rest)
     o = one_month b valid i n (items ++ item ∷ rest) h
 
     Further : Type 0
-    Further = (later : List MonthRecord) (u : Told) (zs : List Item) → suc i ≡ length later → suc i + n ≡ b.months → BehindMonths b series later u →
-        Fills b (from_month b (suc i) n) (zs ++ item ∷ rest) → AreGood b series u zs → MayCome b series (fold (tell b series) u zs) item
+    Further = (later : List MonthRecord) (u : Told) (zs : List Item) → suc i ≡ length later → suc i + n ≡ b.months →
+        BehindMonths b series later u →
+        Fills b (from_month b (suc i) n) (zs ++ item ∷ rest) → AreGood b series u zs →
+        MayCome b series (fold (tell b series) u zs) item
 
     by_place : (xs : List Item) → AreGood b series t (line.Month (run_month b i) ∷ xs) → Further →
-        ((zs : List Item) × (sheet_lines b o.sheet o.dues ≡ xs ++ item ∷ zs)) ⊎ ((zs : List Item) × (xs ≡ sheet_lines b o.sheet o.dues ++ zs) × (o.others ≡ zs ++ item ∷ rest)) →
+        ((zs : List Item) × (sheet_lines b o.sheet o.dues ≡ xs ++ item ∷ zs)) ⊎
+        ((zs : List Item) × (xs ≡ sheet_lines b o.sheet o.dues ++ zs) × (o.others ≡ zs ++ item ∷ rest)) →
         MayCome b series (fold (tell b series) (tell b series t (line.Month (run_month b i))) xs) item
-    by_place xs good further (inl (zs, here)) = within_month b valid series fits before i t o.sheet o.dues xs item zs at (omega (arith, all)) stands here good.1
+    by_place xs good further (inl (zs, here)) =
+        within_month b valid series fits before i t o.sheet o.dues xs item zs at (omega (arith, all)) stands here good.1
     by_place xs good further (inr (zs, is, others)) =
         let m : MonthRecord = record_of b series i o.sheet in
         let lines : List Item = line.Month (run_month b i) ∷ sheet_lines b o.sheet o.dues in
-        let both : AreGood b series t (lines ++ zs) = subst (λ (ys : List Item). AreGood b series t (line.Month (run_month b i) ∷ ys)) is good in
-        let next = next_month b valid series before t i o.sheet o.dues o.sized at (omega (arith, all)) stands (good_first b series t lines zs both) in
+        let both : AreGood b series t (lines ++ zs) =
+        subst (λ (ys : List Item). AreGood b series t (line.Month (run_month b i) ∷ ys)) is good in
+        let next =
+        next_month b valid series before t i o.sheet o.dues o.sized at (omega (arith, all)) stands
+        (good_first b series t lines zs both) in
         let later = further (before ++ m ∷ []) (fold (tell b series) t (items_of_month b m)) zs
-        (omega (arith, at, length-append before (m ∷ []))) (omega (arith, all)) next.behind (subst (λ (ys : List Item). Fills b (from_month b (suc i) n) ys) others o.rest)
-        (good_rest b series t (items_of_month b m) zs (subst (λ (ys : List Item). AreGood b series t (ys ++ zs)) next.lines_are both)) in
+        (omega (arith, at, length-append before (m ∷ []))) (omega (arith, all)) next.behind
+        (subst (λ (ys : List Item). Fills b (from_month b (suc i) n) ys) others o.rest)
+        (good_rest b series t (items_of_month b m) zs
+        (subst (λ (ys : List Item). AreGood b series t (ys ++ zs)) next.lines_are both)) in
         subst (λ (u : Told). MayCome b series u item)
         (ap (λ ys. fold (tell b series) (fold (tell b series) t ys) zs) (sym next.lines_are)
-        ∙ (sym (fold-both (tell b series) t lines zs) ∙ ap (λ ys. fold (tell b series) (tell b series t (line.Month (run_month b i))) ys) (sym is)))
+        ∙ (sym (fold-both (tell b series) t lines zs)
+        ∙ ap (λ ys. fold (tell b series) (tell b series t (line.Month (run_month b i))) ys) (sym is)))
         later
 
-    by_items : (xs : List Item) → xs ++ item ∷ rest ≡ line.Month (run_month b i) ∷ (sheet_lines b o.sheet o.dues ++ o.others) → AreGood b series t xs → Further →
+    by_items : (xs : List Item) →
+        xs ++ item ∷ rest ≡ line.Month (run_month b i) ∷ (sheet_lines b o.sheet o.dues ++ o.others) →
+        AreGood b series t xs → Further →
         MayCome b series (fold (tell b series) t xs) item
     by_items [] e good further =
         let begins : item ≡ line.Month (run_month b i) = cc in
@@ -332,30 +380,43 @@ months_front b valid series fits (suc n) i before t items item rest at all stand
     by_items (x ∷ xs) e good further =
         let begins : x ≡ line.Month (run_month b i) = cc in
         let tail : sheet_lines b o.sheet o.dues ++ o.others ≡ xs ++ item ∷ rest = cc in
-        let good_month : AreGood b series t (line.Month (run_month b i) ∷ xs) = subst (λ (y : Item). AreGood b series t (y ∷ xs)) begins good in
+        let good_month : AreGood b series t (line.Month (run_month b i) ∷ xs) =
+        subst (λ (y : Item). AreGood b series t (y ∷ xs)) begins good in
         subst (λ (y : Item). MayCome b series (fold (tell b series) (tell b series t y) xs) item) (sym begins)
         (by_place xs good_month further (stands_in (sheet_lines b o.sheet o.dues) o.others xs item rest tail))
 
 -- what is told when a line may come behind the good lines of a text
-pub may_come : (b : Basin) → IsValidBasin b → (series : Inflows) → IsSeriesOf b series → (items : List Item) (item : Item) → AreGood b series (nothing_told b) items → IsFront b (items ++ item ∷ []) →
+pub may_come : (b : Basin) → IsValidBasin b → (series : Inflows) → IsSeriesOf b series →
+    (items : List Item) (item : Item) → AreGood b series (nothing_told b) items → IsFront b (items ++ item ∷ []) →
     MayCome b series (fold (tell b series) (nothing_told b) items) item
 unfolding due
 may_come b valid series fits items item g front =
     let title = one_line b shape.Title (shape.Run ∷ from_month b 0 b.months) (items ++ item ∷ front.rest) refl whole in
     let run = one_line b shape.Run (from_month b 0 b.months) title.others refl title.rest in
     by_items items run.rest g (title.are ∙ ap (λ ms. line.Title ∷ (ms ++ title.others)) title.followed
-    ∙ ap (λ ys. line.Title ∷ ys) (run.are ∙ ap (λ ms. line.Run run.fields.first run.fields.one ∷ (ms ++ run.others)) run.followed))
+    ∙ ap (λ ys. line.Title ∷ ys)
+    (run.are ∙ ap (λ ms. line.Run run.fields.first run.fields.one ∷ (ms ++ run.others)) run.followed))
   where
     whole : Fills b (due b) (items ++ item ∷ front.rest)
     whole = subst (λ (xs : List Item). Fills b (due b) xs) (append_assoc items (item ∷ []) front.rest) front.whole
 
     nothing : BehindMonths b series [] (nothing_told b)
-    nothing = record { calling = refl; months = refl; partial = nothing_is_partial b series; opens = length-map b.reservoirs (λ v. v.opening) }
+    nothing =
+        record {
+          calling = refl;
+          months = refl;
+          partial = nothing_is_partial b series;
+          opens =
+              length-map b.reservoirs (λ v. v.opening);
+        }
 
-    by_items : {first : Month} {months : ℕ} {others : List Item} (xs : List Item) → Fills b (from_month b 0 b.months) others → AreGood b series (nothing_told b) xs →
-        xs ++ item ∷ front.rest ≡ line.Title ∷ line.Run first months ∷ others → MayCome b series (fold (tell b series) (nothing_told b) xs) item
+    by_items : {first : Month} {months : ℕ} {others : List Item} (xs : List Item) →
+        Fills b (from_month b 0 b.months) others → AreGood b series (nothing_told b) xs →
+        xs ++ item ∷ front.rest ≡ line.Title ∷ line.Run first months ∷ others →
+        MayCome b series (fold (tell b series) (nothing_told b) xs) item
     by_items [] h good e =
-        let is : item ≡ line.Title = cc in between_months b series [] (nothing_told b) item (ap is_within is) (ap is_before_called is) nothing
+        let is : item ≡ line.Title = cc in
+        between_months b series [] (nothing_told b) item (ap is_within is) (ap is_before_called is) nothing
     by_items {first} {months} (x ∷ []) h good e =
         let one : x ≡ line.Title = cc in
         let is : item ≡ line.Run first months = cc in
@@ -365,6 +426,9 @@ may_come b valid series fits items item g front =
         let one : x ≡ line.Title = cc in
         let two : y ≡ line.Run first months = cc in
         let rest : others ≡ xs ++ item ∷ front.rest = cc in
-        let begun : AreGood b series (nothing_told b) (line.Title ∷ line.Run first months ∷ xs) = rw (one, two) at good in
-        rw (one, two) (months_front b valid series fits b.months 0 [] (nothing_told b) xs item front.rest refl (omega arith) nothing
+        let begun : AreGood b series (nothing_told b) (line.Title ∷ line.Run first months ∷ xs) =
+        rw (one, two) at good in
+        rw (one, two)
+        (months_front b valid series fits b.months 0 [] (nothing_told b) xs item front.rest refl (omega arith)
+        nothing
         (subst (λ (ys : List Item). Fills b (from_month b 0 b.months) ys) rest h) begun.1.1)

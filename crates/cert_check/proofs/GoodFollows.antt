@@ -1,6 +1,8 @@
 -- A good month follows those before it.
-use Rattle.std.proofs.Common.{◌≡◌, ℕ, zero, suc, ◌+◌, ◌<◌, ◌≤◌, Bool, true, false, refl, sym, ap, ◌∙◌, arith, inl, inr, List, [], ◌∷◌, length, map, replicate}
-use Rattle.std.specs.Prelude.{Option, Some, None, ◌||◌, ◌==◌, ◌⊎◌, min, is_some, nat_lt, slice_get, slice_index, filter, if◌then◌else◌}
+use Rattle.std.proofs.Common.{◌≡◌, ℕ, zero, suc, ◌+◌, ◌<◌, ◌≤◌, Bool, true, false, refl, sym, ap, ◌∙◌, arith, inl, inr}
+use Rattle.std.proofs.Common.{List, [], ◌∷◌, length, map, replicate}
+use Rattle.std.specs.Prelude.{Option, Some, None, ◌||◌, ◌==◌, ◌⊎◌, min, is_some, nat_lt, slice_get, slice_index, filter}
+use Rattle.std.specs.Prelude.{if◌then◌else◌}
 use Rattle.std.specs.List.{list_any}
 use Rattle.std.proofs.lemmas.Bool.{cases_Bool}
 use Rattle.std.proofs.lemmas.Bool.Decides.{nat_tests}
@@ -60,30 +62,40 @@ zeros (suc n) (suc k) = zeros n k
 told_len : (xs : List ℕ) (a : ℕ → ℕ) (n : ℕ) (ys : List ℕ) → set_all xs a (replicate n 0) ≡ ys → length ys ≡ n
 told_len xs a n ys is = sym (ap length is) ∙ (length-set_all xs a (replicate n 0) ∙ length-replicate n 0)
 
-untold : (xs : List ℕ) (a : ℕ → ℕ) (n : ℕ) (ys : List ℕ) (k : ℕ) → set_all xs a (replicate n 0) ≡ ys → (Has xs k → ⊥) → slice_index ys k ≡ 0
-untold xs a n ys k is none = sym (ap (λ zs. slice_index zs k) is) ∙ (set_all-other xs a (replicate n 0) k none ∙ zeros n k)
+untold : (xs : List ℕ) (a : ℕ → ℕ) (n : ℕ) (ys : List ℕ) (k : ℕ) → set_all xs a (replicate n 0) ≡ ys → (Has xs k → ⊥) →
+    slice_index ys k ≡ 0
+untold xs a n ys k is none =
+    sym (ap (λ zs. slice_index zs k) is) ∙ (set_all-other xs a (replicate n 0) k none ∙ zeros n k)
 
-told_at : (xs : List ℕ) (a : ℕ → ℕ) (n : ℕ) (ys : List ℕ) (k : ℕ) → set_all xs a (replicate n 0) ≡ ys → k < n → Has xs k → slice_index ys k ≡ a k
-told_at xs a n ys k is l has = sym (ap (λ zs. slice_index zs k) is) ∙ set_all-has xs a (replicate n 0) k (omega (arith, length-replicate {A = ℕ} n 0)) has
+told_at : (xs : List ℕ) (a : ℕ → ℕ) (n : ℕ) (ys : List ℕ) (k : ℕ) → set_all xs a (replicate n 0) ≡ ys → k < n →
+    Has xs k → slice_index ys k ≡ a k
+told_at xs a n ys k is l has =
+    sym (ap (λ zs. slice_index zs k) is)
+    ∙ set_all-has xs a (replicate n 0) k (omega (arith, length-replicate {A = ℕ} n 0)) has
 
 pub map_at : (f : ℕ → ℕ) (from n k : ℕ) → k < n → slice_index (map f (numbers_from from n)) k ≡ f (from + k)
 unfolding numbers_from
 map_at f from zero k l = absurd (omega arith)
 map_at f from (suc n) zero l = let e : from ≡ from + 0 = omega arith in ap f e
-map_at f from (suc n) (suc k) l = let e : suc from + k ≡ from + suc k = omega arith in map_at f (suc from) n k (omega arith) ∙ ap f e
+map_at f from (suc n) (suc k) l = let e : suc from + k ≡ from + suc k = omega arith in
+    map_at f (suc from) n k (omega arith) ∙ ap f e
 
 -- a number of a place that passes a test or is told to be 0
-by_filter : (p : ℕ → Bool) (xs : List ℕ) (k x y : ℕ) → Has xs k → (Has (filter p xs) k → x ≡ y) → ((Has (filter p xs) k → ⊥) → x ≡ 0) → (p k ≡ false → y ≡ 0) → x ≡ y
+by_filter : (p : ℕ → Bool) (xs : List ℕ) (k x y : ℕ) → Has xs k → (Has (filter p xs) k → x ≡ y) →
+    ((Has (filter p xs) k → ⊥) → x ≡ 0) → (p k ≡ false → y ≡ 0) → x ≡ y
 by_filter p xs k x y has told none zero_there = elim (cases_Bool (p k)) [
   | inl passes ↦ told (has-filter p xs k has passes)
-  | inr fails ↦ none (λ h. (let both : false ≡ true = sym fails ∙ (filter-has p xs k h).1 in cc)) ∙ sym (zero_there fails)
+  | inr fails ↦ none (λ h. (let both : false ≡ true = sym fails ∙ (filter-has p xs k h).1 in cc))
+      ∙ sym (zero_there fails)
 ]
 
 -- Returns that no row brings.
 
-none_passes : {X : Type 0} (p : X → Bool) (xs : List X) (k : ℕ) (x : X) → list_any p xs ≡ false → slice_get xs k ≡ Some x → p x ≡ false
+none_passes : {X : Type 0} (p : X → Bool) (xs : List X) (k : ℕ) (x : X) → list_any p xs ≡ false →
+    slice_get xs k ≡ Some x → p x ≡ false
 none_passes p [] k x h e = cc
-none_passes p (y ∷ ys) zero x h e = let same : Some y ≡ Some x = e in let is : y ≡ x = cc in rw (← is) (first (p y) (list_any p ys) h)
+none_passes p (y ∷ ys) zero x h e = let same : Some y ≡ Some x = e in let is : y ≡ x = cc in
+    rw (← is) (first (p y) (list_any p ys) h)
   where
     first : (q r : Bool) → q || r ≡ false → q ≡ false
     first true r g = cc
@@ -94,11 +106,15 @@ none_passes p (y ∷ ys) (suc k) x h e = none_passes p ys k x (second (p y) (lis
     second true r g = cc
     second false r g = g
 
-nothing_returns : (b : Basin) (deliveries : List (List ℕ)) (n i : ℕ) → list_any (λ row. row.node == n) b.returns ≡ false → returned_at b deliveries n i ≡ 0
+nothing_returns : (b : Basin) (deliveries : List (List ℕ)) (n i : ℕ) →
+    list_any (λ row. row.node == n) b.returns ≡ false → returned_at b deliveries n i ≡ 0
 nothing_returns b deliveries n i h =
-    total_zero (length b.returns) (λ k. of_entry b.returns k (λ row. if row.node == n then returned_by row deliveries i else 0) 0) (λ k l. at_row k (entry_at b.returns k l))
+    total_zero (length b.returns)
+    (λ k. of_entry b.returns k (λ row. if row.node == n then returned_by row deliveries i else 0) 0)
+    (λ k l. at_row k (entry_at b.returns k l))
   where
-    at_row : (k : ℕ) → (row : ReturnRow) × (slice_get b.returns k ≡ Some row) → of_entry b.returns k (λ row. if row.node == n then returned_by row deliveries i else 0) 0 ≡ 0
+    at_row : (k : ℕ) → (row : ReturnRow) × (slice_get b.returns k ≡ Some row) →
+        of_entry b.returns k (λ row. if row.node == n then returned_by row deliveries i else 0) 0 ≡ 0
     at_row k (row, is) = rw (is, none_passes (λ row. row.node == n) b.returns k row h is) refl
 
 -- A right takes at a node, or is on a link.
@@ -106,14 +122,18 @@ nothing_returns b deliveries n i h =
 TakesOrStays : Option ℕ → Option ℕ → Type 0
 TakesOrStays taking link = ((is_some taking ≡ true) × (link ≡ None)) ⊎ ((taking ≡ None) × (is_some link ≡ true))
 
-takes_or_stays : (b : Basin) (r : ℕ) → IsValidBasin b → r < length b.rights → TakesOrStays (taking_node b r) (instream_link b r)
+takes_or_stays : (b : Basin) (r : ℕ) → IsValidBasin b → r < length b.rights →
+    TakesOrStays (taking_node b r) (instream_link b r)
 unfolding TakesOrStays
 takes_or_stays b r valid l = (let k = kind_is b valid r l in rw (k.node, k.link) (by_kind k.kind k.place))
   where
-    by_kind : (k : RightKind) → HasValidPlace b k → ((is_some (taking_node_of_kind b k) ≡ true) × (link_of_kind k ≡ None)) ⊎ ((taking_node_of_kind b k ≡ None) × (is_some (link_of_kind k) ≡ true))
+    by_kind : (k : RightKind) → HasValidPlace b k →
+        ((is_some (taking_node_of_kind b k) ≡ true) × (link_of_kind k ≡ None)) ⊎
+        ((taking_node_of_kind b k ≡ None) × (is_some (link_of_kind k) ≡ true))
     by_kind (kind.Diversion at) h = inl (refl, refl)
     by_kind (kind.Instream link) h = inr (refl, refl)
-    by_kind (kind.Zone reservoir level) h = (let entry = entry_at b.reservoirs reservoir h.0 in inl (rw (entry.1) refl, refl))
+    by_kind (kind.Zone reservoir level) h =
+        (let entry = entry_at b.reservoirs reservoir h.0 in inl (rw (entry.1) refl, refl))
 
 -- what a month takes and delivers, by what is told
 
@@ -122,8 +142,10 @@ record IsServed (b : Basin) (m : MonthRecord) (r : ℕ) : Type 0 where
   instream : taking_node b r ≡ None → slice_index m.plan.take r ≡ 0
   delivered : slice_index m.delivered r ≡ delivery_by_link (instream_link b r) (slice_index m.want r) m.plan r
 
-served : (b : Basin) (m : MonthRecord) (r : ℕ) (taking link : Option ℕ) → taking_node b r ≡ taking → instream_link b r ≡ link → TakesOrStays taking link →
-    slice_index m.plan.take r ≡ (if is_some taking then slice_index m.delivered r else 0) → amount_wrong link m.plan.flow (slice_index m.delivered r) (slice_index m.want r) ≡ false →
+served : (b : Basin) (m : MonthRecord) (r : ℕ) (taking link : Option ℕ) → taking_node b r ≡ taking →
+    instream_link b r ≡ link → TakesOrStays taking link →
+    slice_index m.plan.take r ≡ (if is_some taking then slice_index m.delivered r else 0) →
+    amount_wrong link m.plan.flow (slice_index m.delivered r) (slice_index m.want r) ≡ false →
     IsServed b m r
 unfolding TakesOrStays
 served b m r (Some node) None t l s take right = record {
@@ -134,26 +156,32 @@ served b m r (Some node) None t l s take right = record {
 served b m r None (Some link) t l s take right = record {
   most = omega (arith, take);
   instream = λ e. take;
-  delivered = rw l (is_same (slice_index m.delivered r) (min (slice_index m.want r) (slice_index m.plan.flow link)) right);
+  delivered =
+      rw l (is_same (slice_index m.delivered r) (min (slice_index m.want r) (slice_index m.plan.flow link)) right);
 }
 served b m r None None t l (inl (e, f)) take right = cc
 served b m r None None t l (inr (e, f)) take right = cc
 served b m r (Some node) (Some link) t l (inl (e, f)) take right = cc
 served b m r (Some node) (Some link) t l (inr (e, f)) take right = cc
 
-pub good_follows : (b : Basin) (series : Inflows) (before : List MonthRecord) (m : MonthRecord) → IsValidBasin b → IsAllTold b series m → IsGoodMonth b series before m →
-    m.index ≡ length before → m.month ≡ run_month b m.index → length (opening_after b before) ≡ length b.reservoirs → Follows b series before m
+pub good_follows : (b : Basin) (series : Inflows) (before : List MonthRecord) (m : MonthRecord) → IsValidBasin b →
+    IsAllTold b series m → IsGoodMonth b series before m →
+    m.index ≡ length before → m.month ≡ run_month b m.index → length (opening_after b before) ≡ length b.reservoirs →
+    Follows b series before m
 good_follows b series before m valid a g index month opens = record {
   fits = record {
     opening = opening_len;
     evaporated = listed_len quantity.Evaporated;
     closing = listed_len quantity.Closing;
     returned = listed_len quantity.Returned;
-    supply = sym (ap length a.supply) ∙ (length-map (places_of b.nodes) supply_of ∙ length-numbers_from 0 (length b.nodes));
+    supply = sym (ap length a.supply)
+        ∙ (length-map (places_of b.nodes) supply_of ∙ length-numbers_from 0 (length b.nodes));
     used = listed_len quantity.Used;
     want = told_len (seniors_first b) _ (length b.rights) m.want a.want;
     delivered = told_len (seniors_first b) _ (length b.rights) m.delivered a.delivered;
-    cuts = sym (ap length a.sets) ∙ (length-put_sets (seniors_first b) (λ r. cut_of m r) (replicate (length b.rights) None) ∙ length-replicate (length b.rights) None);
+    cuts = sym (ap length a.sets)
+        ∙ (length-put_sets (seniors_first b) (λ r. cut_of m r) (replicate (length b.rights) None)
+        ∙ length-replicate (length b.rights) None);
     cut_nodes = a.nodes;
   };
   index = index;
@@ -165,7 +193,8 @@ good_follows b series before m valid a g index month opens = record {
       (slice_index m.returned n) (returned_at b (map (λ k. k.delivered) before) n m.index)
       (in_order-has (space_of quantity.Returned) b n l) (g.returned n) (unlisted quantity.Returned n)
       (nothing_returns b (map (λ k. k.delivered) before) n m.index);
-  supply = λ n l. sym (ap (λ xs. slice_index xs n) a.supply) ∙ (map_at supply_of 0 (length b.nodes) n l ∙ ap supply_of (zero_more n));
+  supply = λ n l. sym (ap (λ xs. slice_index xs n) a.supply)
+      ∙ (map_at supply_of 0 (length b.nodes) n l ∙ ap supply_of (zero_more n));
   used = λ r l. by_filter (λ k. has_line b quantity.Used k) (in_order (space_of quantity.Used) b) r
       (slice_index m.used r) (used_of b (map (λ k. k.delivered) before) r m.index)
       (in_order-has (space_of quantity.Used) b r l) (g.used r) (unlisted quantity.Used r)
@@ -181,10 +210,13 @@ good_follows b series before m valid a g index month opens = record {
     instream = λ r l e. (right r l).instream e;
     outlets = λ n l e. unlisted quantity.Outflow n
         (λ h. (let both : false ≡ true = sym e ∙ (has-with_line b quantity.Outflow n h).1 in cc));
-    balance = λ n l. equal (slice_index m.supply n + inflow_to b m.plan.flow n) (outflow_from b m.plan.flow n + taken_at b m.plan.take n + slice_index m.plan.out n) (g.balance n l);
+    balance =
+        λ n l. equal (slice_index m.supply n + inflow_to b m.plan.flow n)
+        (outflow_from b m.plan.flow n + taken_at b m.plan.take n + slice_index m.plan.out n) (g.balance n l);
   };
   delivered = λ r l. (right r l).delivered;
-  short = λ r l short. (let s = g.sets.short r l (less_is (slice_index m.delivered r) (slice_index m.want r) short) in (s.0, s.1, is_tight_is b m r s.0 s.2));
+  short = λ r l short. (let s = g.sets.short r l (less_is (slice_index m.delivered r) (slice_index m.want r) short) in
+      (s.0, s.1, is_tight_is b m r s.0 s.2));
   met = λ r l met. g.sets.met r l (not_less (slice_index m.delivered r) (slice_index m.want r) met);
   closing = λ v l. g.closing v (with_line-has b quantity.Closing v l refl);
 }
@@ -206,5 +238,6 @@ good_follows b series before m valid a g index month opens = record {
 
     right : (r : ℕ) → r < length b.rights → IsServed b m r
     right r l = served b m r (taking_node b r) (instream_link b r) refl refl (takes_or_stays b r valid l)
-        (told_at (seniors_first b) (take_of b (λ k. slice_index m.delivered k)) (length b.rights) m.plan.take r a.take l (seniors_have b.rights r l))
+        (told_at (seniors_first b) (take_of b (λ k. slice_index m.delivered k)) (length b.rights) m.plan.take r a.take l
+        (seniors_have b.rights r l))
         (g.deliver r (seniors_have b.rights r l)).1

@@ -1,5 +1,6 @@
 -- A month whose lines are not refuted is good.
-use Rattle.std.proofs.Common.{◌≡◌, ℕ, ◌<◌, ◌≤◌, Bool, true, false, refl, sym, ap, subst, ◌∙◌, arith, List, [], ◌∷◌, ◌++◌, length, map, fold, append-nil, length-append}
+use Rattle.std.proofs.Common.{◌≡◌, ℕ, ◌<◌, ◌≤◌, Bool, true, false, refl, sym, ap, subst, ◌∙◌, arith, List, [], ◌∷◌}
+use Rattle.std.proofs.Common.{◌++◌, length, map, fold, append-nil, length-append}
 use Rattle.std.specs.Prelude.{Option, Some, None, slice_index}
 use Rattle.water_model.specs.History.{cut_of}
 use Rattle.water_model.specs.Places.{seniors_first, outlets}
@@ -17,10 +18,16 @@ use Rattle.cert_check.proofs.Rows.{AreGood, good_section, good_first, good_rest}
 use Rattle.cert_check.proofs.Sections as section
 use Rattle.cert_check.proofs.Outflows.{IsInBalance, outflows_told}
 use Rattle.cert_check.proofs.Calls.{HasRightSets, IsSettled, calls_told}
-use Rattle.cert_check.proofs.Callers.{AllCalled, Behind, IsPast, called_told, settled_called, closings, closing_past, end_past}
-use Rattle.cert_check.proofs.Month.{At, BehindCalls, IsGoodMonth, stages, begun, with_out, with_calls, told_balance, told_sees, told_callers, calls_stage, inner_lines, opening_lines, evaporated_lines, returned_lines, used_lines, flow_lines, deliver_lines, out_lines, call_lines, due_lines, closing_lines, behind_opening, behind_evaporated, behind_returned, behind_used, behind_flow, behind_deliver, behind_out, behind_calls, behind_called}
+use Rattle.cert_check.proofs.Callers.{AllCalled, Behind, IsPast, called_told, settled_called, closings, closing_past}
+use Rattle.cert_check.proofs.Callers.{end_past}
+use Rattle.cert_check.proofs.Month.{At, BehindCalls, IsGoodMonth, stages, begun, with_out, with_calls, told_balance}
+use Rattle.cert_check.proofs.Month.{told_sees, told_callers, calls_stage, inner_lines, opening_lines, evaporated_lines}
+use Rattle.cert_check.proofs.Month.{returned_lines, used_lines, flow_lines, deliver_lines, out_lines, call_lines}
+use Rattle.cert_check.proofs.Month.{due_lines, closing_lines, behind_opening, behind_evaporated, behind_returned}
+use Rattle.cert_check.proofs.Month.{behind_used, behind_flow, behind_deliver, behind_out, behind_calls, behind_called}
 
-balance_out : (b : Basin) (series : Inflows) (m : MonthRecord) (t : Told) → IsAllTold b series m → t.now ≡ with_out b m → IsInBalance b series t.now →
+balance_out : (b : Basin) (series : Inflows) (m : MonthRecord) (t : Told) → IsAllTold b series m →
+    t.now ≡ with_out b m → IsInBalance b series t.now →
     (n : ℕ) → n < length b.nodes → balances b m n ≡ true
 unfolding IsInBalance
 balance_out b series m t a is h n l = sym (told_balance b series m t.now n a is) ∙ h n l
@@ -49,16 +56,21 @@ nothing_more : (xs more dues : List (ℕ × ℕ)) → dues ≡ xs ++ more → le
 nothing_more xs [] dues is l = is ∙ append-nil xs
 nothing_more xs (x ∷ more) dues is l = absurd (omega (arith, ap length is, length-append xs (x ∷ more)))
 
-right_sets : (b : Basin) (series : Inflows) (m : MonthRecord) (t u : Told) → IsAllTold b series m → t.now ≡ with_out b m → AreGood b series t (call_lines b m) →
-    u.now ≡ with_calls b m → IsSettled b series (fold (tell b series) t (call_lines b m)) → AllCalled b series u → HasRightSets b m
+right_sets : (b : Basin) (series : Inflows) (m : MonthRecord) (t u : Told) → IsAllTold b series m →
+    t.now ≡ with_out b m → AreGood b series t (call_lines b m) →
+    u.now ≡ with_calls b m → IsSettled b series (fold (tell b series) t (call_lines b m)) → AllCalled b series u →
+    HasRightSets b m
 right_sets b series m t u a is g now settled all = record {
   sized = a.sized;
   short = λ r l short. by_set r l short (cut_of m r) refl;
   met = λ r l met. unset r l met (cut_of m r) refl;
 }
   where
-    told : (r : ℕ) (set : List Bool) → r < length b.rights → cut_of m r ≡ Some set → (is_short m r ≡ true) × (is_tight b m r set ≡ true)
-    told r set l e = calls_told b series m a.sized (seniors_first b) (λ s h. seniors_below b.rights s h) t (told_sees b series m t.now a is) g settled r set (seniors_have b.rights r l) e
+    told : (r : ℕ) (set : List Bool) → r < length b.rights → cut_of m r ≡ Some set → (is_short m r ≡ true) ×
+        (is_tight b m r set ≡ true)
+    told r set l e =
+        calls_told b series m a.sized (seniors_first b) (λ s h. seniors_below b.rights s h) t
+        (told_sees b series m t.now a is) g settled r set (seniors_have b.rights r l) e
 
     same_short : (r : ℕ) → is_short u.now r ≡ is_short m r
     same_short r = ap (λ k. is_short k r) now
@@ -66,48 +78,91 @@ right_sets b series m t u a is g now settled all = record {
     same_cut : (r : ℕ) → cut_of u.now r ≡ cut_of m r
     same_cut r = ap (λ k. cut_of k r) now
 
-    by_set : (r : ℕ) → r < length b.rights → is_short m r ≡ true → (o : Option (List Bool)) → cut_of m r ≡ o → (set : List Bool) × (cut_of m r ≡ Some set) × (is_tight b m r set ≡ true)
+    by_set : (r : ℕ) → r < length b.rights → is_short m r ≡ true → (o : Option (List Bool)) → cut_of m r ≡ o →
+        (set : List Bool) × (cut_of m r ≡ Some set) × (is_tight b m r set ≡ true)
     by_set r l short None e = absurd (all.none_left r l (same_short r ∙ short) (same_cut r ∙ e))
     by_set r l short (Some set) e = (set, e, (told r set l e).1)
 
-    unset : (r : ℕ) → r < length b.rights → is_short m r ≡ false → (o : Option (List Bool)) → cut_of m r ≡ o → cut_of m r ≡ None
+    unset : (r : ℕ) → r < length b.rights → is_short m r ≡ false → (o : Option (List Bool)) → cut_of m r ≡ o →
+        cut_of m r ≡ None
     unset r l met None e = e
     unset r l met (Some set) e = let no_call : false ≡ true = sym met ∙ (told r set l e).0 in cc
 
-called_now : (b : Basin) (series : Inflows) (before : List MonthRecord) (m : MonthRecord) (dues : List (ℕ × ℕ)) (t : Told) → BehindCalls b before m t → AreGood b series t (due_lines dues) →
+called_now : (b : Basin) (series : Inflows) (before : List MonthRecord) (m : MonthRecord) (dues : List (ℕ × ℕ))
+    (t : Told) → BehindCalls b before m t → AreGood b series t (due_lines dues) →
     IsPast b series (fold (tell b series) t (due_lines dues)) →
-    ((fold (tell b series) t (due_lines dues)).now ≡ with_calls b m) × (callers_due b m ≡ dues) × ((fold (tell b series) t (due_lines dues)).called ≡ length (callers_due b m))
+    ((fold (tell b series) t (due_lines dues)).now ≡ with_calls b m) × (callers_due b m ≡ dues) ×
+    ((fold (tell b series) t (due_lines dues)).called ≡ length (callers_due b m))
 called_now b series before m dues t at g past =
     let c = called_told b series dues (callers_due b m) [] t g (told_callers b m t.now at.now_is) at.called in
     let now : (fold (tell b series) t (due_lines dues)).now ≡ with_calls b m = c.now ∙ at.now_is in
-    let same : callers_due b (fold (tell b series) t (due_lines dues)).now ≡ callers_due b m = told_callers b m (fold (tell b series) t (due_lines dues)).now now in
-    let dues_are = nothing_more dues c.more (callers_due b m) c.are (omega (arith, past.count, ap length same, c.called, at.called)) in
+    let same : callers_due b (fold (tell b series) t (due_lines dues)).now ≡ callers_due b m =
+    told_callers b m (fold (tell b series) t (due_lines dues)).now now in
+    let dues_are =
+    nothing_more dues c.more (callers_due b m) c.are
+    (omega (arith, past.count, ap length same, c.called, at.called)) in
     (now, dues_are, omega (arith, c.called, at.called, ap length dues_are))
 
-pub inner_is_good : (b : Basin) (series : Inflows) (before : List MonthRecord) (m : MonthRecord) (dues : List (ℕ × ℕ)) → HasOutlet b → IsAllTold b series m →
-    (t : Told) → At b before (begun b m) t → AreGood b series t (inner_lines b m dues) → IsGoodMonth b series before m × (callers_due b m ≡ dues)
+pub inner_is_good : (b : Basin) (series : Inflows) (before : List MonthRecord) (m : MonthRecord) (dues : List (ℕ × ℕ)) →
+    HasOutlet b → IsAllTold b series m →
+    (t : Told) → At b before (begun b m) t → AreGood b series t (inner_lines b m dues) → IsGoodMonth b series before m ×
+    (callers_due b m ≡ dues)
 inner_is_good b series before m dues outlet a t at g =
     let s = stages b series before m a t at in
     let behind = calls_stage b series before m a (behind_out b series m t) s.out in
     let g0 = g in
-    let g1 = good_rest b series t (opening_lines b m) (evaporated_lines b m ++ (returned_lines b m ++ (used_lines b m ++ (flow_lines b m ++ (deliver_lines b m ++ (out_lines b m ++ (call_lines b m ++ (due_lines dues ++ (closing_lines b m ++ (line.End ∷ [])))))))))) g0 in
-    let g2 = good_rest b series (behind_opening b series m t) (evaporated_lines b m) (returned_lines b m ++ (used_lines b m ++ (flow_lines b m ++ (deliver_lines b m ++ (out_lines b m ++ (call_lines b m ++ (due_lines dues ++ (closing_lines b m ++ (line.End ∷ []))))))))) g1 in
-    let g3 = good_rest b series (behind_evaporated b series m t) (returned_lines b m) (used_lines b m ++ (flow_lines b m ++ (deliver_lines b m ++ (out_lines b m ++ (call_lines b m ++ (due_lines dues ++ (closing_lines b m ++ (line.End ∷ [])))))))) g2 in
-    let g4 = good_rest b series (behind_returned b series m t) (used_lines b m) (flow_lines b m ++ (deliver_lines b m ++ (out_lines b m ++ (call_lines b m ++ (due_lines dues ++ (closing_lines b m ++ (line.End ∷ []))))))) g3 in
-    let g5 = good_rest b series (behind_used b series m t) (flow_lines b m) (deliver_lines b m ++ (out_lines b m ++ (call_lines b m ++ (due_lines dues ++ (closing_lines b m ++ (line.End ∷ [])))))) g4 in
-    let g6 = good_rest b series (behind_flow b series m t) (deliver_lines b m) (out_lines b m ++ (call_lines b m ++ (due_lines dues ++ (closing_lines b m ++ (line.End ∷ []))))) g5 in
-    let g7 = good_rest b series (behind_deliver b series m t) (out_lines b m) (call_lines b m ++ (due_lines dues ++ (closing_lines b m ++ (line.End ∷ [])))) g6 in
-    let g8 = good_rest b series (behind_out b series m t) (call_lines b m) (due_lines dues ++ (closing_lines b m ++ (line.End ∷ []))) g7 in
-    let g9 = good_rest b series (behind_calls b series m t) (due_lines dues) (closing_lines b m ++ (line.End ∷ [])) g8 in
+    let g1 = good_rest b series t (opening_lines b m)
+    (evaporated_lines b
+    m ++ (returned_lines b
+    m ++ (used_lines b
+    m ++ (flow_lines b
+    m ++ (deliver_lines b
+    m ++ (out_lines b m ++ (call_lines b m ++ (due_lines dues ++ (closing_lines b m ++ (line.End ∷ []))))))))))
+    g0 in
+    let g2 = good_rest b series (behind_opening b series m t) (evaporated_lines b m)
+    (returned_lines b
+    m ++ (used_lines b
+    m ++ (flow_lines b
+    m ++ (deliver_lines b
+    m ++ (out_lines b m ++ (call_lines b m ++ (due_lines dues ++ (closing_lines b m ++ (line.End ∷ []))))))))) g1 in
+    let g3 = good_rest b series (behind_evaporated b series m t) (returned_lines b m)
+    (used_lines b
+    m ++ (flow_lines b
+    m ++ (deliver_lines b
+    m ++ (out_lines b m ++ (call_lines b m ++ (due_lines dues ++ (closing_lines b m ++ (line.End ∷ [])))))))) g2 in
+    let g4 = good_rest b series (behind_returned b series m t) (used_lines b m)
+    (flow_lines b
+    m ++ (deliver_lines b
+    m ++ (out_lines b m ++ (call_lines b m ++ (due_lines dues ++ (closing_lines b m ++ (line.End ∷ []))))))) g3 in
+    let g5 = good_rest b series (behind_used b series m t) (flow_lines b m)
+    (deliver_lines b
+    m ++ (out_lines b m ++ (call_lines b m ++ (due_lines dues ++ (closing_lines b m ++ (line.End ∷ [])))))) g4 in
+    let g6 = good_rest b series (behind_flow b series m t) (deliver_lines b m)
+    (out_lines b m ++ (call_lines b m ++ (due_lines dues ++ (closing_lines b m ++ (line.End ∷ []))))) g5 in
+    let g7 = good_rest b series (behind_deliver b series m t) (out_lines b m)
+    (call_lines b m ++ (due_lines dues ++ (closing_lines b m ++ (line.End ∷ [])))) g6 in
+    let g8 = good_rest b series (behind_out b series m t) (call_lines b m)
+    (due_lines dues ++ (closing_lines b m ++ (line.End ∷ []))) g7 in
+    let g9 = good_rest b series (behind_calls b series m t) (due_lines dues) (closing_lines b m ++ (line.End ∷ []))
+    g8 in
     let past = past_of b series (λ x. slice_index m.closing x) (entries_with_line b quantity.Closing)
     (behind_called b series m dues t) g9 in
-    let calls_here = good_first b series (behind_out b series m t) (call_lines b m) (due_lines dues ++ (closing_lines b m ++ (line.End ∷ []))) g7 in
-    let dues_here = good_first b series (behind_calls b series m t) (due_lines dues) (closing_lines b m ++ (line.End ∷ [])) g8 in
+    let calls_here =
+    good_first b series (behind_out b series m t) (call_lines b m)
+    (due_lines dues ++ (closing_lines b m ++ (line.End ∷ []))) g7 in
+    let dues_here =
+    good_first b series (behind_calls b series m t) (due_lines dues) (closing_lines b m ++ (line.End ∷ [])) g8 in
     let closings_here = good_first b series (behind_called b series m dues t) (closing_lines b m) (line.End ∷ []) g9 in
     let called = called_now b series before m dues (behind_calls b series m t) behind dues_here past in
     let settled = settled_called b series dues (behind_calls b series m t) dues_here past.all.settled in
     let stands : Behind b series (callers_due b m) m.plan.take (behind_called b series m dues t) = record {
-      callers = record { all = past.all; due = told_callers b m (behind_called b series m dues t).now called.0; count = called.2 };
+      callers =
+          record {
+            all = past.all;
+            due = told_callers b m (behind_called b series m dues t).now called.0;
+            count =
+                called.2;
+          };
       take_is = ap (λ k. k.plan.take) called.0;
     } in (
       record {
@@ -157,9 +212,25 @@ inner_is_good b series before m dues outlet a t at g =
             (good_first b series (behind_used b series m t) (flow_lines b m)
             (deliver_lines b m ++
             (out_lines b m ++ (call_lines b m ++ (due_lines dues ++ (closing_lines b m ++ (line.End ∷ [])))))) g4);
-        deliver = good_section b series (section.Flows m.index m.used m.plan.flow) _ (λ x. line.Deliver x (slice_index m.delivered x) (slice_index m.want x)) (section.deliveries b series m.index m.used m.plan.flow (λ x. slice_index m.delivered x) (λ x. slice_index m.want x)) (seniors_first b) (behind_flow b series m t) (s.flow.calling, ap (λ k. k.index) s.flow.now_is, ap (λ k. k.used) s.flow.now_is, ap (λ k. k.plan.flow) s.flow.now_is) (good_first b series (behind_flow b series m t) (deliver_lines b m) (out_lines b m ++ (call_lines b m ++ (due_lines dues ++ (closing_lines b m ++ (line.End ∷ []))))) g5);
-        balance = balance_out b series m (behind_out b series m t) a s.out.now_is (outflows_balance b series (λ x. slice_index m.plan.out x) (behind_deliver b series m t) outlet (good_first b series (behind_deliver b series m t) (out_lines b m) (call_lines b m ++ (due_lines dues ++ (closing_lines b m ++ (line.End ∷ [])))) g6));
-        sets = right_sets b series m (behind_out b series m t) (behind_called b series m dues t) a s.out.now_is calls_here called.0 settled past.all;
+        deliver =
+            good_section b series (section.Flows m.index m.used m.plan.flow) _
+            (λ x. line.Deliver x (slice_index m.delivered x) (slice_index m.want x))
+            (section.deliveries b series m.index m.used m.plan.flow (λ x. slice_index m.delivered x)
+            (λ x. slice_index m.want x)) (seniors_first b) (behind_flow b series m t) (
+              s.flow.calling,
+              ap (λ k. k.index) s.flow.now_is,
+              ap (λ k. k.used) s.flow.now_is,
+              ap (λ k. k.plan.flow) s.flow.now_is,
+            )
+            (good_first b series (behind_flow b series m t) (deliver_lines b m)
+            (out_lines b m ++ (call_lines b m ++ (due_lines dues ++ (closing_lines b m ++ (line.End ∷ []))))) g5);
+        balance =
+            balance_out b series m (behind_out b series m t) a s.out.now_is
+            (outflows_balance b series (λ x. slice_index m.plan.out x) (behind_deliver b series m t) outlet
+            (good_first b series (behind_deliver b series m t) (out_lines b m)
+            (call_lines b m ++ (due_lines dues ++ (closing_lines b m ++ (line.End ∷ [])))) g6));
+        sets = right_sets b series m (behind_out b series m t) (behind_called b series m dues t) a s.out.now_is
+            calls_here called.0 settled past.all;
         closing = good_section b series (Behind b series (callers_due b m) m.plan.take) _
             (λ x. line.Amount quantity.Closing x (slice_index m.closing x))
             (closings b series (callers_due b m) m.plan.take (λ x. slice_index m.closing x))

@@ -1,5 +1,6 @@
 -- The lines of a text, from its form.
-use Rattle.std.proofs.Common.{◌≡◌, ℕ, Bool, true, false, refl, sym, ap, subst, ◌∙◌, arith, inl, inr, List, [], ◌∷◌, ◌++◌, length, map, append_assoc}
+use Rattle.std.proofs.Common.{◌≡◌, ℕ, Bool, true, false, refl, sym, ap, subst, ◌∙◌, arith, inl, inr, List, [], ◌∷◌}
+use Rattle.std.proofs.Common.{◌++◌, length, map, append_assoc}
 use Rattle.std.specs.Prelude.{Option, Some, None, ◌==◌, if◌then◌else◌}
 use Rattle.std.specs.List.{flat_map}
 use Rattle.std.proofs.lemmas.Bool.{cases_eq}
@@ -72,7 +73,8 @@ pub record OneLine (b : Basin) (d : Shape) (ds : List Shape) (items : List Item)
   pub followed : IsFollowedBy b (with_fields d fields) members
   pub rest : Fills b ds others
 
-pub one_line : (b : Basin) (d : Shape) (ds : List Shape) (items : List Item) → is_optional d ≡ false → Fills b (d ∷ ds) items → OneLine b d ds items
+pub one_line : (b : Basin) (d : Shape) (ds : List Shape) (items : List Item) → is_optional d ≡ false →
+    Fills b (d ∷ ds) items → OneLine b d ds items
 one_line b d ds items o (inl (optional, h)) = let both : false ≡ true = sym o ∙ optional in cc
 one_line b d ds items o (inr (i, members, others, f, followed, are, h)) = record {
   fields = fields_in i;
@@ -120,7 +122,8 @@ pub record Lines (b : Basin) (line_at : ℕ → Shape) (xs : List ℕ) (ds : Lis
 
 pub each_line : (b : Basin) (line_at : ℕ → Shape) → ((x : ℕ) → is_optional (line_at x) ≡ false) →
     ((x : ℕ) (f : Fields) (members : List Item) → IsFollowedBy b (with_fields (line_at x) f) members → members ≡ []) →
-    (xs : List ℕ) → AreApart xs → (ds : List Shape) (items : List Item) → Fills b (map line_at xs ++ ds) items → Lines b line_at xs ds items
+    (xs : List ℕ) → AreApart xs → (ds : List Shape) (items : List Item) → Fills b (map line_at xs ++ ds) items →
+    Lines b line_at xs ds items
 each_line b line_at o alone [] apart ds items h =
     record { fields = λ x. no_fields; others = items; are = refl; rest = h }
 each_line b line_at o alone (x ∷ xs) apart ds items h =
@@ -130,11 +133,17 @@ each_line b line_at o alone (x ∷ xs) apart ds items h =
     record {
       fields = fields;
       others = later.others;
-      are = first.are ∙ (ap (λ ms. with_fields (line_at x) first.fields ∷ (ms ++ first.others)) (alone x first.fields first.members first.followed)
-          ∙ pair (with_fields (line_at x) first.fields) (with_fields (line_at x) (fields x)) first.others (map (λ k. with_fields (line_at k) (fields k)) xs ++ later.others)
+      are = first.are
+          ∙ (ap (λ ms. with_fields (line_at x) first.fields ∷ (ms ++ first.others))
+          (alone x first.fields first.members first.followed)
+          ∙ pair (with_fields (line_at x) first.fields) (with_fields (line_at x) (fields x)) first.others
+          (map (λ k. with_fields (line_at k) (fields k)) xs ++ later.others)
           (ap (λ f. with_fields (line_at x) f) (sym (here later.fields x first.fields)))
-          (later.are ∙ ap (λ ls. ls ++ later.others) (map_same (λ k. with_fields (line_at k) (later.fields k)) (λ k. with_fields (line_at k) (fields k)) xs
-          (λ k m. ap (λ f. with_fields (line_at k) f) (sym (elsewhere later.fields x first.fields k (λ e. apart.0 (subst (λ (y : ℕ). Has xs y) e m))))))));
+          (later.are
+          ∙ ap (λ ls. ls ++ later.others)
+          (map_same (λ k. with_fields (line_at k) (later.fields k)) (λ k. with_fields (line_at k) (fields k)) xs
+          (λ k m. ap (λ f. with_fields (line_at k) f)
+          (sym (elsewhere later.fields x first.fields k (λ e. apart.0 (subst (λ (y : ℕ). Has xs y) e m))))))));
       rest = later.rest;
     }
   where
@@ -149,12 +158,22 @@ pub record CallLines (b : Basin) (xs : List ℕ) (ds : List Shape) (items : List
   pub are : items ≡ flat_map (λ r. call_items r (cut r)) xs ++ others
   pub rest : Fills b ds others
 
-pub flat_same : {Y : Type 0} (f g : ℕ → List Y) (xs : List ℕ) → ((x : ℕ) → Has xs x → f x ≡ g x) → flat_map f xs ≡ flat_map g xs
+pub flat_same : {Y : Type 0} (f g : ℕ → List Y) (xs : List ℕ) → ((x : ℕ) → Has xs x → f x ≡ g x) →
+    flat_map f xs ≡ flat_map g xs
 flat_same f g [] h = refl
 flat_same f g (x ∷ xs) h = rw (h x (inl refl), flat_same f g xs (λ y m. h y (inr m))) refl
 
-pub each_call : (b : Basin) (xs : List ℕ) → AreApart xs → (ds : List Shape) (items : List Item) → Fills b (map (λ r. shape.Call r) xs ++ ds) items → CallLines b xs ds items
-each_call b [] apart ds items h = record { cut = λ r. None; sized = λ r set e. (let never : None ≡ Some set = e in cc); others = items; are = refl; rest = h }
+pub each_call : (b : Basin) (xs : List ℕ) → AreApart xs → (ds : List Shape) (items : List Item) →
+    Fills b (map (λ r. shape.Call r) xs ++ ds) items → CallLines b xs ds items
+each_call b [] apart ds items h =
+    record {
+      cut = λ r. None;
+      sized = λ r set e. (let never : None ≡ Some set = e in cc);
+      others = items;
+      are =
+          refl;
+      rest = h;
+    }
 each_call b (x ∷ xs) apart ds items (inl (optional, h)) =
     let later = each_call b xs apart.1 ds items h in
     let none : later.cut x ≡ None = unset later (later.cut x) refl in
@@ -162,7 +181,8 @@ each_call b (x ∷ xs) apart ds items (inl (optional, h)) =
       cut = later.cut;
       sized = λ r set e. (let s = later.sized r set e in (s.0, inr s.1));
       others = later.others;
-      are = later.are ∙ ap (λ o. (call_items x o ++ flat_map (λ r. call_items r (later.cut r)) xs) ++ later.others) (sym none);
+      are = later.are ∙ ap (λ o. (call_items x o ++ flat_map (λ r. call_items r (later.cut r)) xs) ++ later.others)
+          (sym none);
       rest = later.rest;
     }
   where
@@ -178,27 +198,38 @@ each_call b (x ∷ xs) apart ds items (inr (i, members, others, f, followed, are
       cut = cut;
       sized = λ r set e. sized later group.0 group.1 r set e;
       others = later.others;
-      are = are ∙ (ap (λ j. j ∷ (members ++ others)) is ∙ (ap (λ ms. line.Call x ∷ (ms ++ others)) group.3 ∙ whole later group.0));
+      are = are
+          ∙ (ap (λ j. j ∷ (members ++ others)) is
+          ∙ (ap (λ ms. line.Call x ∷ (ms ++ others)) group.3 ∙ whole later group.0));
       rest = later.rest;
     }
   where
-    sized : (l : CallLines b xs ds others) (own : List Bool) → length own ≡ length b.nodes → (r : ℕ) (set : List Bool) → with_place l.cut x (Some own) r ≡ Some set →
+    sized : (l : CallLines b xs ds others) (own : List Bool) → length own ≡ length b.nodes → (r : ℕ) (set : List Bool) →
+        with_place l.cut x (Some own) r ≡ Some set →
         (length set ≡ length b.nodes) × Has (x ∷ xs) r
     sized l own size r set e = elim (cases_eq r x) [
-      | inl same ↦ (let both : Some own ≡ Some set = sym (here l.cut x (Some own)) ∙ (ap (λ k. with_place l.cut x (Some own) k) (sym same) ∙ e) in
+      | inl same ↦
+          (let both : Some own ≡ Some set =
+          sym (here l.cut x (Some own)) ∙ (ap (λ k. with_place l.cut x (Some own) k) (sym same) ∙ e) in
           let eq : own ≡ set = cc in (sym (ap length eq) ∙ size, inl same))
       | inr other ↦ (let s = l.sized r set (sym (elsewhere l.cut x (Some own) r other) ∙ e) in (s.0, inr s.1))
     ]
 
-    whole : (l : CallLines b xs ds others) (own : List Bool) → line.Call x ∷ (map (λ n. line.Member n) (members_from 0 own) ++ others)
-        ≡ (call_items x (with_place l.cut x (Some own) x) ++ flat_map (λ r. call_items r (with_place l.cut x (Some own) r)) xs) ++ l.others
+    whole : (l : CallLines b xs ds others) (own : List Bool) →
+        line.Call x ∷ (map (λ n. line.Member n) (members_from 0 own) ++ others)
+        ≡ (call_items x (with_place l.cut x (Some own) x) ++ flat_map
+        (λ r. call_items r (with_place l.cut x (Some own) r)) xs) ++ l.others
     whole l own =
         ap (λ os. line.Call x ∷ (map (λ n. line.Member n) (members_from 0 own) ++ os)) l.are
         ∙ (ap (λ os. line.Call x ∷ (map (λ n. line.Member n) (members_from 0 own) ++ (os ++ l.others)))
         (flat_same (λ r. call_items r (l.cut r)) (λ r. call_items r (with_place l.cut x (Some own) r)) xs
-        (λ k m. ap (call_items k) (sym (elsewhere l.cut x (Some own) k (λ e. apart.0 (subst (λ (y : ℕ). Has xs y) e m))))))
-        ∙ (ap (λ ys. line.Call x ∷ ys) (sym (append_assoc (map (λ n. line.Member n) (members_from 0 own)) (flat_map (λ r. call_items r (with_place l.cut x (Some own) r)) xs) l.others))
-        ∙ ap (λ o. (call_items x o ++ flat_map (λ r. call_items r (with_place l.cut x (Some own) r)) xs) ++ l.others) (sym (here l.cut x (Some own)))))
+        (λ k m. ap (call_items k)
+        (sym (elsewhere l.cut x (Some own) k (λ e. apart.0 (subst (λ (y : ℕ). Has xs y) e m))))))
+        ∙ (ap (λ ys. line.Call x ∷ ys)
+        (sym (append_assoc (map (λ n. line.Member n) (members_from 0 own))
+        (flat_map (λ r. call_items r (with_place l.cut x (Some own) r)) xs) l.others))
+        ∙ ap (λ o. (call_items x o ++ flat_map (λ r. call_items r (with_place l.cut x (Some own) r)) xs) ++ l.others)
+        (sym (here l.cut x (Some own)))))
 
 -- the callers of a month
 pub record CalledLines (b : Basin) (ds : List Shape) (items : List Item) : Type 0 where
@@ -207,7 +238,8 @@ pub record CalledLines (b : Basin) (ds : List Shape) (items : List Item) : Type 
   pub are : items ≡ map called_line dues ++ others
   pub rest : Fills b ds others
 
-pub each_called : (b : Basin) (xs : List ℕ) (ds : List Shape) (items : List Item) → Fills b (map (λ r. shape.Called r) xs ++ ds) items → CalledLines b ds items
+pub each_called : (b : Basin) (xs : List ℕ) (ds : List Shape) (items : List Item) →
+    Fills b (map (λ r. shape.Called r) xs ++ ds) items → CalledLines b ds items
 each_called b [] ds items h = record { dues = []; others = items; are = refl; rest = h }
 each_called b (x ∷ xs) ds items (inl (optional, h)) = each_called b xs ds items h
 each_called b (x ∷ xs) ds items (inr (i, members, others, f, followed, are, h)) =
@@ -217,6 +249,8 @@ each_called b (x ∷ xs) ds items (inr (i, members, others, f, followed, are, h)
     record {
       dues = (x, (fields_in i).one) ∷ later.dues;
       others = later.others;
-      are = are ∙ (ap (λ ms. i ∷ (ms ++ others)) none ∙ (ap (λ j. j ∷ others) is ∙ ap (λ os. line.Called x (fields_in i).one ∷ os) later.are));
+      are = are
+          ∙ (ap (λ ms. i ∷ (ms ++ others)) none
+          ∙ (ap (λ j. j ∷ others) is ∙ ap (λ os. line.Called x (fields_in i).one ∷ os) later.are));
       rest = later.rest;
     }

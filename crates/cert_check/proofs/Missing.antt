@@ -1,5 +1,6 @@
 -- Which rights a line passes over, by the order of seniority.
-use Rattle.std.proofs.Common.{◌≡◌, ℕ, zero, suc, ◌<◌, Bool, true, false, refl, sym, ap, ◌∙◌, arith, inl, inr, List, [], ◌∷◌, length, take, drop}
+use Rattle.std.proofs.Common.{◌≡◌, ℕ, zero, suc, ◌<◌, Bool, true, false, refl, sym, ap, ◌∙◌, arith, inl, inr, List, []}
+use Rattle.std.proofs.Common.{◌∷◌, length, take, drop}
 use Rattle.std.specs.Prelude.{None, ◌⊎◌, ◌&&◌, ◌||◌, is_none, slice_index}
 use Rattle.std.specs.List.{list_any}
 use Rattle.std.proofs.lemmas.Bool.{cases_Bool}
@@ -54,7 +55,8 @@ behind_place b (x ∷ xs) zero y o (inr m) = (omega arith, inr (o.0 y m))
 behind_place b (x ∷ xs) (suc k) y o m = (let f = behind_place b xs k y o.1 m in (omega (arith, f.0), f.1))
 
 -- a line passes over no right behind one that it doesn't pass over
-not_passed : (b : Basin) (item : Item) (x y : ℕ) → passes b item x ≡ false → (y ≡ x) ⊎ (is_senior b x y ≡ true) → passes b item y ≡ false
+not_passed : (b : Basin) (item : Item) (x y : ℕ) → passes b item x ≡ false → (y ≡ x) ⊎ (is_senior b x y ≡ true) →
+    passes b item y ≡ false
 not_passed b item x y h (inl e) = ap (passes b item) e ∙ h
 not_passed b (line.Call r) x y h (inr senior) = elim (cases_Bool (is_senior b y r)) [
   | inl yes' ↦ clash (sym (senior_trans b.rights x y r senior yes') ∙ h)
@@ -71,24 +73,33 @@ not_passed b line.End x y h (inr senior) = h
 not_passed b (line.Done months) x y h (inr senior) = h
 
 -- rights that lack their calls by what is told do so by the account's record
-pub lacks_told : (b : Basin) (series : Inflows) (a : Account) (t : Told) → Keeps b series a t → (xs : List ℕ) → list_any (lacks_call a.month) xs ≡ list_any (lacks_call t.now) xs
+pub lacks_told : (b : Basin) (series : Inflows) (a : Account) (t : Told) → Keeps b series a t → (xs : List ℕ) →
+    list_any (lacks_call a.month) xs ≡ list_any (lacks_call t.now) xs
 lacks_told b series a t k xs = rw (k.shows.delivered, k.shows.want, k.shows.sets) refl
 
-pub none_missed : (b : Basin) (series : Inflows) (a : Account) (t : Told) (item : Item) (count : ℕ) → IsValidBasin b → Keeps b series a t → ArePassed b a.month item count →
+pub none_missed : (b : Basin) (series : Inflows) (a : Account) (t : Told) (item : Item) (count : ℕ) → IsValidBasin b →
+    Keeps b series a t → ArePassed b a.month item count →
     cut_missing b t item ≡ false
-none_missed b series a t item count valid k p = missing_fails b t item (λ r l short free passed. missed r short free passed (by_place (seniors_first b) count r (seniors_have b.rights r l)))
+none_missed b series a t item count valid k p =
+    missing_fails b t item
+    (λ r l short free passed. missed r short free passed
+    (by_place (seniors_first b) count r (seniors_have b.rights r l)))
   where
     lacks : (r : ℕ) → is_short t.now r ≡ true → cut_of t.now r ≡ None → lacks_call t.now r ≡ true
     lacks r short free = rw (short, free) refl
 
-    missed : (r : ℕ) → is_short t.now r ≡ true → cut_of t.now r ≡ None → passes b item r ≡ true → Has (take count (seniors_first b)) r ⊎ Has (drop count (seniors_first b)) r → ⊥
+    missed : (r : ℕ) → is_short t.now r ≡ true → cut_of t.now r ≡ None → passes b item r ≡ true →
+        Has (take count (seniors_first b)) r ⊎ Has (drop count (seniors_first b)) r → ⊥
     missed r short free passed (inl front) =
-        clash (sym (lacks r short free) ∙ none_in (lacks_call t.now) (take count (seniors_first b)) r (sym (lacks_told b series a t k (take count (seniors_first b))) ∙ p.settled) front)
+        clash (sym (lacks r short free)
+        ∙ none_in (lacks_call t.now) (take count (seniors_first b)) r
+        (sym (lacks_told b series a t k (take count (seniors_first b))) ∙ p.settled) front)
     missed r short free passed (inr behind) =
         let place = behind_place b (seniors_first b) count r (seniors_ordered b.rights valid.roll.strict) behind in
         clash (sym passed ∙ not_passed b item (slice_index (seniors_first b) count) r (p.next place.0) place.1)
 
-pub some_missed : (b : Basin) (series : Inflows) (a : Account) (t : Told) (item : Item) → Keeps b series a t → IsMissed b a.month item → cut_missing b t item ≡ true
+pub some_missed : (b : Basin) (series : Inflows) (a : Account) (t : Told) (item : Item) → Keeps b series a t →
+    IsMissed b a.month item → cut_missing b t item ≡ true
 some_missed b series a t item k m = elim (cases_Bool (cut_missing b t item)) [
   | inl yes' ↦ yes'
   | inr no' ↦ absurd (never no')
@@ -121,5 +132,7 @@ some_missed b series a t item k m = elim (cases_Bool (cut_missing b t item)) [
     never : cut_missing b t item ≡ false → ⊥
     never none =
         let two = parts (is_short t.now r) (is_none (cut_of t.now r)) told in
-        let set = none_missing b t item none r (seniors_below b.rights r (has_at (seniors_first b) m.place m.within)) two.0 m.passed in
+        let set =
+        none_missing b t item none r (seniors_below b.rights r (has_at (seniors_first b) m.place m.within)) two.0
+        m.passed in
         clash (sym two.1 ∙ ap is_none set.1)

@@ -1,5 +1,6 @@
 -- The lines of a month are not refuted exactly where its record is right.
-use Rattle.std.proofs.Common.{◌≡◌, ℕ, ◌<◌, Bool, true, false, refl, sym, ap, subst, ◌∙◌, arith, inl, inr, List, [], ◌∷◌, ◌++◌, length, map, fold, replicate}
+use Rattle.std.proofs.Common.{◌≡◌, ℕ, ◌<◌, Bool, true, false, refl, sym, ap, subst, ◌∙◌, arith, inl, inr, List, [], ◌∷◌}
+use Rattle.std.proofs.Common.{◌++◌, length, map, fold, replicate}
 use Rattle.std.specs.Prelude.{Option, Some, None, slice_index, nat_lt}
 use Rattle.std.specs.List.{flat_map}
 use Rattle.std.proofs.lemmas.List.{length-replicate}
@@ -41,20 +42,25 @@ pub record At (b : Basin) (before : List MonthRecord) (now : MonthRecord) (t : T
   pub now_is : t.now ≡ now
   pub called : t.called ≡ 0
 
-same_called : (b : Basin) (series : Inflows) (item : ℕ → Item) → ((x : ℕ) (t : Told) → (tell b series t (item x)).called ≡ t.called) →
+same_called : (b : Basin) (series : Inflows) (item : ℕ → Item) →
+    ((x : ℕ) (t : Told) → (tell b series t (item x)).called ≡ t.called) →
     (xs : List ℕ) (t : Told) → (fold (tell b series) t (map item xs)).called ≡ t.called
 same_called b series item h [] t = refl
 same_called b series item h (x ∷ xs) t = same_called b series item h xs (tell b series t (item x)) ∙ h x t
 
-no_calling : (b : Basin) (series : Inflows) (item : ℕ → Item) → ((x : ℕ) (t : Told) → (tell b series t (item x)).calling ≡ None) →
+no_calling : (b : Basin) (series : Inflows) (item : ℕ → Item) →
+    ((x : ℕ) (t : Told) → (tell b series t (item x)).calling ≡ None) →
     (xs : List ℕ) (t : Told) → t.calling ≡ None → (fold (tell b series) t (map item xs)).calling ≡ None
 no_calling b series item h [] t c = c
 no_calling b series item h (x ∷ xs) t c = no_calling b series item h xs (tell b series t (item x)) (h x t)
 
 -- a section makes of the month what it makes of any
-stage : (b : Basin) (series : Inflows) (before : List MonthRecord) (now next : MonthRecord) (item : ℕ → Item) (xs : List ℕ) (f : MonthRecord → MonthRecord) →
-    ((x : ℕ) (t : Told) → (tell b series t (item x)).called ≡ t.called) → ((x : ℕ) (t : Told) → (tell b series t (item x)).calling ≡ None) →
-    Makes b series (map item xs) f → f now ≡ next → (t : Told) → At b before now t → At b before next (fold (tell b series) t (map item xs))
+stage : (b : Basin) (series : Inflows) (before : List MonthRecord) (now next : MonthRecord) (item : ℕ →
+    Item) (xs : List ℕ) (f : MonthRecord → MonthRecord) →
+    ((x : ℕ) (t : Told) → (tell b series t (item x)).called ≡ t.called) →
+    ((x : ℕ) (t : Told) → (tell b series t (item x)).calling ≡ None) →
+    Makes b series (map item xs) f → f now ≡ next → (t : Told) → At b before now t →
+    At b before next (fold (tell b series) t (map item xs))
 stage b series before now next item xs f h k makes is t a = record {
   calling = no_calling b series item k xs t a.calling;
   months = (makes t).months_are ∙ a.months;
@@ -220,7 +226,8 @@ pub record Stages (b : Basin) (series : Inflows) (before : List MonthRecord) (m 
   pub deliver : At b before (with_deliver b m) (behind_deliver b series m t)
   pub out : At b before (with_out b m) (behind_out b series m t)
 
-pub stages : (b : Basin) (series : Inflows) (before : List MonthRecord) (m : MonthRecord) → IsAllTold b series m → (t : Told) → At b before (begun b m) t →
+pub stages : (b : Basin) (series : Inflows) (before : List MonthRecord) (m : MonthRecord) → IsAllTold b series m →
+    (t : Told) → At b before (begun b m) t →
     Stages b series before m t
 stages b series before m a t at =
     let s0 = amount_stage b series before m a quantity.Opening (begun b m) refl t at in
@@ -249,14 +256,16 @@ pub record IsGoodMonth (b : Basin) (series : Inflows) (before : List MonthRecord
   pub opening : (x : ℕ) → Has (entries_with_line b quantity.Opening) x →
       slice_index m.opening x ≡ slice_index (opening_after b before) x
   pub evaporated : (x : ℕ) → Has (entries_with_line b quantity.Evaporated) x → slice_index m.evaporated x
-      ≡ of_entry b.reservoirs x (λ r. evaporation r.area (slice_index m.opening x) (slice_index r.rate (in_year b m.index))) 0
+      ≡ of_entry b.reservoirs x
+      (λ r. evaporation r.area (slice_index m.opening x) (slice_index r.rate (in_year b m.index))) 0
   pub returned : (x : ℕ) → Has (entries_with_line b quantity.Returned) x →
       slice_index m.returned x ≡ returned_at b (map (λ k. k.delivered) before) x m.index
   pub used : (x : ℕ) → Has (entries_with_line b quantity.Used) x →
       slice_index m.used x ≡ used_of b (map (λ k. k.delivered) before) x m.index
   pub flow : (x : ℕ) → Has (entries_with_line b quantity.Flow) x →
       nat_lt (carry_of b m.month x) (slice_index m.plan.flow x) ≡ false
-  pub deliver : (x : ℕ) → Has (seniors_first b) x → (slice_index m.want x ≡ want_of b series x m.index (slice_index m.used x))
+  pub deliver : (x : ℕ) → Has (seniors_first b) x →
+      (slice_index m.want x ≡ want_of b series x m.index (slice_index m.used x))
       × (amount_wrong (instream_link b x) m.plan.flow (slice_index m.delivered x) (slice_index m.want x) ≡ false)
   pub balance : (n : ℕ) → n < length b.nodes → balances b m n ≡ true
   pub sets : HasRightSets b m
@@ -264,10 +273,12 @@ pub record IsGoodMonth (b : Basin) (series : Inflows) (before : List MonthRecord
       ≡ total_where (length b.rights) (λ r. is_zone_of b r x) (λ r. slice_index m.plan.take r)
 
 -- the balance of a month, by what is told
-pub told_balance : (b : Basin) (series : Inflows) (m now : MonthRecord) (n : ℕ) → IsAllTold b series m → now ≡ with_out b m → balances b (with_supply b series now) n ≡ balances b m n
+pub told_balance : (b : Basin) (series : Inflows) (m now : MonthRecord) (n : ℕ) → IsAllTold b series m →
+    now ≡ with_out b m → balances b (with_supply b series now) n ≡ balances b m n
 told_balance b series m now n a is = ap (λ k. balances b (with_supply b series k) n) is ∙ rw (a.supply) refl
 
-pub told_sees : (b : Basin) (series : Inflows) (m now : MonthRecord) → IsAllTold b series m → now ≡ with_out b m → Sees b series m now
+pub told_sees : (b : Basin) (series : Inflows) (m now : MonthRecord) → IsAllTold b series m → now ≡ with_out b m →
+    Sees b series m now
 told_sees b series m now a is = record {
   month = ap (λ k. k.month) is;
   delivered = ap (λ k. k.delivered) is;
@@ -285,28 +296,41 @@ pub record BehindCalls (b : Basin) (before : List MonthRecord) (m : MonthRecord)
   pub months : t.months ≡ before
   pub called : t.called ≡ 0
 
-calls_called : (b : Basin) (series : Inflows) (m : MonthRecord) → ((r : ℕ) (set : List Bool) → cut_of m r ≡ Some set → length set ≡ length b.nodes) → (xs : List ℕ) →
+calls_called : (b : Basin) (series : Inflows) (m : MonthRecord) →
+    ((r : ℕ) (set : List Bool) → cut_of m r ≡ Some set → length set ≡ length b.nodes) → (xs : List ℕ) →
     ((r : ℕ) → Has xs r → r < length b.rights) → (t : Told) → Sees b series m t.now →
     (fold (tell b series) t (flat_map (λ r. call_items r (cut_of m r)) xs)).called ≡ t.called
 calls_called b series m sized [] below t s = refl
-calls_called b series m sized (x ∷ xs) below t s = by_set (cut_of m x) refl (λ u v. calls_called b series m sized xs (λ y h. below y (inr h)) u v)
+calls_called b series m sized (x ∷ xs) below t s =
+    by_set (cut_of m x) refl (λ u v. calls_called b series m sized xs (λ y h. below y (inr h)) u v)
   where
-    by_set : (o : Option (List Bool)) → cut_of m x ≡ o → ((u : Told) → Sees b series m u.now → (fold (tell b series) u (flat_map (λ r. call_items r (cut_of m r)) xs)).called ≡ u.called) →
+    by_set : (o : Option (List Bool)) → cut_of m x ≡ o →
+        ((u : Told) → Sees b series m u.now →
+        (fold (tell b series) u (flat_map (λ r. call_items r (cut_of m r)) xs)).called ≡ u.called) →
         (fold (tell b series) t (call_items x o ++ flat_map (λ r. call_items r (cut_of m r)) xs)).called ≡ t.called
     by_set None e further = further t s
     by_set (Some set) e further =
-        ap (λ u. u.called) (fold-both (tell b series) t (call_items x (Some set)) (flat_map (λ r. call_items r (cut_of m r)) xs))
-        ∙ (ap (λ u. (fold (tell b series) u (flat_map (λ r. call_items r (cut_of m r)) xs)).called) (tell_call b series x set t (omega (arith, below x (inl refl), s.sets)) (sized x set e))
+        ap (λ u. u.called)
+        (fold-both (tell b series) t (call_items x (Some set)) (flat_map (λ r. call_items r (cut_of m r)) xs))
+        ∙ (ap (λ u. (fold (tell b series) u (flat_map (λ r. call_items r (cut_of m r)) xs)).called)
+        (tell_call b series x set t (omega (arith, below x (inl refl), s.sets)) (sized x set e))
         ∙ further (behind_call t x set) (sees_more b series m t x set s))
 
-pub calls_stage : (b : Basin) (series : Inflows) (before : List MonthRecord) (m : MonthRecord) → IsAllTold b series m → (t : Told) → At b before (with_out b m) t →
+pub calls_stage : (b : Basin) (series : Inflows) (before : List MonthRecord) (m : MonthRecord) → IsAllTold b series m →
+    (t : Told) → At b before (with_out b m) t →
     BehindCalls b before m (fold (tell b series) t (call_lines b m))
 calls_stage b series before m a t at =
-    let told = tells_calls b series (λ r. cut_of m r) a.sized (seniors_first b) t (λ r set e. (let l = a.within r set e in subst (λ (n : ℕ). r < n) (sym (ap (λ k. length k.cuts.sets) at.now_is)) l)) in
+    let told =
+    tells_calls b series (λ r. cut_of m r) a.sized (seniors_first b) t
+    (λ r set e. (let l = a.within r set e in
+    subst (λ (n : ℕ). r < n) (sym (ap (λ k. length k.cuts.sets) at.now_is)) l)) in
     record {
-      now_is = told.now_is ∙ (ap (λ (k : MonthRecord). with_sets k (put_sets (seniors_first b) (λ r. cut_of m r) k.cuts.sets)) at.now_is ∙ ap (λ sets. with_sets (with_out b m) sets) a.sets);
+      now_is = told.now_is
+          ∙ (ap (λ (k : MonthRecord). with_sets k (put_sets (seniors_first b) (λ r. cut_of m r) k.cuts.sets)) at.now_is
+          ∙ ap (λ sets. with_sets (with_out b m) sets) a.sets);
       months = told.months_are ∙ at.months;
-      called = calls_called b series m a.sized (seniors_first b) (λ r h. seniors_below b.rights r h) t (told_sees b series m t.now a at.now_is) ∙ at.called;
+      called = calls_called b series m a.sized (seniors_first b) (λ r h. seniors_below b.rights r h) t
+          (told_sees b series m t.now a at.now_is) ∙ at.called;
     }
 
 pub told_callers : (b : Basin) (m now : MonthRecord) → now ≡ with_calls b m → callers_due b now ≡ callers_due b m

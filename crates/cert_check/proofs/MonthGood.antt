@@ -1,5 +1,6 @@
 -- The lines of a good month are not refuted.
-use Rattle.std.proofs.Common.{◌≡◌, ℕ, zero, suc, ◌<◌, Bool, true, refl, sym, ap, ◌∙◌, List, [], ◌∷◌, ◌++◌, length, fold, replicate}
+use Rattle.std.proofs.Common.{◌≡◌, ℕ, zero, suc, ◌<◌, Bool, true, refl, sym, ap, ◌∙◌, List, [], ◌∷◌, ◌++◌, length, fold}
+use Rattle.std.proofs.Common.{replicate}
 use Rattle.std.specs.Prelude.{Option, Some, None, slice_index}
 use Rattle.water_model.specs.History.{cut_of}
 use Rattle.water_model.specs.Lookups.{of_entry}
@@ -20,14 +21,21 @@ use Rattle.cert_check.proofs.Sections as section
 use Rattle.cert_check.proofs.Outflows.{IsInBalance, outlets_rise, outflows_good}
 use Rattle.cert_check.proofs.Calls.{Calling, HasRightSets, told_short, calls_good}
 use Rattle.cert_check.proofs.Callers.{Callers, Behind, called_line, called_good, closings, end_good}
-use Rattle.cert_check.proofs.Month.{At, BehindCalls, IsGoodMonth, stages, begun, with_out, told_balance, told_sees, told_callers, calls_stage, inner_lines, opening_lines, evaporated_lines, returned_lines, used_lines, flow_lines, deliver_lines, out_lines, call_lines, due_lines, closing_lines, behind_opening, behind_evaporated, behind_returned, behind_used, behind_flow, behind_deliver, behind_out, behind_calls, behind_called, behind_closing}
+use Rattle.cert_check.proofs.Month.{At, BehindCalls, IsGoodMonth, stages, begun, with_out, told_balance, told_sees}
+use Rattle.cert_check.proofs.Month.{told_callers, calls_stage, inner_lines, opening_lines, evaporated_lines}
+use Rattle.cert_check.proofs.Month.{returned_lines, used_lines, flow_lines, deliver_lines, out_lines, call_lines}
+use Rattle.cert_check.proofs.Month.{due_lines, closing_lines, behind_opening, behind_evaporated, behind_returned}
+use Rattle.cert_check.proofs.Month.{behind_used, behind_flow, behind_deliver, behind_out, behind_calls, behind_called}
+use Rattle.cert_check.proofs.Month.{behind_closing}
 
-out_balance : (b : Basin) (series : Inflows) (m : MonthRecord) (t : Told) → IsAllTold b series m → t.now ≡ with_out b m → ((n : ℕ) → n < length b.nodes → balances b m n ≡ true) →
+out_balance : (b : Basin) (series : Inflows) (m : MonthRecord) (t : Told) → IsAllTold b series m →
+    t.now ≡ with_out b m → ((n : ℕ) → n < length b.nodes → balances b m n ≡ true) →
     IsInBalance b series t.now
 unfolding IsInBalance
 out_balance b series m t a is h n l = told_balance b series m t.now n a is ∙ h n l
 
-calls_begin : (b : Basin) (series : Inflows) (before : List MonthRecord) (m : MonthRecord) (t : Told) → IsAllTold b series m → At b before (with_out b m) t →
+calls_begin : (b : Basin) (series : Inflows) (before : List MonthRecord) (m : MonthRecord) (t : Told) →
+    IsAllTold b series m → At b before (with_out b m) t →
     Calling b series m (seniors_first b) t
 calls_begin b series before m t a at = record {
   sees = told_sees b series m t.now a at.now_is;
@@ -41,7 +49,8 @@ calls_begin b series before m t a at = record {
     no_sets (suc n) zero = refl
     no_sets (suc n) (suc r) = no_sets n r
 
-callers_begin : (b : Basin) (series : Inflows) (before : List MonthRecord) (m : MonthRecord) (t : Told) → HasRightSets b m → BehindCalls b before m t →
+callers_begin : (b : Basin) (series : Inflows) (before : List MonthRecord) (m : MonthRecord) (t : Told) →
+    HasRightSets b m → BehindCalls b before m t →
     Calling b series m [] t → Callers b series (callers_due b m) [] t
 callers_begin b series before m t right at c = record {
   all = record { settled = c.settled; none_left = λ r l short free. unset r l short free };
@@ -54,11 +63,13 @@ callers_begin b series before m t right at c = record {
         let own = right.short r l (sym (told_short b series m t.now r c.sees) ∙ short) in
         let never : None ≡ Some own.0 = sym free ∙ (c.sets r l (λ h. h) ∙ own.1) in cc
 
-called_now : (b : Basin) (series : Inflows) (dues : List (ℕ × ℕ)) (t : Told) → (fold (tell b series) t (due_lines dues)).now ≡ t.now
+called_now : (b : Basin) (series : Inflows) (dues : List (ℕ × ℕ)) (t : Told) →
+    (fold (tell b series) t (due_lines dues)).now ≡ t.now
 called_now b series [] t = refl
 called_now b series (x ∷ xs) t = called_now b series xs (tell b series t (called_line x))
 
-pub inner_good : (b : Basin) (series : Inflows) (before : List MonthRecord) (m : MonthRecord) → AreStrict b.rights → IsAllTold b series m → IsGoodMonth b series before m →
+pub inner_good : (b : Basin) (series : Inflows) (before : List MonthRecord) (m : MonthRecord) → AreStrict b.rights →
+    IsAllTold b series m → IsGoodMonth b series before m →
     (t : Told) → At b before (begun b m) t → AreGood b series t (inner_lines b m (callers_due b m))
 inner_good b series before m strict a good t at =
     let s = stages b series before m a t at in
@@ -88,17 +99,31 @@ inner_good b series before m strict a good t at =
     (λ x. line.Amount quantity.Flow x (slice_index m.plan.flow x))
     (section.flows b series m.month (λ x. slice_index m.plan.flow x)) (entries_with_line b quantity.Flow)
     (behind_used b series m t) (s.used.calling, ap (λ k. k.month) s.used.now_is) good.flow in
-    let deliver_good = section_good b series (section.Flows m.index m.used m.plan.flow) _ (λ x. line.Deliver x (slice_index m.delivered x) (slice_index m.want x)) (section.deliveries b series m.index m.used m.plan.flow (λ x. slice_index m.delivered x) (λ x. slice_index m.want x)) (seniors_first b) (behind_flow b series m t) (s.flow.calling, ap (λ k. k.index) s.flow.now_is, ap (λ k. k.used) s.flow.now_is, ap (λ k. k.plan.flow) s.flow.now_is) good.deliver in
-    let out_good = outflows_good b series (λ x. slice_index m.plan.out x) (outlets b) [] (behind_deliver b series m t) refl (outlets_rise b) s.deliver.calling
+    let deliver_good =
+    section_good b series (section.Flows m.index m.used m.plan.flow) _
+    (λ x. line.Deliver x (slice_index m.delivered x) (slice_index m.want x))
+    (section.deliveries b series m.index m.used m.plan.flow (λ x. slice_index m.delivered x)
+    (λ x. slice_index m.want x)) (seniors_first b) (behind_flow b series m t) (
+      s.flow.calling,
+      ap (λ k. k.index) s.flow.now_is,
+      ap (λ k. k.used) s.flow.now_is,
+      ap (λ k. k.plan.flow) s.flow.now_is,
+    ) good.deliver in
+    let out_good =
+    outflows_good b series (λ x. slice_index m.plan.out x) (outlets b) [] (behind_deliver b series m t) refl
+    (outlets_rise b) s.deliver.calling
     (out_balance b series m (behind_out b series m t) a s.out.now_is good.balance) in
-    let calls = calls_good b series m good.sets (seniors_first b) (seniors_ordered b.rights strict) (λ r h. seniors_below b.rights r h) (behind_out b series m t)
+    let calls =
+    calls_good b series m good.sets (seniors_first b) (seniors_ordered b.rights strict)
+    (λ r h. seniors_below b.rights r h) (behind_out b series m t)
     (calls_begin b series before m (behind_out b series m t) a s.out) in
     let behind = calls_stage b series before m a (behind_out b series m t) s.out in
     let called = called_good b series (callers_due b m) (callers_due b m) [] (behind_calls b series m t)
     (callers_begin b series before m (behind_calls b series m t) good.sets behind calls.1) refl in
     let past : Behind b series (callers_due b m) m.plan.take (behind_called b series m (callers_due b m) t) = record {
       callers = called.1;
-      take_is = ap (λ k. k.plan.take) (called_now b series (callers_due b m) (behind_calls b series m t) ∙ behind.now_is);
+      take_is =
+          ap (λ k. k.plan.take) (called_now b series (callers_due b m) (behind_calls b series m t) ∙ behind.now_is);
     } in
     let last = closings b series (callers_due b m) m.plan.take (λ x. slice_index m.closing x) in
     let closing_good = section_good b series (Behind b series (callers_due b m) m.plan.take) _
@@ -107,4 +132,51 @@ inner_good b series before m strict a good t at =
     let ended = section_keeps b series (Behind b series (callers_due b m) m.plan.take) _
     (λ x. line.Amount quantity.Closing x (slice_index m.closing x)) last
     (entries_with_line b quantity.Closing) (behind_called b series m (callers_due b m) t) past in
-    good_both b series t (opening_lines b m) (evaporated_lines b m ++ (returned_lines b m ++ (used_lines b m ++ (flow_lines b m ++ (deliver_lines b m ++ (out_lines b m ++ (call_lines b m ++ (due_lines (callers_due b m) ++ (closing_lines b m ++ (line.End ∷ [])))))))))) opening_good (good_both b series (behind_opening b series m t) (evaporated_lines b m) (returned_lines b m ++ (used_lines b m ++ (flow_lines b m ++ (deliver_lines b m ++ (out_lines b m ++ (call_lines b m ++ (due_lines (callers_due b m) ++ (closing_lines b m ++ (line.End ∷ []))))))))) evaporated_good (good_both b series (behind_evaporated b series m t) (returned_lines b m) (used_lines b m ++ (flow_lines b m ++ (deliver_lines b m ++ (out_lines b m ++ (call_lines b m ++ (due_lines (callers_due b m) ++ (closing_lines b m ++ (line.End ∷ [])))))))) returned_good (good_both b series (behind_returned b series m t) (used_lines b m) (flow_lines b m ++ (deliver_lines b m ++ (out_lines b m ++ (call_lines b m ++ (due_lines (callers_due b m) ++ (closing_lines b m ++ (line.End ∷ []))))))) used_good (good_both b series (behind_used b series m t) (flow_lines b m) (deliver_lines b m ++ (out_lines b m ++ (call_lines b m ++ (due_lines (callers_due b m) ++ (closing_lines b m ++ (line.End ∷ [])))))) flow_good (good_both b series (behind_flow b series m t) (deliver_lines b m) (out_lines b m ++ (call_lines b m ++ (due_lines (callers_due b m) ++ (closing_lines b m ++ (line.End ∷ []))))) deliver_good (good_both b series (behind_deliver b series m t) (out_lines b m) (call_lines b m ++ (due_lines (callers_due b m) ++ (closing_lines b m ++ (line.End ∷ [])))) out_good (good_both b series (behind_out b series m t) (call_lines b m) (due_lines (callers_due b m) ++ (closing_lines b m ++ (line.End ∷ []))) calls.0 (good_both b series (behind_calls b series m t) (due_lines (callers_due b m)) (closing_lines b m ++ (line.End ∷ [])) called.0 (good_both b series (behind_called b series m (callers_due b m) t) (closing_lines b m) (line.End ∷ []) closing_good ((end_good b series (callers_due b m) (behind_closing b series m (callers_due b m) t) ended.callers, tt)))))))))))
+    good_both b series t (opening_lines b m)
+    (evaporated_lines b
+    m ++ (returned_lines b
+    m ++ (used_lines b
+    m ++ (flow_lines b
+    m ++ (deliver_lines b
+    m ++ (out_lines b
+    m ++ (call_lines b m ++ (due_lines (callers_due b m) ++ (closing_lines b m ++ (line.End ∷ []))))))))))
+    opening_good
+    (good_both b series (behind_opening b series m t) (evaporated_lines b m)
+    (returned_lines b
+    m ++ (used_lines b
+    m ++ (flow_lines b
+    m ++ (deliver_lines b
+    m ++ (out_lines b
+    m ++ (call_lines b m ++ (due_lines (callers_due b m) ++ (closing_lines b m ++ (line.End ∷ [])))))))))
+    evaporated_good
+    (good_both b series (behind_evaporated b series m t) (returned_lines b m)
+    (used_lines b
+    m ++ (flow_lines b
+    m ++ (deliver_lines b
+    m ++ (out_lines b
+    m ++ (call_lines b m ++ (due_lines (callers_due b m) ++ (closing_lines b m ++ (line.End ∷ []))))))))
+    returned_good
+    (good_both b series (behind_returned b series m t) (used_lines b m)
+    (flow_lines b
+    m ++ (deliver_lines b
+    m ++ (out_lines b
+    m ++ (call_lines b m ++ (due_lines (callers_due b m) ++ (closing_lines b m ++ (line.End ∷ []))))))) used_good
+    (good_both b series (behind_used b series m t) (flow_lines b m)
+    (deliver_lines b
+    m ++ (out_lines b
+    m ++ (call_lines b m ++ (due_lines (callers_due b m) ++ (closing_lines b m ++ (line.End ∷ [])))))) flow_good
+    (good_both b series (behind_flow b series m t) (deliver_lines b m)
+    (out_lines b m ++ (call_lines b m ++ (due_lines (callers_due b m) ++ (closing_lines b m ++ (line.End ∷ [])))))
+    deliver_good
+    (good_both b series (behind_deliver b series m t) (out_lines b m)
+    (call_lines b m ++ (due_lines (callers_due b m) ++ (closing_lines b m ++ (line.End ∷ [])))) out_good
+    (good_both b series (behind_out b series m t) (call_lines b m)
+    (due_lines (callers_due b m) ++ (closing_lines b m ++ (line.End ∷ []))) calls.0
+    (good_both b series (behind_calls b series m t) (due_lines (callers_due b m))
+    (closing_lines b m ++ (line.End ∷ [])) called.0
+    (good_both b series (behind_called b series m (callers_due b m) t) (closing_lines b m) (line.End ∷ [])
+    closing_good
+    ((
+      end_good b series (callers_due b m) (behind_closing b series m (callers_due b m) t) ended.callers,
+      tt,
+    )))))))))))

@@ -168,7 +168,8 @@ pub record MonthLines (b : Basin) (ds : List Shape) (items : List Item) : Type 0
   pub are : items ≡ sheet_lines b sheet dues ++ others
   pub rest : Fills b ds others
 
-pub inner_filled : (b : Basin) → IsValidBasin b → (ds : List Shape) (items : List Item) → Fills b (due_in_month b ++ ds) items → MonthLines b ds items
+pub inner_filled : (b : Basin) → IsValidBasin b → (ds : List Shape) (items : List Item) →
+    Fills b (due_in_month b ++ ds) items → MonthLines b ds items
 unfolding due_in_month
 inner_filled b valid ds items h =
     let l = sections_filled b valid SECTIONS (shape.End ∷ ds) items

@@ -1,5 +1,6 @@
 -- What the rows say of `out` lines.
-use Rattle.std.proofs.Common.{◌≡◌, ℕ, zero, suc, ◌<◌, ◌≤◌, Bool, true, false, refl, sym, ap, ◌∙◌, arith, inl, inr, List, [], ◌∷◌, ◌++◌, length, map, fold, filter, append_assoc}
+use Rattle.std.proofs.Common.{◌≡◌, ℕ, zero, suc, ◌<◌, ◌≤◌, Bool, true, false, refl, sym, ap, ◌∙◌, arith, inl, inr, List}
+use Rattle.std.proofs.Common.{[], ◌∷◌, ◌++◌, length, map, fold, filter, append_assoc}
 use Rattle.std.specs.Prelude.{None, ◌&&◌, ◌||◌, not, nat_le}
 use Rattle.std.specs.List.{list_all, list_any}
 use Rattle.std.proofs.lemmas.Bool.Decides.{nat_tests}
@@ -72,13 +73,16 @@ all_at_most (z ∷ xs) x h = rw (passes z x (h z (inl refl)), all_at_most xs x (
 unfoldable pub IsInBalance : Basin → Inflows → MonthRecord → Type 0
 IsInBalance b series now = (n : ℕ) → n < length b.nodes → balances b (with_supply b series now) n ≡ true
 
-none_fails : (b : Basin) (m : MonthRecord) (xs : List ℕ) → ((n : ℕ) → Has xs n → balances b m n ≡ true) → list_any (λ n. not (balances b m n)) xs ≡ false
+none_fails : (b : Basin) (m : MonthRecord) (xs : List ℕ) → ((n : ℕ) → Has xs n → balances b m n ≡ true) →
+    list_any (λ n. not (balances b m n)) xs ≡ false
 none_fails b m [] h = refl
 none_fails b m (x ∷ xs) h = rw (h x (inl refl)) (none_fails b m xs (λ n k. h n (inr k)))
 
-fails_none : (b : Basin) (m : MonthRecord) (xs : List ℕ) → list_any (λ n. not (balances b m n)) xs ≡ false → (n : ℕ) → Has xs n → balances b m n ≡ true
+fails_none : (b : Basin) (m : MonthRecord) (xs : List ℕ) → list_any (λ n. not (balances b m n)) xs ≡ false → (n : ℕ) →
+    Has xs n → balances b m n ≡ true
 fails_none b m [] h n k = absurd k
-fails_none b m (x ∷ xs) h n k = by_place k (parts (balances b m x) (list_any (λ n. not (balances b m n)) xs) h) (λ q l. fails_none b m xs q n l)
+fails_none b m (x ∷ xs) h n k =
+    by_place k (parts (balances b m x) (list_any (λ n. not (balances b m n)) xs) h) (λ q l. fails_none b m xs q n l)
   where
     parts : (p q : Bool) → not p || q ≡ false → (p ≡ true) × (q ≡ false)
     parts true q e = (refl, e)
@@ -104,13 +108,17 @@ out_good b series t n amount h balance = (
 )
 
 -- `out` lines aren't refuted where all nodes are in balance behind them
-pub outflows_good : (b : Basin) (series : Inflows) (a : ℕ → ℕ) (xs done : List ℕ) (t : Told) → outlets b ≡ done ++ xs → Rises xs → t.calling ≡ None →
+pub outflows_good : (b : Basin) (series : Inflows) (a : ℕ → ℕ) (xs done : List ℕ) (t : Told) → outlets b ≡ done ++ xs →
+    Rises xs → t.calling ≡ None →
     IsInBalance b series (fold (tell b series) t (map (λ n. line.Amount quantity.Outflow n (a n)) xs)).now →
     AreGood b series t (map (λ n. line.Amount quantity.Outflow n (a n)) xs)
 unfolding IsInBalance
 outflows_good b series a [] done t is rises h balance = tt
-outflows_good b series a (x ∷ []) done t is rises h balance =
-    (out_good b series t x (a x) h (ap (λ q. list_all (λ other. nat_le other x) (outlets b) && q) in_balance ∙ never (list_all (λ other. nat_le other x) (outlets b))), tt)
+outflows_good b series a (x ∷ []) done t is rises h balance = (
+  out_good b series t x (a x) h (ap (λ q. list_all (λ other. nat_le other x) (outlets b) && q) in_balance
+      ∙ never (list_all (λ other. nat_le other x) (outlets b))),
+  tt,
+)
   where
     never : (p : Bool) → p && false ≡ false
     never true = refl
@@ -126,17 +134,20 @@ outflows_good b series a (x ∷ []) done t is rises h balance =
 outflows_good b series a (x ∷ y ∷ ys) done t is rises h balance = (
   out_good b series t x (a x) h
       (ap (λ q. q && list_any
-      (λ node. not (balances b (with_supply b series (tell b series t (line.Amount quantity.Outflow x (a x))).now) node))
+      (λ node. not
+      (balances b (with_supply b series (tell b series t (line.Amount quantity.Outflow x (a x))).now) node))
       (places_of b.nodes)) not_last),
   outflows_good b series a (y ∷ ys) (done ++ x ∷ []) (tell b series t (line.Amount quantity.Outflow x (a x))) (is
       ∙ sym (append_assoc done (x ∷ []) (y ∷ ys))) rises.1 refl balance,
 )
   where
     not_last : list_all (λ other. nat_le other x) (outlets b) ≡ false
-    not_last = greater_fails (outlets b) x y (rw is (has_behind done (x ∷ y ∷ ys) y (inr (inl refl)))) (rises.0 y (inl refl))
+    not_last =
+        greater_fails (outlets b) x y (rw is (has_behind done (x ∷ y ∷ ys) y (inr (inl refl)))) (rises.0 y (inl refl))
 
 -- and where they aren't refuted, all nodes are in balance behind the last
-pub outflows_told : (b : Basin) (series : Inflows) (a : ℕ → ℕ) (x : ℕ) (xs done : List ℕ) (t : Told) → outlets b ≡ done ++ (x ∷ xs) →
+pub outflows_told : (b : Basin) (series : Inflows) (a : ℕ → ℕ) (x : ℕ) (xs done : List ℕ) (t : Told) →
+    outlets b ≡ done ++ (x ∷ xs) →
     AreGood b series t (map (λ n. line.Amount quantity.Outflow n (a n)) (x ∷ xs)) →
     IsInBalance b series (fold (tell b series) t (map (λ n. line.Amount quantity.Outflow n (a n)) (x ∷ xs))).now
 unfolding IsInBalance

@@ -17,7 +17,8 @@ InSecond first second xs i ys = (zs : List Item) × (xs ≡ first ++ zs) × (sec
 cons : (x y : Item) (xs ys : List Item) → x ≡ y → xs ≡ ys → x ∷ xs ≡ y ∷ ys
 cons x y xs ys e f = rw (e, f) refl
 
-pub stands_in : (first second xs : List Item) (i : Item) (ys : List Item) → first ++ second ≡ xs ++ i ∷ ys → InFirst first xs i ⊎ InSecond first second xs i ys
+pub stands_in : (first second xs : List Item) (i : Item) (ys : List Item) → first ++ second ≡ xs ++ i ∷ ys →
+    InFirst first xs i ⊎ InSecond first second xs i ys
 stands_in [] second xs i ys e = inr (xs, refl, e)
 stands_in (x ∷ first) second [] i ys e = let same : x ≡ i = cc in inl (first, ap (λ y. y ∷ first) same)
 stands_in (x ∷ first) second (y ∷ xs) i ys e =
@@ -34,31 +35,40 @@ parts : (p q : Bool) → p && q ≡ true → (p ≡ true) × (q ≡ true)
 parts true q h = (refl, h)
 parts false q h = cc
 
-pub all_both : (p : Item → Bool) (xs ys : List Item) → list_all p xs ≡ true → list_all p ys ≡ true → list_all p (xs ++ ys) ≡ true
+pub all_both : (p : Item → Bool) (xs ys : List Item) → list_all p xs ≡ true → list_all p ys ≡ true →
+    list_all p (xs ++ ys) ≡ true
 all_both p [] ys h k = k
 all_both p (x ∷ xs) ys h k = (let two = parts (p x) (list_all p xs) h in rw (two.0, all_both p xs ys two.1 k) refl)
 
 pub all_first : (p : Item → Bool) (xs ys : List Item) → list_all p (xs ++ ys) ≡ true → list_all p xs ≡ true
 all_first p [] ys h = refl
-all_first p (x ∷ xs) ys h = (let two = parts (p x) (list_all p (xs ++ ys)) h in rw (two.0, all_first p xs ys two.1) refl)
+all_first p (x ∷ xs) ys h =
+    (let two = parts (p x) (list_all p (xs ++ ys)) h in rw (two.0, all_first p xs ys two.1) refl)
 
-pub all_at : (p : Item → Bool) (xs : List Item) (i : Item) (ys : List Item) → list_all p (xs ++ i ∷ ys) ≡ true → p i ≡ true
+pub all_at : (p : Item → Bool) (xs : List Item) (i : Item) (ys : List Item) → list_all p (xs ++ i ∷ ys) ≡ true →
+    p i ≡ true
 all_at p [] i ys h = (parts (p i) (list_all p ys) h).0
 all_at p (x ∷ xs) i ys h = all_at p xs i ys (parts (p x) (list_all p (xs ++ i ∷ ys)) h).1
 
-pub all_each : {X : Type 0} (p : Item → Bool) (item : X → Item) → ((x : X) → p (item x) ≡ true) → (xs : List X) → list_all p (map item xs) ≡ true
+pub all_each : {X : Type 0} (p : Item → Bool) (item : X → Item) → ((x : X) → p (item x) ≡ true) → (xs : List X) →
+    list_all p (map item xs) ≡ true
 all_each p item h [] = refl
 all_each p item h (x ∷ xs) = rw (h x, all_each p item h xs) refl
 
-pub all_calls : (p : Item → Bool) → ((r : ℕ) → p (line.Call r) ≡ true) → ((n : ℕ) → p (line.Member n) ≡ true) → (cut : ℕ → Option (List Bool)) (xs : List ℕ) →
+pub all_calls : (p : Item → Bool) → ((r : ℕ) → p (line.Call r) ≡ true) → ((n : ℕ) → p (line.Member n) ≡ true) →
+    (cut : ℕ → Option (List Bool)) (xs : List ℕ) →
     list_all p (flat_map (λ r. call_items r (cut r)) xs) ≡ true
 all_calls p call member cut [] = refl
-all_calls p call member cut (x ∷ xs) = all_both p (call_items x (cut x)) (flat_map (λ r. call_items r (cut r)) xs) (by_set (cut x)) (all_calls p call member cut xs)
+all_calls p call member cut (x ∷ xs) =
+    all_both p (call_items x (cut x)) (flat_map (λ r. call_items r (cut r)) xs) (by_set (cut x))
+    (all_calls p call member cut xs)
   where
     by_set : (o : Option (List Bool)) → list_all p (call_items x o) ≡ true
     by_set None = refl
     by_set (Some set) = rw (call x) (all_each p (λ n. line.Member n) member (members_from 0 set))
 
-pub all_weaker : (p q : Item → Bool) → ((i : Item) → p i ≡ true → q i ≡ true) → (xs : List Item) → list_all p xs ≡ true → list_all q xs ≡ true
+pub all_weaker : (p q : Item → Bool) → ((i : Item) → p i ≡ true → q i ≡ true) → (xs : List Item) →
+    list_all p xs ≡ true → list_all q xs ≡ true
 all_weaker p q h [] k = refl
-all_weaker p q h (x ∷ xs) k = (let two = parts (p x) (list_all p xs) k in rw (h x two.0, all_weaker p q h xs two.1) refl)
+all_weaker p q h (x ∷ xs) k =
+    (let two = parts (p x) (list_all p xs) k in rw (h x two.0, all_weaker p q h xs two.1) refl)

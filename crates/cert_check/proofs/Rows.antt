@@ -18,16 +18,20 @@ abbrev pub NoneHolds : List Row → Type 0
 NoneHolds [] = Unit {0}
 NoneHolds (row ∷ others) = (row.1 ≡ false) × NoneHolds others
 
-pub none_found : (xs : List Row) → option_map (λ (row : Row). row.0) (find (λ (row : Row). row.1) xs) ≡ None → NoneHolds xs
+pub none_found : (xs : List Row) → option_map (λ (row : Row). row.0) (find (λ (row : Row). row.1) xs) ≡ None →
+    NoneHolds xs
 none_found [] h = tt
 none_found ((kind, holds) ∷ xs) h = by_test holds refl (none_found xs) h
   where
-    by_test : (t : Bool) → holds ≡ t → (option_map (λ (row : Row). row.0) (find (λ (row : Row). row.1) xs) ≡ None → NoneHolds xs) →
-        option_map (λ (row : Row). row.0) (find (λ (row : Row). row.1) ((kind, t) ∷ xs)) ≡ None → (holds ≡ false) × NoneHolds xs
+    by_test : (t : Bool) → holds ≡ t →
+        (option_map (λ (row : Row). row.0) (find (λ (row : Row). row.1) xs) ≡ None → NoneHolds xs) →
+        option_map (λ (row : Row). row.0) (find (λ (row : Row). row.1) ((kind, t) ∷ xs)) ≡ None → (holds ≡ false) ×
+        NoneHolds xs
     by_test true e further g = let never : Some kind ≡ None = g in cc
     by_test false e further g = (e, further g)
 
-pub found_none : (xs : List Row) → NoneHolds xs → option_map (λ (row : Row). row.0) (find (λ (row : Row). row.1) xs) ≡ None
+pub found_none : (xs : List Row) → NoneHolds xs →
+    option_map (λ (row : Row). row.0) (find (λ (row : Row). row.1) xs) ≡ None
 found_none [] h = refl
 found_none ((kind, holds) ∷ xs) h = rw (h.0) (found_none xs h.1)
 
@@ -36,58 +40,73 @@ abbrev pub AreGood : Basin → Inflows → Told → List Item → Type 0
 AreGood b series t [] = Unit {0}
 AreGood b series t (i ∷ is) = NoneHolds (rows b series t i) × AreGood b series (tell b series t i) is
 
-pub good_row : (b : Basin) (series : Inflows) (t : Told) (i : Item) → first_row b series t i ≡ None → NoneHolds (rows b series t i)
+pub good_row : (b : Basin) (series : Inflows) (t : Told) (i : Item) → first_row b series t i ≡ None →
+    NoneHolds (rows b series t i)
 unfolding first_row
 good_row b series t i h = none_found (rows b series t i) h
 
-pub row_good : (b : Basin) (series : Inflows) (t : Told) (i : Item) → NoneHolds (rows b series t i) → first_row b series t i ≡ None
+pub row_good : (b : Basin) (series : Inflows) (t : Told) (i : Item) → NoneHolds (rows b series t i) →
+    first_row b series t i ≡ None
 unfolding first_row
 row_good b series t i h = found_none (rows b series t i) h
 
-pub good_both : (b : Basin) (series : Inflows) (t : Told) (xs ys : List Item) → AreGood b series t xs → AreGood b series (fold (tell b series) t xs) ys →
+pub good_both : (b : Basin) (series : Inflows) (t : Told) (xs ys : List Item) → AreGood b series t xs →
+    AreGood b series (fold (tell b series) t xs) ys →
     AreGood b series t (xs ++ ys)
 good_both b series t [] ys g k = k
 good_both b series t (x ∷ xs) ys g k = (g.0, good_both b series (tell b series t x) xs ys g.1 k)
 
-pub good_first : (b : Basin) (series : Inflows) (t : Told) (xs ys : List Item) → AreGood b series t (xs ++ ys) → AreGood b series t xs
+pub good_first : (b : Basin) (series : Inflows) (t : Told) (xs ys : List Item) → AreGood b series t (xs ++ ys) →
+    AreGood b series t xs
 good_first b series t [] ys g = tt
 good_first b series t (x ∷ xs) ys g = (g.0, good_first b series (tell b series t x) xs ys g.1)
 
-pub good_rest : (b : Basin) (series : Inflows) (t : Told) (xs ys : List Item) → AreGood b series t (xs ++ ys) → AreGood b series (fold (tell b series) t xs) ys
+pub good_rest : (b : Basin) (series : Inflows) (t : Told) (xs ys : List Item) → AreGood b series t (xs ++ ys) →
+    AreGood b series (fold (tell b series) t xs) ys
 good_rest b series t [] ys g = g
 good_rest b series t (x ∷ xs) ys g = good_rest b series (tell b series t x) xs ys g.1
 
 -- Lines one for each place, behind which something that a place's row needs stays.
-pub record Section (b : Basin) (series : Inflows) (P : Told → Type 0) (good : ℕ → Type 0) (item : ℕ → Item) : Type 0 where
+pub record Section (b : Basin) (series : Inflows) (P : Told → Type 0) (good : ℕ → Type 0) (item : ℕ →
+    Item) : Type 0 where
   pub makes : (x : ℕ) (t : Told) → P t → good x → NoneHolds (rows b series t (item x))
   pub tells : (x : ℕ) (t : Told) → P t → NoneHolds (rows b series t (item x)) → good x
   pub keeps : (x : ℕ) (t : Told) → P t → P (tell b series t (item x))
 
-pub section_good : (b : Basin) (series : Inflows) (P : Told → Type 0) (good : ℕ → Type 0) (item : ℕ → Item) → Section b series P good item →
+pub section_good : (b : Basin) (series : Inflows) (P : Told → Type 0) (good : ℕ → Type 0) (item : ℕ → Item) →
+    Section b series P good item →
     (xs : List ℕ) (t : Told) → P t → ((x : ℕ) → Has xs x → good x) → AreGood b series t (map item xs)
 section_good b series P good item s [] t p h = tt
-section_good b series P good item s (x ∷ xs) t p h =
-    (s.makes x t p (h x (inl refl)), section_good b series P good item s xs (tell b series t (item x)) (s.keeps x t p) (λ y m. h y (inr m)))
+section_good b series P good item s (x ∷ xs) t p h = (
+  s.makes x t p (h x (inl refl)),
+  section_good b series P good item s xs (tell b series t (item x)) (s.keeps x t p)
+      (λ y m. h y (inr m)),
+)
 
-pub good_section : (b : Basin) (series : Inflows) (P : Told → Type 0) (good : ℕ → Type 0) (item : ℕ → Item) → Section b series P good item →
+pub good_section : (b : Basin) (series : Inflows) (P : Told → Type 0) (good : ℕ → Type 0) (item : ℕ → Item) →
+    Section b series P good item →
     (xs : List ℕ) (t : Told) → P t → AreGood b series t (map item xs) → (x : ℕ) → Has xs x → good x
 good_section b series P good item s [] t p g y m = absurd m
 good_section b series P good item s (x ∷ xs) t p g y (inl is) = subst_good (sym is)
   where
     subst_good : x ≡ y → good y
     subst_good e = rw (← e) (s.tells x t p g.0)
-good_section b series P good item s (x ∷ xs) t p g y (inr m) = good_section b series P good item s xs (tell b series t (item x)) (s.keeps x t p) g.1 y m
+good_section b series P good item s (x ∷ xs) t p g y (inr m) =
+    good_section b series P good item s xs (tell b series t (item x)) (s.keeps x t p) g.1 y m
 
-pub section_keeps : (b : Basin) (series : Inflows) (P : Told → Type 0) (good : ℕ → Type 0) (item : ℕ → Item) → Section b series P good item →
+pub section_keeps : (b : Basin) (series : Inflows) (P : Told → Type 0) (good : ℕ → Type 0) (item : ℕ → Item) →
+    Section b series P good item →
     (xs : List ℕ) (t : Told) → P t → P (fold (tell b series) t (map item xs))
 section_keeps b series P good item s [] t p = p
-section_keeps b series P good item s (x ∷ xs) t p = section_keeps b series P good item s xs (tell b series t (item x)) (s.keeps x t p)
+section_keeps b series P good item s (x ∷ xs) t p =
+    section_keeps b series P good item s xs (tell b series t (item x)) (s.keeps x t p)
 
 -- nothing is passed over before the `call` lines
 pub nothing_passed : (b : Basin) (t : Told) (i : Item) → ((r : ℕ) → passes b i r ≡ false) → (xs : List ℕ) →
     list_any (λ r. is_short t.now r && is_none (cut_of t.now r) && passes b i r) xs ≡ false
 nothing_passed b t i h [] = refl
-nothing_passed b t i h (r ∷ rs) = rw (h r, none (is_short t.now r && is_none (cut_of t.now r))) (nothing_passed b t i h rs)
+nothing_passed b t i h (r ∷ rs) =
+    rw (h r, none (is_short t.now r && is_none (cut_of t.now r))) (nothing_passed b t i h rs)
   where
     none : (p : Bool) → p && false ≡ false
     none true = refl
@@ -105,6 +124,8 @@ pub member_good : (b : Basin) (series : Inflows) (t : Told) (n : ℕ) → NoneHo
 member_good b series t n =
     (refl, (nothing_passed b t (line.Member n) (λ r. refl) (places_of b.rights), (refl, (refl, tt))))
 
-pub members_good : (b : Basin) (series : Inflows) (xs : List ℕ) (t : Told) → AreGood b series t (map (λ n. line.Member n) xs)
+pub members_good : (b : Basin) (series : Inflows) (xs : List ℕ) (t : Told) →
+    AreGood b series t (map (λ n. line.Member n) xs)
 members_good b series [] t = tt
-members_good b series (x ∷ xs) t = (member_good b series t x, members_good b series xs (tell b series t (line.Member x)))
+members_good b series (x ∷ xs) t =
+    (member_good b series t x, members_good b series xs (tell b series t (line.Member x)))

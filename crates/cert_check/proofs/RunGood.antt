@@ -1,5 +1,6 @@
 -- The lines of a history are not refuted.
-use Rattle.std.proofs.Common.{◌≡◌, ℕ, Bool, true, false, refl, sym, ap, subst, ◌∙◌, List, [], ◌∷◌, ◌++◌, length, map, fold, take, append_assoc, length-append}
+use Rattle.std.proofs.Common.{◌≡◌, ℕ, Bool, true, false, refl, sym, ap, subst, ◌∙◌, List, [], ◌∷◌, ◌++◌, length, map}
+use Rattle.std.proofs.Common.{fold, take, append_assoc, length-append}
 use Rattle.std.specs.Prelude.{Option, Some, None, Ok, ◌||◌, slice_get, slice_index}
 use Rattle.std.specs.List.{flat_map}
 use Rattle.std.proofs.lemmas.List.Folds.{list_any-append}
@@ -50,10 +51,12 @@ calm_onto : (b : Basin) (series : Inflows) (f : Section → List Item) (ks : Lis
 calm_onto b series f [] ys h = h
 calm_onto b series f (k ∷ ks) ys h = calm_behind b series (f k) (onto f ks ys) (calm_onto b series f ks ys h)
 
-pub inner_calm : (b : Basin) (series : Inflows) (m : MonthRecord) (dues : List (ℕ × ℕ)) → Calm b series (inner_lines b m dues)
+pub inner_calm : (b : Basin) (series : Inflows) (m : MonthRecord) (dues : List (ℕ × ℕ)) →
+    Calm b series (inner_lines b m dues)
 inner_calm b series m dues = calm_onto b series (section_lines b m dues) SECTIONS (line.End ∷ []) (end_calm b series)
 
-pub calm : (b : Basin) (series : Inflows) (items : List Item) (t : Told) → Calm b series items → (fold (tell b series) t items).calling ≡ None
+pub calm : (b : Basin) (series : Inflows) (items : List Item) (t : Told) → Calm b series items →
+    (fold (tell b series) t items).calling ≡ None
 unfolding Calm
 calm b series items t h = h t
 
@@ -67,18 +70,24 @@ take_before : (before ms : List MonthRecord) → take (length before) (before ++
 take_before [] ms = refl
 take_before (x ∷ before) ms = ap (λ xs. x ∷ xs) (take_before before ms)
 
-pub follows_of : (b : Basin) (series : Inflows) (records before ms : List MonthRecord) (m : MonthRecord) → IsPartialHistory b series records → records ≡ before ++ m ∷ ms →
+pub follows_of : (b : Basin) (series : Inflows) (records before ms : List MonthRecord) (m : MonthRecord) →
+    IsPartialHistory b series records → records ≡ before ++ m ∷ ms →
     Follows b series before m
 follows_of b series records before ms m h is =
-    subst (λ (xs : List MonthRecord). Follows b series xs m) (ap (take (length before)) is ∙ take_before before (m ∷ ms))
+    subst (λ (xs : List MonthRecord). Follows b series xs m)
+    (ap (take (length before)) is ∙ take_before before (m ∷ ms))
     (h.each (length before) m (ap (λ xs. slice_get xs (length before)) is ∙ get_behind before ms m))
 
-pub items_are : (b : Basin) (m : MonthRecord) → items_of_month b m ≡ line.Month m.month ∷ inner_lines b m (callers_due b m)
+pub items_are : (b : Basin) (m : MonthRecord) →
+    items_of_month b m ≡ line.Month m.month ∷ inner_lines b m (callers_due b m)
 items_are b m = month_is b m (calling_right b m)
 
-months_good : (b : Basin) (series : Inflows) (records before ms : List MonthRecord) → IsValidBasin b → IsPartialHistory b series records → AreTextMonths b series records →
-    records ≡ before ++ ms → AreAllTold b series (length before) ms → (t : Told) → t.calling ≡ None → t.months ≡ before →
-    AreGood b series t (flat_map (items_of_month b) ms) × ((fold (tell b series) t (flat_map (items_of_month b) ms)).calling ≡ None)
+months_good : (b : Basin) (series : Inflows) (records before ms : List MonthRecord) → IsValidBasin b →
+    IsPartialHistory b series records → AreTextMonths b series records →
+    records ≡ before ++ ms → AreAllTold b series (length before) ms → (t : Told) → t.calling ≡ None →
+    t.months ≡ before →
+    AreGood b series t (flat_map (items_of_month b) ms) ×
+    ((fold (tell b series) t (flat_map (items_of_month b) ms)).calling ≡ None)
 months_good b series records before [] valid history texts is told t c months = (tt, c)
 months_good b series records before (m ∷ ms) valid history texts is told t c months =
     let f = follows_of b series records before ms m history is in
@@ -92,27 +101,38 @@ months_good b series records before (m ∷ ms) valid history texts is told t c m
     } in
     let good = follows_good b series before m f text in
     let inner = inner_good b series before m valid.roll.strict told.1 good (tell b series t (line.Month m.month)) at in
-    let here : AreGood b series t (items_of_month b m) = subst (λ (xs : List Item). AreGood b series t xs) (sym (items_are b m)) (month_good b series t m.month c, inner) in
+    let here : AreGood b series t (items_of_month b m) =
+    subst (λ (xs : List Item). AreGood b series t xs) (sym (items_are b m))
+    (month_good b series t m.month c, inner) in
     let behind : Told = fold (tell b series) t (items_of_month b m) in
     let still : behind.calling ≡ None = ap (λ xs. (fold (tell b series) t xs).calling) (items_are b m)
-    ∙ calm b series (inner_lines b m (callers_due b m)) (tell b series t (line.Month m.month)) (inner_calm b series m (callers_due b m)) in
+    ∙ calm b series (inner_lines b m (callers_due b m)) (tell b series t (line.Month m.month))
+    (inner_calm b series m (callers_due b m)) in
     let later : behind.months ≡ before ++ m ∷ [] =
     month_told b series m (calling_right b m) t (f.index ∙ sym count) told.1 ∙ ap (λ xs. xs ++ m ∷ []) months in
-    let rest = months_good b series records (before ++ m ∷ []) ms valid history texts (is ∙ sym (append_assoc before (m ∷ []) ms))
+    let rest =
+    months_good b series records (before ++ m ∷ []) ms valid history texts
+    (is ∙ sym (append_assoc before (m ∷ []) ms))
     (subst (λ (i : ℕ). AreAllTold b series i ms) (sym (length-append before (m ∷ []))) told.2) behind still later in (
       good_both b series t (items_of_month b m) (flat_map (items_of_month b) ms) here rest.0,
       ap (λ u. u.calling) (fold-both (tell b series) t (items_of_month b m) (flat_map (items_of_month b) ms)) ∙ rest.1,
     )
 
-run_items_good : (b : Basin) (series : Inflows) (records : List MonthRecord) → IsValidBasin b → IsPartialHistory b series records → AreTextMonths b series records →
+run_items_good : (b : Basin) (series : Inflows) (records : List MonthRecord) → IsValidBasin b →
+    IsPartialHistory b series records → AreTextMonths b series records →
     AreGood b series (nothing_told b) (items_of b records)
 run_items_good b series records valid history texts =
-    let months = months_good b series records [] records valid history texts refl (are_all_told b series records texts) (nothing_told b) refl refl in (
+    let months =
+    months_good b series records [] records valid history texts refl (are_all_told b series records texts)
+    (nothing_told b) refl refl in (
       title_good b series (nothing_told b) refl,
       (
         run_good b series (nothing_told b) refl,
-        good_both b series (nothing_told b) (flat_map (items_of_month b) records) (line.Done b.months ∷ []) months.0
-            (last_good b series (fold (tell b series) (nothing_told b) (flat_map (items_of_month b) records)) b.months months.1, tt),
+        good_both b series (nothing_told b) (flat_map (items_of_month b) records) (line.Done b.months ∷ []) months.0 (
+          last_good b series (fold (tell b series) (nothing_told b) (flat_map (items_of_month b) records)) b.months
+              months.1,
+          tt,
+        ),
       ),
     )
 
@@ -124,7 +144,8 @@ open_both xs ys h k = list_any-append is_done xs ys ∙ either (is_whole xs) (is
     either : (p q : Bool) → p ≡ false → q ≡ false → p || q ≡ false
     either p q e f = rw (e, f) refl
 
-open_each : {X : Type 0} (item : X → Item) → ((x : X) → is_done (item x) ≡ false) → (xs : List X) → is_whole (map item xs) ≡ false
+open_each : {X : Type 0} (item : X → Item) → ((x : X) → is_done (item x) ≡ false) → (xs : List X) →
+    is_whole (map item xs) ≡ false
 open_each item h [] = refl
 open_each item h (x ∷ xs) = rw (h x) (open_each item h xs)
 
@@ -132,9 +153,12 @@ open_calls : (m : MonthRecord) (xs : List ℕ) → is_whole (flat_map (λ r. cal
 open_calls m [] = refl
 open_calls m (x ∷ xs) = by_set (cut_of m x) (open_calls m xs)
   where
-    by_set : (o : Option (List Bool)) → is_whole (flat_map (λ r. call_items r (cut_of m r)) xs) ≡ false → is_whole (call_items x o ++ flat_map (λ r. call_items r (cut_of m r)) xs) ≡ false
+    by_set : (o : Option (List Bool)) → is_whole (flat_map (λ r. call_items r (cut_of m r)) xs) ≡ false →
+        is_whole (call_items x o ++ flat_map (λ r. call_items r (cut_of m r)) xs) ≡ false
     by_set None h = h
-    by_set (Some set) h = open_both (map (λ n. line.Member n) (members_from 0 set)) (flat_map (λ r. call_items r (cut_of m r)) xs) (open_each (λ n. line.Member n) (λ n. refl) (members_from 0 set)) h
+    by_set (Some set) h =
+        open_both (map (λ n. line.Member n) (members_from 0 set)) (flat_map (λ r. call_items r (cut_of m r)) xs)
+        (open_each (λ n. line.Member n) (λ n. refl) (members_from 0 set)) h
 
 open_section : (b : Basin) (m : MonthRecord) (dues : List (ℕ × ℕ)) (k : Section) →
     is_whole (section_lines b m dues k) ≡ false
@@ -157,7 +181,9 @@ inner_open b m dues = open_onto (section_lines b m dues) (open_section b m dues)
 
 months_open : (b : Basin) (ms : List MonthRecord) → is_whole (flat_map (items_of_month b) ms) ≡ false
 months_open b [] = refl
-months_open b (m ∷ ms) = open_both (items_of_month b m) (flat_map (items_of_month b) ms) (ap is_whole (items_are b m) ∙ inner_open b m (callers_due b m)) (months_open b ms)
+months_open b (m ∷ ms) =
+    open_both (items_of_month b m) (flat_map (items_of_month b) ms)
+    (ap is_whole (items_are b m) ∙ inner_open b m (callers_due b m)) (months_open b ms)
 
 front_open : (xs x y : List Item) (d i : Item) → xs ++ d ∷ [] ≡ x ++ i ∷ y → is_whole xs ≡ false → is_whole x ≡ false
 front_open xs [] y d i e h = refl
@@ -181,11 +207,14 @@ ends_whole xs n = list_any-append is_done xs (line.Done n ∷ []) ∙ or_true (i
     or_true false = refl
 
 -- the verdict on the text of records of a history
-pub text_good : (b : Basin) (series : Inflows) (records : List MonthRecord) → IsValidBasin b → IsHistory b series records → AreTextMonths b series records →
+pub text_good : (b : Basin) (series : Inflows) (records : List MonthRecord) → IsValidBasin b →
+    IsHistory b series records → AreTextMonths b series records →
     verdict b series (map (line_of b) (items_of b records)) [] ≡ Ok (items_of b records)
 text_good b series records valid history texts =
     says_yes b series (map (line_of b) (items_of b records)) (items_of b records)
-    (verdict_good b series (items_of b records) (items_of b records) [] refl (λ x y i e. texts_are_accepted b series records x y i valid texts history.whole e)
-    (λ x y i e. front_open (items_of_head b ++ flat_map (items_of_month b) records) x y (line.Done b.months) i e (months_open b records))
+    (verdict_good b series (items_of b records) (items_of b records) [] refl
+    (λ x y i e. texts_are_accepted b series records x y i valid texts history.whole e)
+    (λ x y i e. front_open (items_of_head b ++ flat_map (items_of_month b) records) x y (line.Done b.months) i e
+    (months_open b records))
     (run_items_good b series records valid history.partial texts))
     (ends_whole (items_of_head b ++ flat_map (items_of_month b) records) b.months)

@@ -1,5 +1,6 @@
 -- The lines that are not refuted are those of a history.
-use Rattle.std.proofs.Common.{◌≡◌, ℕ, zero, suc, ◌+◌, ◌-◌, ◌<◌, Bool, true, false, refl, sym, ap, subst, ◌∙◌, arith, inl, inr, List, [], ◌∷◌, ◌++◌, length, map, fold, append_assoc, append-nil, length-append}
+use Rattle.std.proofs.Common.{◌≡◌, ℕ, zero, suc, ◌+◌, ◌-◌, ◌<◌, Bool, true, false, refl, sym, ap, subst, ◌∙◌, arith}
+use Rattle.std.proofs.Common.{inl, inr, List, [], ◌∷◌, ◌++◌, length, map, fold, append_assoc, append-nil, length-append}
 use Rattle.std.specs.Prelude.{Some, None, ◌||◌, ◌⊎◌, slice_get}
 use Rattle.std.specs.List.{flat_map}
 use Rattle.std.proofs.lemmas.List.{length-map}
@@ -48,23 +49,32 @@ pub record OneMonth (b : Basin) (i n : ℕ) (items : List Item) : Type 0 where
   pub are : items ≡ line.Month (run_month b i) ∷ (sheet_lines b sheet dues ++ others)
   pub rest : Fills b (from_month b (suc i) n) others
 
-pub one_month : (b : Basin) → IsValidBasin b → (i n : ℕ) (items : List Item) → Fills b (from_month b i (suc n)) items → OneMonth b i n items
+pub one_month : (b : Basin) → IsValidBasin b → (i n : ℕ) (items : List Item) → Fills b (from_month b i (suc n)) items →
+    OneMonth b i n items
 unfolding numbers_from
 one_month b valid i n items h =
-    let first = one_line b (shape.Month (run_month b i)) (due_in_month b ++ from_month b (suc i) n) items refl (subst (λ (xs : List Shape). Fills b xs items) regroup h) in
+    let first =
+    one_line b (shape.Month (run_month b i)) (due_in_month b ++ from_month b (suc i) n) items refl
+    (subst (λ (xs : List Shape). Fills b xs items) regroup h) in
     let inner = inner_filled b valid (from_month b (suc i) n) first.others first.rest in
     record {
       sheet = inner.sheet;
       dues = inner.dues;
       sized = inner.sized;
       others = inner.others;
-      are = first.are ∙ (ap (λ ms. line.Month (run_month b i) ∷ (ms ++ first.others)) first.followed ∙ ap (λ ys. line.Month (run_month b i) ∷ ys) inner.are);
+      are = first.are
+          ∙ (ap (λ ms. line.Month (run_month b i) ∷ (ms ++ first.others)) first.followed
+          ∙ ap (λ ys. line.Month (run_month b i) ∷ ys) inner.are);
       rest = inner.rest;
     }
   where
     regroup : (due_for_month b i ++ flat_map (due_for_month b) (numbers_from (suc i) n)) ++ shape.Done b.months ∷ []
-        ≡ shape.Month (run_month b i) ∷ (due_in_month b ++ (flat_map (due_for_month b) (numbers_from (suc i) n) ++ shape.Done b.months ∷ []))
-    regroup = append_assoc (due_for_month b i) (flat_map (due_for_month b) (numbers_from (suc i) n)) (shape.Done b.months ∷ [])
+        ≡ shape.Month
+        (run_month b i) ∷
+        (due_in_month b ++ (flat_map (due_for_month b) (numbers_from (suc i) n) ++ shape.Done b.months ∷ []))
+    regroup =
+        append_assoc (due_for_month b i) (flat_map (due_for_month b) (numbers_from (suc i) n))
+        (shape.Done b.months ∷ [])
 
 -- The last line is `done`, and no other is.
 record Ends (n : ℕ) (items : List Item) : Type 0 where
@@ -72,12 +82,15 @@ record Ends (n : ℕ) (items : List Item) : Type 0 where
   are : items ≡ front ++ line.Done n ∷ []
   open_yet : is_whole front ≡ false
 
-pub last_line : (b : Basin) (items : List Item) → Fills b (shape.Done b.months ∷ []) items → items ≡ line.Done b.months ∷ []
+pub last_line : (b : Basin) (items : List Item) → Fills b (shape.Done b.months ∷ []) items →
+    items ≡ line.Done b.months ∷ []
 last_line b items h =
     let last = one_line b (shape.Done b.months) [] items refl h in
-    last.are ∙ (ap (λ ms. line.Done b.months ∷ (ms ++ last.others)) last.followed ∙ ap (λ ys. line.Done b.months ∷ ys) last.rest)
+    last.are ∙ (ap (λ ms. line.Done b.months ∷ (ms ++ last.others)) last.followed
+    ∙ ap (λ ys. line.Done b.months ∷ ys) last.rest)
 
-months_end : (b : Basin) → IsValidBasin b → (series : Inflows) (n i : ℕ) (items : List Item) → Fills b (from_month b i n) items → Ends b.months items
+months_end : (b : Basin) → IsValidBasin b → (series : Inflows) (n i : ℕ) (items : List Item) →
+    Fills b (from_month b i n) items → Ends b.months items
 unfolding numbers_from
 months_end b valid series zero i items h = record { front = []; are = last_line b items h; open_yet = refl }
 months_end b valid series (suc n) i items h =
@@ -85,11 +98,16 @@ months_end b valid series (suc n) i items h =
     let later = months_end b valid series n (suc i) m.others m.rest in
     record {
       front = line.Month (run_month b i) ∷ (sheet_lines b m.sheet m.dues ++ later.front);
-      are = m.are ∙ ap (λ ys. line.Month (run_month b i) ∷ ys) (ap (λ ys. sheet_lines b m.sheet m.dues ++ ys) later.are ∙ sym (append_assoc (sheet_lines b m.sheet m.dues) later.front (line.Done b.months ∷ [])));
-      open_yet = open_both (sheet_lines b m.sheet m.dues) later.front (ap is_whole (record_lines b series i m.sheet m.dues) ∙ inner_open b (record_of b series i m.sheet) m.dues) later.open_yet;
+      are = m.are
+          ∙ ap (λ ys. line.Month (run_month b i) ∷ ys) (ap (λ ys. sheet_lines b m.sheet m.dues ++ ys) later.are
+          ∙ sym (append_assoc (sheet_lines b m.sheet m.dues) later.front (line.Done b.months ∷ [])));
+      open_yet =
+          open_both (sheet_lines b m.sheet m.dues) later.front (ap is_whole (record_lines b series i m.sheet m.dues)
+          ∙ inner_open b (record_of b series i m.sheet) m.dues) later.open_yet;
     }
 
-nothing_behind : (xs items rest : List Item) (d : Item) → items ++ rest ≡ xs ++ d ∷ [] → is_whole xs ≡ false → is_whole items ≡ true → rest ≡ []
+nothing_behind : (xs items rest : List Item) (d : Item) → items ++ rest ≡ xs ++ d ∷ [] → is_whole xs ≡ false →
+    is_whole items ≡ true → rest ≡ []
 nothing_behind xs [] rest d e none some = cc
 nothing_behind [] (i ∷ []) rest d e none some = cc
 nothing_behind [] (i ∷ j ∷ items) rest d e none some = cc
@@ -109,9 +127,11 @@ nothing_behind (x ∷ xs) (i ∷ items) rest d e none some =
 
 -- The months.
 
-pub opens_with_last : (b : Basin) (records : List MonthRecord) (m : MonthRecord) → opening_after b (records ++ m ∷ []) ≡ m.closing
+pub opens_with_last : (b : Basin) (records : List MonthRecord) (m : MonthRecord) →
+    opening_after b (records ++ m ∷ []) ≡ m.closing
 opens_with_last b records m =
-    ap (λ n. of_entry (records ++ m ∷ []) (n - 1) (λ k. k.closing) (map (λ v. v.opening) b.reservoirs)) (length-append records (m ∷ []))
+    ap (λ n. of_entry (records ++ m ∷ []) (n - 1) (λ k. k.closing) (map (λ v. v.opening) b.reservoirs))
+    (length-append records (m ∷ []))
     ∙ last records
   where
     at : (xs : List MonthRecord) → slice_get (xs ++ m ∷ []) (length xs) ≡ Some m
@@ -121,7 +141,8 @@ opens_with_last b records m =
     place : (n : ℕ) → n + 1 - 1 ≡ n
     place n = omega arith
 
-    last : (xs : List MonthRecord) → of_entry (xs ++ m ∷ []) (length xs + 1 - 1) (λ k. k.closing) (map (λ v. v.opening) b.reservoirs) ≡ m.closing
+    last : (xs : List MonthRecord) →
+        of_entry (xs ++ m ∷ []) (length xs + 1 - 1) (λ k. k.closing) (map (λ v. v.opening) b.reservoirs) ≡ m.closing
     last xs = rw (place (length xs), at xs) refl
 
 -- what stands behind some months that are not refuted
@@ -132,19 +153,29 @@ pub record BehindMonths (b : Basin) (series : Inflows) (before : List MonthRecor
   pub opens : length (opening_after b before) ≡ length b.reservoirs
 
 -- one month more that is not refuted
-pub record NextMonth (b : Basin) (series : Inflows) (before : List MonthRecord) (t : Told) (i : ℕ) (s : Sheet) (dues : List (ℕ × ℕ)) : Type 0 where
+pub record NextMonth (b : Basin) (series : Inflows) (before : List MonthRecord) (t : Told) (i : ℕ) (s : Sheet)
+    (dues : List (ℕ × ℕ)) : Type 0 where
   pub lines_are : line.Month (run_month b i) ∷ sheet_lines b s dues ≡ items_of_month b (record_of b series i s)
-  pub behind : BehindMonths b series (before ++ record_of b series i s ∷ []) (fold (tell b series) t (items_of_month b (record_of b series i s)))
+  pub behind : BehindMonths b series (before ++ record_of b series i s ∷ [])
+      (fold (tell b series) t (items_of_month b (record_of b series i s)))
 
-pub next_month : (b : Basin) → IsValidBasin b → (series : Inflows) (before : List MonthRecord) (t : Told) (i : ℕ) (s : Sheet) (dues : List (ℕ × ℕ)) →
-    ((r : ℕ) (set : List Bool) → s.cut r ≡ Some set → length set ≡ length b.nodes) → i ≡ length before → i < b.months → BehindMonths b series before t →
+pub next_month : (b : Basin) → IsValidBasin b →
+    (series : Inflows) (before : List MonthRecord) (t : Told) (i : ℕ) (s : Sheet) (dues : List (ℕ × ℕ)) →
+    ((r : ℕ) (set : List Bool) → s.cut r ≡ Some set → length set ≡ length b.nodes) → i ≡ length before → i < b.months →
+    BehindMonths b series before t →
     AreGood b series t (line.Month (run_month b i) ∷ sheet_lines b s dues) → NextMonth b series before t i s dues
 next_month b valid series before t i s dues sized at left stands g =
     record {
-      lines_are = ap (λ ys. line.Month (run_month b i) ∷ ys) (record_lines b series i s dues ∙ ap (inner_lines b m) (sym good.1)) ∙ sym (items_are b m);
+      lines_are =
+          ap (λ ys. line.Month (run_month b i) ∷ ys)
+          (record_lines b series i s dues ∙ ap (inner_lines b m) (sym good.1)) ∙ sym (items_are b m);
       behind = record {
-        calling = ap (λ xs. (fold (tell b series) t xs).calling) (items_are b m) ∙ calm b series (inner_lines b m (callers_due b m)) (tell b series t (line.Month m.month)) (inner_calm b series m (callers_due b m));
-        months = month_told b series m (calling_right b m) t (at ∙ sym count) told ∙ ap (λ xs. xs ++ m ∷ []) stands.months;
+        calling =
+            ap (λ xs. (fold (tell b series) t xs).calling) (items_are b m)
+            ∙ calm b series (inner_lines b m (callers_due b m)) (tell b series t (line.Month m.month))
+            (inner_calm b series m (callers_due b m));
+        months = month_told b series m (calling_right b m) t (at ∙ sym count) told
+            ∙ ap (λ xs. xs ++ m ∷ []) stands.months;
         partial = one_month_more b series before m stands.partial (omega (arith, at, left)) follows;
         opens = ap length (opens_with_last b before m) ∙ follows.fits.closing;
       };
@@ -168,8 +199,10 @@ next_month b valid series before t i s dues sized at left stands g =
     }
 
     good : IsGoodMonth b series before m × (callers_due b m ≡ dues)
-    good = inner_is_good b series before m dues (some_outlet b valid) told (tell b series t (line.Month (run_month b i))) begins
-        (subst (λ (xs : List Item). AreGood b series (tell b series t (line.Month (run_month b i))) xs) (record_lines b series i s dues) g.1)
+    good = inner_is_good b series before m dues (some_outlet b valid) told
+        (tell b series t (line.Month (run_month b i))) begins
+        (subst (λ (xs : List Item). AreGood b series (tell b series t (line.Month (run_month b i))) xs)
+        (record_lines b series i s dues) g.1)
 
     follows : Follows b series before m
     follows = good_follows b series before m valid told good.0 at refl stands.opens
@@ -181,8 +214,11 @@ record Months (b : Basin) (series : Inflows) (before : List MonthRecord) (n : �
   partial : IsPartialHistory b series (before ++ records)
   are : items ≡ flat_map (items_of_month b) records ++ line.Done b.months ∷ []
 
-months_sound : (b : Basin) → IsValidBasin b → (series : Inflows) (n i : ℕ) (before : List MonthRecord) (t : Told) (items : List Item) → i ≡ length before → i + n ≡ b.months →
-    BehindMonths b series before t → Fills b (from_month b i n) items → AreGood b series t items → Months b series before n items
+months_sound : (b : Basin) → IsValidBasin b →
+    (series : Inflows) (n i : ℕ) (before : List MonthRecord) (t : Told) (items : List Item) → i ≡ length before →
+    i + n ≡ b.months →
+    BehindMonths b series before t → Fills b (from_month b i n) items → AreGood b series t items →
+    Months b series before n items
 unfolding numbers_from
 months_sound b valid series zero i before t items at all stands h g = record {
   records = [];
@@ -197,14 +233,18 @@ months_sound b valid series (suc n) i before t items at all stands h g =
     let next = next_month b valid series before t i o.sheet o.dues o.sized at (omega (arith, all)) stands
     (good_first b series t (line.Month (run_month b i) ∷ sheet_lines b o.sheet o.dues) o.others good) in
     let here : items ≡ items_of_month b m ++ o.others = o.are ∙ ap (λ xs. xs ++ o.others) next.lines_are in
-    let later = months_sound b valid series n (suc i) (before ++ m ∷ []) (fold (tell b series) t (items_of_month b m)) o.others
+    let later =
+    months_sound b valid series n (suc i) (before ++ m ∷ []) (fold (tell b series) t (items_of_month b m)) o.others
     (omega (arith, at, length-append before (m ∷ []))) (omega (arith, all)) next.behind o.rest
     (good_rest b series t (items_of_month b m) o.others (subst (λ (xs : List Item). AreGood b series t xs) here g)) in
     record {
       records = m ∷ later.records;
       count = ap suc later.count;
       partial = subst (IsPartialHistory b series) (append_assoc before (m ∷ []) later.records) later.partial;
-      are = here ∙ (ap (λ ys. items_of_month b m ++ ys) later.are ∙ sym (append_assoc (items_of_month b m) (flat_map (items_of_month b) later.records) (line.Done b.months ∷ [])));
+      are = here
+          ∙ (ap (λ ys. items_of_month b m ++ ys) later.are
+          ∙ sym (append_assoc (items_of_month b m) (flat_map (items_of_month b) later.records)
+          (line.Done b.months ∷ [])));
     }
 
 -- The whole text.
@@ -229,20 +269,25 @@ head_of b items h =
       not_done = refl;
       is_run = λ t series n. (let e = head_is b series t run.fields.first run.fields.one n in rw (e.0, e.1) refl);
       are = title.are ∙ (ap (λ ms. line.Title ∷ (ms ++ title.others)) title.followed
-          ∙ ap (λ ys. line.Title ∷ ys) (run.are ∙ ap (λ ms. line.Run run.fields.first run.fields.one ∷ (ms ++ run.others)) run.followed));
+          ∙ ap (λ ys. line.Title ∷ ys)
+          (run.are ∙ ap (λ ms. line.Run run.fields.first run.fields.one ∷ (ms ++ run.others)) run.followed));
       rest = run.rest;
     }
 
 -- lines that begin a whole text, and have its last line, are one
-whole_fills : (b : Basin) → IsValidBasin b → Inflows → (items : List Item) → is_whole items ≡ true → IsFront b items → Fills b (due b) items
+whole_fills : (b : Basin) → IsValidBasin b → Inflows → (items : List Item) → is_whole items ≡ true → IsFront b items →
+    Fills b (due b) items
 whole_fills b valid series items whole front =
     let head = head_of b (items ++ front.rest) front.whole in
     let ends = months_end b valid series b.months 0 head.others head.rest in
-    let none : front.rest ≡ [] = nothing_behind (line.Title ∷ head.first ∷ ends.front) items front.rest (line.Done b.months)
-    (head.are ∙ ap (λ ys. line.Title ∷ head.first ∷ ys) ends.are) (first_open head.first ends.front (head_open head) ends.open_yet) whole in
+    let none : front.rest ≡ [] =
+    nothing_behind (line.Title ∷ head.first ∷ ends.front) items front.rest (line.Done b.months)
+    (head.are ∙ ap (λ ys. line.Title ∷ head.first ∷ ys) ends.are)
+    (first_open head.first ends.front (head_open head) ends.open_yet) whole in
     subst (λ (xs : List Item). Fills b (due b) xs) (ap (λ ys. items ++ ys) none ∙ append-nil items) front.whole
   where
-    first_open : (i : Item) (xs : List Item) → is_done i ≡ false → is_whole xs ≡ false → is_done i || is_whole xs ≡ false
+    first_open : (i : Item) (xs : List Item) → is_done i ≡ false → is_whole xs ≡ false →
+        is_done i || is_whole xs ≡ false
     first_open i xs e f = rw (e, f) refl
 
     head_open : (h : Head b (items ++ front.rest)) → is_done h.first ≡ false
@@ -254,7 +299,8 @@ pub record IsOfHistory (b : Basin) (series : Inflows) (items : List Item) : Type
   pub history : IsHistory b series records
   pub are : items ≡ items_of b records
 
-pub items_sound : (b : Basin) → IsValidBasin b → (series : Inflows) (items : List Item) → is_whole items ≡ true → IsFront b items → AreGood b series (nothing_told b) items →
+pub items_sound : (b : Basin) → IsValidBasin b → (series : Inflows) (items : List Item) → is_whole items ≡ true →
+    IsFront b items → AreGood b series (nothing_told b) items →
     IsOfHistory b series items
 items_sound b valid series items whole front g =
     let head = head_of b items (whole_fills b valid series items whole front) in
@@ -270,7 +316,9 @@ items_sound b valid series items whole front g =
     record {
       records = months.records;
       history = record { partial = months.partial; whole = months.count };
-      are = head.are ∙ (ap (λ i. line.Title ∷ i ∷ head.others) run ∙ ap (λ ys. line.Title ∷ line.Run b.first b.months ∷ ys) months.are);
+      are = head.are
+          ∙ (ap (λ i. line.Title ∷ i ∷ head.others) run
+          ∙ ap (λ ys. line.Title ∷ line.Run b.first b.months ∷ ys) months.are);
     }
 
 pub yes_gives_history : YesGivesHistory
@@ -279,9 +327,18 @@ yes_gives_history b series lines rest items valid h =
     let said = verdict_says b valid series [] items lines yes'.lines_good in
     by_front yes' said said.front
   where
-    by_front : IsYes b series lines rest items → (said : AreJudged b series [] items lines) → (said.more ≡ []) ⊎ IsFront b items →
-        (records : List MonthRecord) × IsHistory b series records × (lines ≡ map (line_of b) (items_of b records)) × (rest ≡ []) × (items ≡ items_of b records)
+    by_front : IsYes b series lines rest items → (said : AreJudged b series [] items lines) → (said.more ≡ []) ⊎
+        IsFront b items →
+        (records : List MonthRecord) × IsHistory b series records × (lines ≡ map (line_of b) (items_of b records)) ×
+        (rest ≡ []) × (items ≡ items_of b records)
     by_front y said (inl none) = let never : false ≡ true = sym (ap is_whole (said.are ∙ none)) ∙ y.whole in cc
     by_front y said (inr front) =
-        let sound = items_sound b valid series items y.whole front (subst (λ (xs : List Item). AreGood b series (nothing_told b) xs) (sym said.are) said.good) in
-        (sound.records, sound.history, said.spelled ∙ ap (map (line_of b)) (sym said.are ∙ sound.are), y.no_rest, sound.are)
+        let sound =
+        items_sound b valid series items y.whole front
+        (subst (λ (xs : List Item). AreGood b series (nothing_told b) xs) (sym said.are) said.good) in (
+          sound.records,
+          sound.history,
+          said.spelled ∙ ap (map (line_of b)) (sym said.are ∙ sound.are),
+          y.no_rest,
+          sound.are,
+        )

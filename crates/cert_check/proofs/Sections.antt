@@ -212,15 +212,18 @@ pub title_good : (b : Basin) (series : Inflows) (t : Told) → t.calling ≡ Non
 title_good b series t h =
     (rw h refl, (nothing_passed b t (line.Title) (λ r. refl) (places_of b.rights), (refl, (refl, tt))))
 
-pub month_good : (b : Basin) (series : Inflows) (t : Told) (month : Month) → t.calling ≡ None → NoneHolds (rows b series t (line.Month month))
+pub month_good : (b : Basin) (series : Inflows) (t : Told) (month : Month) → t.calling ≡ None →
+    NoneHolds (rows b series t (line.Month month))
 month_good b series t month h =
     (rw h refl, (nothing_passed b t (line.Month month) (λ r. refl) (places_of b.rights), (refl, (refl, tt))))
 
-pub last_good : (b : Basin) (series : Inflows) (t : Told) (months : ℕ) → t.calling ≡ None → NoneHolds (rows b series t (line.Done months))
+pub last_good : (b : Basin) (series : Inflows) (t : Told) (months : ℕ) → t.calling ≡ None →
+    NoneHolds (rows b series t (line.Done months))
 last_good b series t months h =
     (rw h refl, (nothing_passed b t (line.Done months) (λ r. refl) (places_of b.rights), (refl, (refl, tt))))
 
-pub run_good : (b : Basin) (series : Inflows) (t : Told) → t.calling ≡ None → NoneHolds (rows b series t (line.Run b.first b.months))
+pub run_good : (b : Basin) (series : Inflows) (t : Told) → t.calling ≡ None →
+    NoneHolds (rows b series t (line.Run b.first b.months))
 run_good b series t h = (
   rw h refl,
   (
@@ -232,7 +235,8 @@ run_good b series t h = (
     run_same : (y m n : ℕ) → not (y == y && m == m && n == n) ≡ false
     run_same y m n = grind (arith, nat_tests)
 
-pub head_is : (b : Basin) (series : Inflows) (t : Told) (first : Month) (months : ℕ) → NoneHolds (rows b series t (line.Run first months)) → (first ≡ b.first) × (months ≡ b.months)
+pub head_is : (b : Basin) (series : Inflows) (t : Told) (first : Month) (months : ℕ) →
+    NoneHolds (rows b series t (line.Run first months)) → (first ≡ b.first) × (months ≡ b.months)
 head_is b series t first months n = by_parts first b.first n.1.1.1.1.0
   where
     three : (p q r : Bool) → not ((p && q) && r) ≡ false → (p ≡ true) × (q ≡ true) × (r ≡ true)

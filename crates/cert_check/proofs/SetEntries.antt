@@ -1,5 +1,6 @@
 -- An account keeps the sets that are told, with one line more.
-use Rattle.std.proofs.Common.{◌≡◌, ℕ, ◌<◌, Bool, true, false, refl, sym, ap, ◌∙◌, arith, inl, inr, List, [], ◌∷◌, length, replicate, take}
+use Rattle.std.proofs.Common.{◌≡◌, ℕ, ◌<◌, Bool, true, false, refl, sym, ap, ◌∙◌, arith, inl, inr, List, [], ◌∷◌}
+use Rattle.std.proofs.Common.{length, replicate, take}
 use Rattle.std.specs.Prelude.{Option, Some, None, IsSome, ◌&&◌, ◌||◌, is_none, slice_set, option_map}
 use Rattle.std.specs.List.{list_any}
 use Rattle.std.proofs.lemmas.Bool.{cases_eq}
@@ -116,7 +117,8 @@ pub keeps_stray : (b : Basin) (series : Inflows) (a : Account) (t : Told) (node 
     Keeps b series (record a { has_callers = false; answered = 0 }) (tell b series t (line.Member node))
 keeps_stray b series a t node none stray k = by_call t.calling (sym k.calling ∙ stray)
   where
-    by_call : (o : Option ℕ) → o ≡ None → Keeps b series (record a { has_callers = false; answered = 0 }) (with_member t o node)
+    by_call : (o : Option ℕ) → o ≡ None →
+        Keeps b series (record a { has_callers = false; answered = 0 }) (with_member t o node)
     by_call None e = record {
       fits = record {
         month = k.fits.month;

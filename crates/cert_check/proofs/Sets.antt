@@ -1,5 +1,6 @@
 -- The sets that `call` lines tell.
-use Rattle.std.proofs.Common.{◌≡◌, ◌≢◌, ℕ, zero, suc, ◌<◌, Bool, refl, sym, ap, ◌∙◌, arith, inl, inr, List, [], ◌∷◌, length, replicate}
+use Rattle.std.proofs.Common.{◌≡◌, ◌≢◌, ℕ, zero, suc, ◌<◌, Bool, refl, sym, ap, ◌∙◌, arith, inl, inr, List, [], ◌∷◌}
+use Rattle.std.proofs.Common.{length, replicate}
 use Rattle.std.specs.Prelude.{Option, Some, None, slice_set}
 use Rattle.std.proofs.Math.ListN.{length-set}
 use Rattle.std.proofs.lemmas.Bool.{cases_eq}
@@ -28,7 +29,8 @@ unfolding put_one
 length-put_one r None ys = refl
 length-put_one r (Some set) ys = length-set ys r (Some set)
 
-put_sets-step : (r : ℕ) (rs : List ℕ) (cut : ℕ → Option (List Bool)) (ys : Sets) → put_sets (r ∷ rs) cut ys ≡ put_sets rs cut (put_one r (cut r) ys)
+put_sets-step : (r : ℕ) (rs : List ℕ) (cut : ℕ → Option (List Bool)) (ys : Sets) →
+    put_sets (r ∷ rs) cut ys ≡ put_sets rs cut (put_one r (cut r) ys)
 unfolding put_one
 put_sets-step r rs cut ys = by_set (cut r) refl
   where
@@ -39,32 +41,41 @@ put_sets-step r rs cut ys = by_set (cut r) refl
 pub length-put_sets : (rs : List ℕ) (cut : ℕ → Option (List Bool)) (ys : Sets) → length (put_sets rs cut ys) ≡ length ys
 length-put_sets [] cut ys = refl
 length-put_sets (r ∷ rs) cut ys =
-    ap length (put_sets-step r rs cut ys) ∙ (length-put_sets rs cut (put_one r (cut r) ys) ∙ length-put_one r (cut r) ys)
+    ap length (put_sets-step r rs cut ys)
+    ∙ (length-put_sets rs cut (put_one r (cut r) ys) ∙ length-put_one r (cut r) ys)
 
-put_one-keeps : (r k : ℕ) (cut : ℕ → Option (List Bool)) (ys : Sets) → k < length ys → set_in ys k ≡ cut k → set_in (put_one r (cut r) ys) k ≡ cut k
+put_one-keeps : (r k : ℕ) (cut : ℕ → Option (List Bool)) (ys : Sets) → k < length ys → set_in ys k ≡ cut k →
+    set_in (put_one r (cut r) ys) k ≡ cut k
 unfolding put_one
 put_one-keeps r k cut ys l h = by_set (cut r) refl
   where
     by_set : (o : Option (List Bool)) → cut r ≡ o → set_in (put_one r (cut r) ys) k ≡ cut k
     by_set None e = rw e h
     by_set (Some set) e = elim (cases_eq k r) [
-      | inl same ↦ rw e (ap (λ j. set_in (slice_set ys r (Some set)) j) same ∙ (entry_set ys r (Some set) (omega arith) ∙ (sym e ∙ ap cut (sym same))))
+      | inl same ↦
+          rw e (ap (λ j. set_in (slice_set ys r (Some set)) j) same
+          ∙ (entry_set ys r (Some set) (omega arith) ∙ (sym e ∙ ap cut (sym same))))
       | inr other ↦ rw e (set_other ys r k (Some set) other ∙ h)
     ]
 
-put_sets-keeps : (rs : List ℕ) (k : ℕ) (cut : ℕ → Option (List Bool)) (ys : Sets) → k < length ys → set_in ys k ≡ cut k → set_in (put_sets rs cut ys) k ≡ cut k
+put_sets-keeps : (rs : List ℕ) (k : ℕ) (cut : ℕ → Option (List Bool)) (ys : Sets) → k < length ys →
+    set_in ys k ≡ cut k → set_in (put_sets rs cut ys) k ≡ cut k
 put_sets-keeps [] k cut ys l h = h
 put_sets-keeps (r ∷ rs) k cut ys l h =
     ap (λ xs. set_in xs k) (put_sets-step r rs cut ys)
-    ∙ put_sets-keeps rs k cut (put_one r (cut r) ys) (omega (arith, length-put_one r (cut r) ys)) (put_one-keeps r k cut ys l h)
+    ∙ put_sets-keeps rs k cut (put_one r (cut r) ys) (omega (arith, length-put_one r (cut r) ys))
+    (put_one-keeps r k cut ys l h)
 
-put_one-here : (r k : ℕ) (cut : ℕ → Option (List Bool)) (ys : Sets) → k ≡ r → k < length ys → set_in ys k ≡ None → set_in (put_one r (cut r) ys) k ≡ cut k
+put_one-here : (r k : ℕ) (cut : ℕ → Option (List Bool)) (ys : Sets) → k ≡ r → k < length ys → set_in ys k ≡ None →
+    set_in (put_one r (cut r) ys) k ≡ cut k
 unfolding put_one
 put_one-here r k cut ys same l h = by_set (cut r) refl
   where
     by_set : (o : Option (List Bool)) → cut r ≡ o → set_in (put_one r (cut r) ys) k ≡ cut k
     by_set None e = rw e (h ∙ (sym e ∙ ap cut (sym same)))
-    by_set (Some set) e = rw e (ap (λ j. set_in (slice_set ys r (Some set)) j) same ∙ (entry_set ys r (Some set) (omega arith) ∙ (sym e ∙ ap cut (sym same))))
+    by_set (Some set) e =
+        rw e (ap (λ j. set_in (slice_set ys r (Some set)) j) same
+        ∙ (entry_set ys r (Some set) (omega arith) ∙ (sym e ∙ ap cut (sym same))))
 
 put_one-other : (r k : ℕ) (o : Option (List Bool)) (ys : Sets) → k ≢ r → set_in (put_one r o ys) k ≡ set_in ys k
 unfolding put_one
@@ -72,13 +83,18 @@ put_one-other r k None ys h = refl
 put_one-other r k (Some set) ys h = set_other ys r k (Some set) h
 
 -- a right whose set is put has it
-pub put_sets-has : (rs : List ℕ) (k : ℕ) (cut : ℕ → Option (List Bool)) (ys : Sets) → k < length ys → set_in ys k ≡ None → Has rs k → set_in (put_sets rs cut ys) k ≡ cut k
+pub put_sets-has : (rs : List ℕ) (k : ℕ) (cut : ℕ → Option (List Bool)) (ys : Sets) → k < length ys →
+    set_in ys k ≡ None → Has rs k → set_in (put_sets rs cut ys) k ≡ cut k
 put_sets-has [] k cut ys l h m = absurd m
 put_sets-has (r ∷ rs) k cut ys l h m =
     ap (λ xs. set_in xs k) (put_sets-step r rs cut ys)
     ∙ elim (cases_eq k r) [
-      | inl same ↦ put_sets-keeps rs k cut (put_one r (cut r) ys) (omega (arith, length-put_one r (cut r) ys)) (put_one-here r k cut ys same l h)
-      | inr other ↦ put_sets-has rs k cut (put_one r (cut r) ys) (omega (arith, length-put_one r (cut r) ys)) (put_one-other r k (cut r) ys other ∙ h) (behind m other)
+      | inl same ↦
+          put_sets-keeps rs k cut (put_one r (cut r) ys) (omega (arith, length-put_one r (cut r) ys))
+          (put_one-here r k cut ys same l h)
+      | inr other ↦
+          put_sets-has rs k cut (put_one r (cut r) ys) (omega (arith, length-put_one r (cut r) ys))
+          (put_one-other r k (cut r) ys other ∙ h) (behind m other)
     ]
   where
     behind : Has (r ∷ rs) k → k ≢ r → Has rs k
@@ -91,7 +107,8 @@ no_sets (suc n) zero = refl
 no_sets (suc n) (suc k) = no_sets n k
 
 -- sets that are the same at the rights that are gone over
-pub put_sets-same : (rs : List ℕ) (cut other : ℕ → Option (List Bool)) (ys : Sets) → ((r : ℕ) → Has rs r → cut r ≡ other r) → put_sets rs cut ys ≡ put_sets rs other ys
+pub put_sets-same : (rs : List ℕ) (cut other : ℕ → Option (List Bool)) (ys : Sets) →
+    ((r : ℕ) → Has rs r → cut r ≡ other r) → put_sets rs cut ys ≡ put_sets rs other ys
 unfolding put_one
 put_sets-same [] cut other ys h = refl
 put_sets-same (r ∷ rs) cut other ys h =

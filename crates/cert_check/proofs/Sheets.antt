@@ -1,5 +1,6 @@
 -- The lines of a month, from its form, are those of a record.
-use Rattle.std.proofs.Common.{◌≡◌, ℕ, zero, suc, ◌+◌, ◌<◌, Bool, true, false, refl, sym, ap, ◌∙◌, arith, inl, inr, List, [], ◌∷◌, length, map, replicate, filter}
+use Rattle.std.proofs.Common.{◌≡◌, ℕ, zero, suc, ◌+◌, ◌<◌, Bool, true, false, refl, sym, ap, ◌∙◌, arith, inl, inr, List}
+use Rattle.std.proofs.Common.{[], ◌∷◌, length, map, replicate, filter}
 use Rattle.std.specs.Prelude.{Option, Some, None, option_map, unwrap_or, slice_index, slice_set, is_some, if◌then◌else◌}
 use Rattle.std.specs.List.{flat_map}
 use Rattle.std.proofs.lemmas.Bool.{cases_lt}
@@ -25,7 +26,8 @@ use Rattle.water_model.specs.declared.space.Space.TheVariants as space
 use Rattle.water_model.specs.declared.types.Basin.{Basin}
 use Rattle.water_model.specs.declared.types.Inflows.{Inflows}
 use Rattle.water_model.specs.declared.types.MonthRecord.{MonthRecord}
-use Rattle.water_model.proofs.Order.{Has, IsOrdered, filter-has, numbers_from-below, seniors_have, seniors_below, seniors_ordered}
+use Rattle.water_model.proofs.Order.{Has, IsOrdered, filter-has, numbers_from-below, seniors_have, seniors_below}
+use Rattle.water_model.proofs.Order.{seniors_ordered}
 use Rattle.water_model.proofs.Quantities.{has-with_line}
 use Rattle.result_reader.proofs.MonthTold.{put_sets, take_of}
 use Rattle.result_reader.proofs.Telling.{set_all, set_all-has}
@@ -87,7 +89,12 @@ abbrev pub zeros : ℕ → List ℕ
 zeros n = replicate n 0
 
 abbrev pub supplied : Basin → Inflows → MonthRecord → MonthRecord
-supplied b series m = record m { supply = map (λ n. inflow_at b series n m.index + slice_index m.returned n + stored_at b m.opening m.evaporated n) (places_of b.nodes) }
+supplied b series m =
+    record m {
+      supply =
+          map (λ n. inflow_at b series n m.index + slice_index m.returned n + stored_at b m.opening m.evaporated n)
+          (places_of b.nodes);
+    }
 
 abbrev pub listed : Basin → Sheet → Quantity → List ℕ
 listed b s q = set_all (entries_with_line b q) (s.amount q) (zeros (count_in (space_of q) b))
@@ -122,27 +129,38 @@ amounts_are b series i s quantity.Flow = refl
 amounts_are b series i s quantity.Outflow = refl
 amounts_are b series i s quantity.Closing = refl
 
-told_is : (xs : List ℕ) (a : ℕ → ℕ) (n k : ℕ) → ((x : ℕ) → Has xs x → x < n) → Has xs k → slice_index (set_all xs a (zeros n)) k ≡ a k
-told_is xs a n k below h = (let l = below k h in set_all-has xs a (zeros n) k (omega (arith, length-replicate {A = ℕ} n 0)) h)
+told_is : (xs : List ℕ) (a : ℕ → ℕ) (n k : ℕ) → ((x : ℕ) → Has xs x → x < n) → Has xs k →
+    slice_index (set_all xs a (zeros n)) k ≡ a k
+told_is xs a n k below h =
+    (let l = below k h in set_all-has xs a (zeros n) k (omega (arith, length-replicate {A = ℕ} n 0)) h)
 
-set_all-same : (xs : List ℕ) (a c : ℕ → ℕ) (ys : List ℕ) → ((k : ℕ) → Has xs k → a k ≡ c k) → set_all xs a ys ≡ set_all xs c ys
+set_all-same : (xs : List ℕ) (a c : ℕ → ℕ) (ys : List ℕ) → ((k : ℕ) → Has xs k → a k ≡ c k) →
+    set_all xs a ys ≡ set_all xs c ys
 set_all-same [] a c ys h = refl
 set_all-same (x ∷ xs) a c ys h =
-    ap (λ n. set_all xs a (slice_set ys x n)) (h x (inl refl)) ∙ set_all-same xs a c (slice_set ys x (c x)) (λ k m. h k (inr m))
+    ap (λ n. set_all xs a (slice_set ys x n)) (h x (inl refl))
+    ∙ set_all-same xs a c (slice_set ys x (c x)) (λ k m. h k (inr m))
 
 told_again : (xs : List ℕ) (a : ℕ → ℕ) (n : ℕ) → ((x : ℕ) → Has xs x → x < n) →
     set_all xs (λ k. slice_index (set_all xs a (zeros n)) k) (zeros n) ≡ set_all xs a (zeros n)
-told_again xs a n below = set_all-same xs (λ k. slice_index (set_all xs a (zeros n)) k) a (zeros n) (λ k h. told_is xs a n k below h)
+told_again xs a n below =
+    set_all-same xs (λ k. slice_index (set_all xs a (zeros n)) k) a (zeros n) (λ k h. told_is xs a n k below h)
 
 right_below : (b : Basin) (k : ℕ) → Has (seniors_first b) k → k < length b.rights
 right_below b k h = seniors_below b.rights k h
 
-cut_is : (b : Basin) (cut : ℕ → Option (List Bool)) (k : ℕ) → Has (seniors_first b) k → set_in (put_sets (seniors_first b) cut (replicate (length b.rights) None)) k ≡ cut k
+cut_is : (b : Basin) (cut : ℕ → Option (List Bool)) (k : ℕ) → Has (seniors_first b) k →
+    set_in (put_sets (seniors_first b) cut (replicate (length b.rights) None)) k ≡ cut k
 cut_is b cut k h =
-    (let l = right_below b k h in put_sets-has (seniors_first b) k cut (replicate (length b.rights) None) (omega (arith, length-replicate {A = Option (List Bool)} (length b.rights) None)) (no_sets (length b.rights) k) h)
+    (let l = right_below b k h in
+    put_sets-has (seniors_first b) k cut (replicate (length b.rights) None)
+    (omega (arith, length-replicate {A = Option (List Bool)} (length b.rights) None)) (no_sets (length b.rights) k)
+    h)
 
 -- the record of a sheet tells all of itself
-pub record_told : (b : Basin) (series : Inflows) (i : ℕ) (s : Sheet) → ((r : ℕ) (set : List Bool) → s.cut r ≡ Some set → length set ≡ length b.nodes) → IsAllTold b series (record_of b series i s)
+pub record_told : (b : Basin) (series : Inflows) (i : ℕ) (s : Sheet) →
+    ((r : ℕ) (set : List Bool) → s.cut r ≡ Some set → length set ≡ length b.nodes) →
+    IsAllTold b series (record_of b series i s)
 record_told b series i s sized = record {
   listed = λ q. ap (λ (xs : List ℕ). set_all (entries_with_line b q) (λ x. slice_index xs x)
       (zeros (count_in (space_of q) b)))
@@ -155,7 +173,8 @@ record_told b series i s sized = record {
       (take_of b s.delivered) (zeros (length b.rights))
       (λ k h. ap (λ n. if is_some (taking_node b k) then n else 0)
       (told_is (seniors_first b) s.delivered (length b.rights) k (right_below b) h));
-  sets = put_sets-same (seniors_first b) (λ r. cut_of (record_of b series i s) r) s.cut (replicate (length b.rights) None) (λ r h. cut_is b s.cut r h);
+  sets = put_sets-same (seniors_first b) (λ r. cut_of (record_of b series i s) r) s.cut
+      (replicate (length b.rights) None) (λ r h. cut_is b s.cut r h);
   nodes = refl;
   supply = refl;
   sized = λ r set e. sized r set (sym (cut_is b s.cut r (seniors_have b.rights r (within r set e))) ∙ e);
@@ -163,13 +182,17 @@ record_told b series i s sized = record {
 }
   where
     count : length (put_sets (seniors_first b) s.cut (replicate (length b.rights) None)) ≡ length b.rights
-    count = length-put_sets (seniors_first b) s.cut (replicate (length b.rights) None) ∙ length-replicate (length b.rights) None
+    count = length-put_sets (seniors_first b) s.cut (replicate (length b.rights) None)
+        ∙ length-replicate (length b.rights) None
 
     within : (r : ℕ) (set : List Bool) → cut_of (record_of b series i s) r ≡ Some set → r < length b.rights
     within r set e = elim (cases_lt r (length b.rights)) [
       | inl l ↦ l
-      | inr beyond ↦ (let none : cut_of (record_of b series i s) r ≡ None = ap (λ (o : Option (Option (List Bool))). unwrap_or (option_map (λ s. s) o) None)
-          (slice_get_past (put_sets (seniors_first b) s.cut (replicate (length b.rights) None)) r (omega (arith, count))) in
+      | inr beyond ↦
+          (let none : cut_of (record_of b series i s) r ≡ None =
+          ap (λ (o : Option (Option (List Bool))). unwrap_or (option_map (λ s. s) o) None)
+          (slice_get_past (put_sets (seniors_first b) s.cut (replicate (length b.rights) None)) r
+          (omega (arith, count))) in
           let never : None ≡ Some set = sym none ∙ e in cc)
     ]
 

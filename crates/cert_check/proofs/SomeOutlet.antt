@@ -14,7 +14,8 @@ use Rattle.water_model.proofs.Order.{Has, has-filter, numbers_from-has}
 use Rattle.cert_check.proofs.GoodMonth.{HasOutlet}
 
 -- without an outlet, water would rise without end
-endless : (b : Basin) → IsValidBasin b → (n : HasNumbers b.links) → ((v : ℕ) → v < length b.nodes → is_outlet b v ≡ false) → (k v : ℕ) → v < length b.nodes →
+endless : (b : Basin) → IsValidBasin b → (n : HasNumbers b.links) →
+    ((v : ℕ) → v < length b.nodes → is_outlet b v ≡ false) → (k v : ℕ) → v < length b.nodes →
     n.rank v + k ≤ total (length b.nodes) n.rank
 endless b valid n none zero v l = omega (arith, term_le_total (length b.nodes) n.rank v l)
 endless b valid n none (suc k) v l =
@@ -31,7 +32,10 @@ some_outlet b valid = by_list (outlets b) refl
 
     no_outlet : outlets b ≡ [] → (v : ℕ) → v < length b.nodes → is_outlet b v ≡ false
     no_outlet none v l = elim (cases_Bool (is_outlet b v)) [
-      | inl leaves ↦ absurd (empty (outlets b) v none (has-filter (λ n. is_outlet b n) (places_of b.nodes) v (numbers_from-has 0 (length b.nodes) v v l (omega arith)) leaves))
+      | inl leaves ↦
+          absurd (empty (outlets b) v none
+          (has-filter (λ n. is_outlet b n) (places_of b.nodes) v
+          (numbers_from-has 0 (length b.nodes) v v l (omega arith)) leaves))
       | inr stays ↦ stays
     ]
       where
@@ -40,5 +44,10 @@ some_outlet b valid = by_list (outlets b) refl
         empty (x ∷ xs) v e h = cc
 
     by_list : (xs : List ℕ) → outlets b ≡ xs → HasOutlet b
-    by_list [] e = absurd (omega (arith, endless b valid numbers (no_outlet e) (suc (total (length b.nodes) numbers.rank)) 0 valid.few.some_node))
+    by_list [] e =
+        absurd (omega (
+          arith,
+          endless b valid numbers (no_outlet e) (suc (total (length b.nodes) numbers.rank)) 0
+              valid.few.some_node,
+        ))
     by_list (x ∷ xs) e = record { first = x; others = xs; are = e }

@@ -1,5 +1,6 @@
 -- A book with one line more.
-use Rattle.std.proofs.Common.{◌≡◌, ℕ, ◌+◌, ◌*◌, ◌^◌, ◌<◌, ◌≤◌, true, false, refl, sym, ap, subst, ◌∙◌, arith, List, [], ◌∷◌, ◌++◌, length}
+use Rattle.std.proofs.Common.{◌≡◌, ℕ, ◌+◌, ◌*◌, ◌^◌, ◌<◌, ◌≤◌, true, false, refl, sym, ap, subst, ◌∙◌, arith, List, []}
+use Rattle.std.proofs.Common.{◌∷◌, ◌++◌, length}
 use Rattle.std.specs.Prelude.{Option, Some, None, Result, Ok, Err}
 use Rattle.std.specs.Option.{option_and_then}
 use Rattle.std.proofs.Math.Nat.{mul-le-mul}
@@ -29,22 +30,31 @@ use Rattle.cert_check.proofs.Verdicts.{verdict_says}
 
 -- A text has fewer lines than fit 64 bits.
 
-lines_left : (b : Basin) (items : List Item) (s after : Due) → due_after b s items ≡ Some after → length items + most_lines b after.dues ≤ most_lines b s.dues
+lines_left : (b : Basin) (items : List Item) (s after : Due) → due_after b s items ≡ Some after →
+    length items + most_lines b after.dues ≤ most_lines b s.dues
 lines_left b [] s after h = let same : Some s ≡ Some after = h in let is : s ≡ after = cc in rw is (omega arith)
-lines_left b (item ∷ items) s after h = by_step (step b s.must s.dues item) refl h (λ ds e. lines_left b items (record { must = is_call item; dues = ds }) after e)
+lines_left b (item ∷ items) s after h =
+    by_step (step b s.must s.dues item) refl h
+    (λ ds e. lines_left b items (record { must = is_call item; dues = ds }) after e)
   where
-    by_step : (o : Option (List Shape)) → step b s.must s.dues item ≡ o → option_and_then (λ dues. due_after b (record { must = is_call item; dues = dues }) items) o ≡ Some after →
-        ((ds : List Shape) → due_after b (record { must = is_call item; dues = ds }) items ≡ Some after → length items + most_lines b after.dues ≤ most_lines b ds) →
+    by_step : (o : Option (List Shape)) → step b s.must s.dues item ≡ o →
+        option_and_then (λ dues. due_after b (record { must = is_call item; dues = dues }) items) o ≡ Some after →
+        ((ds : List Shape) → due_after b (record { must = is_call item; dues = ds }) items ≡ Some after →
+        length items + most_lines b after.dues ≤ most_lines b ds) →
         length (item ∷ items) + most_lines b after.dues ≤ most_lines b s.dues
     by_step None e k further = cc
     by_step (Some ds) e k further = omega (arith, further ds k, step-fewer b s.must s.dues item ds e)
 
-pub few_lines : (b : Basin) (series : Inflows) (k : Book) (lines : List (List ℕ)) → IsValidBasin b → IsBookOf b series k lines → k.read + 1 < 2 ^ 64
+pub few_lines : (b : Basin) (series : Inflows) (k : Book) (lines : List (List ℕ)) → IsValidBasin b →
+    IsBookOf b series k lines → k.read + 1 < 2 ^ 64
 few_lines b series k lines valid s =
-    let stands : due_after b (all_due b) s.items ≡ Some k.reader.due = subst (λ (c : Basin). due_after c (all_due c) s.items ≡ Some k.reader.due) s.basin s.reader in
+    let stands : due_after b (all_due b) s.items ≡ Some k.reader.due =
+    subst (λ (c : Basin). due_after c (all_due c) s.items ≡ Some k.reader.due) s.basin s.reader in
     let left = lines_left b s.items (all_due b) k.reader.due stands in
     let run = most_of_run b (length (due_in_month b)) b.months (length b.nodes) (length b.rights) refl refl refl refl in
-    let fits = run_fits_more (length (due_in_month b)) b.months (length b.nodes) (length b.rights) (few_due b valid) valid.run.months.1 valid.few.nodes valid.few.rights in
+    let fits =
+    run_fits_more (length (due_in_month b)) b.months (length b.nodes) (length b.rights) (few_due b valid)
+    valid.run.months.1 valid.few.nodes valid.few.rights in
     omega (arith, left, run, fits, s.counts.read)
   where
     run_fits_more : (dues count nodes rights : ℕ) → dues ≤ 50000 → count ≤ 1200 → nodes ≤ 2000 → rights ≤ 2000 →
@@ -57,54 +67,75 @@ few_lines b series k lines valid s =
 
 -- The verdict with one line more.
 
-one_more : (b : Basin) (series : Inflows) (before : List Item) (lines : List (List ℕ)) (bytes : List ℕ) → verdict_from b series before (lines ++ bytes ∷ [])
-    ≡ ok_then (λ items. ok_then (λ item. Ok (items ++ item ∷ [])) (judge b series items bytes)) (verdict_from b series before lines)
+one_more : (b : Basin) (series : Inflows) (before : List Item) (lines : List (List ℕ)) (bytes : List ℕ) →
+    verdict_from b series before (lines ++ bytes ∷ [])
+    ≡ ok_then (λ items. ok_then (λ item. Ok (items ++ item ∷ [])) (judge b series items bytes))
+    (verdict_from b series before lines)
 one_more b series before [] bytes = refl
-one_more b series before (line ∷ lines) bytes = by_line (λ item. one_more b series (before ++ item ∷ []) lines bytes) (judge b series before line)
+one_more b series before (line ∷ lines) bytes =
+    by_line (λ item. one_more b series (before ++ item ∷ []) lines bytes) (judge b series before line)
   where
     by_line : ((item : Item) → verdict_from b series (before ++ item ∷ []) (lines ++ bytes ∷ [])
-        ≡ ok_then (λ items. ok_then (λ item. Ok (items ++ item ∷ [])) (judge b series items bytes)) (verdict_from b series (before ++ item ∷ []) lines)) →
-        (r : Result Item Refuted) → ok_then (λ item. verdict_from b series (before ++ item ∷ []) (lines ++ bytes ∷ [])) r
-        ≡ ok_then (λ items. ok_then (λ item. Ok (items ++ item ∷ [])) (judge b series items bytes)) (ok_then (λ item. verdict_from b series (before ++ item ∷ []) lines) r)
+        ≡ ok_then (λ items. ok_then (λ item. Ok (items ++ item ∷ [])) (judge b series items bytes))
+        (verdict_from b series (before ++ item ∷ []) lines)) →
+        (r : Result Item Refuted) →
+        ok_then (λ item. verdict_from b series (before ++ item ∷ []) (lines ++ bytes ∷ [])) r
+        ≡ ok_then (λ items. ok_then (λ item. Ok (items ++ item ∷ [])) (judge b series items bytes))
+        (ok_then (λ item. verdict_from b series (before ++ item ∷ []) lines) r)
     by_line further (Ok item) = further item
     by_line further (Err e) = refl
 
-pub still_refused : (b : Basin) (series : Inflows) (lines : List (List ℕ)) (bytes : List ℕ) (e : Refuted) → verdict_from b series [] lines ≡ Err e →
+pub still_refused : (b : Basin) (series : Inflows) (lines : List (List ℕ)) (bytes : List ℕ) (e : Refuted) →
+    verdict_from b series [] lines ≡ Err e →
     verdict_from b series [] (lines ++ bytes ∷ []) ≡ Err e
-still_refused b series lines bytes e h = one_more b series [] lines bytes ∙ ap (ok_then (λ items. ok_then (λ item. Ok (items ++ item ∷ [])) (judge b series items bytes))) h
+still_refused b series lines bytes e h =
+    one_more b series [] lines bytes
+    ∙ ap (ok_then (λ items. ok_then (λ item. Ok (items ++ item ∷ [])) (judge b series items bytes))) h
 
-pub line_judged : (b : Basin) (series : Inflows) (lines : List (List ℕ)) (bytes : List ℕ) (items : List Item) (r : Result Item Refuted) → verdict_from b series [] lines ≡ Ok items →
-    judge b series items bytes ≡ r → verdict_from b series [] (lines ++ bytes ∷ []) ≡ ok_then (λ item. Ok (items ++ item ∷ [])) r
+pub line_judged : (b : Basin) (series : Inflows) (lines : List (List ℕ)) (bytes : List ℕ) (items : List Item)
+    (r : Result Item Refuted) → verdict_from b series [] lines ≡ Ok items →
+    judge b series items bytes ≡ r →
+    verdict_from b series [] (lines ++ bytes ∷ []) ≡ ok_then (λ item. Ok (items ++ item ∷ [])) r
 line_judged b series lines bytes items r h j =
-    one_more b series [] lines bytes ∙ (ap (ok_then (λ items. ok_then (λ item. Ok (items ++ item ∷ [])) (judge b series items bytes))) h ∙ ap (ok_then (λ item. Ok (items ++ item ∷ []))) j)
+    one_more b series [] lines bytes
+    ∙ (ap (ok_then (λ items. ok_then (λ item. Ok (items ++ item ∷ [])) (judge b series items bytes))) h
+    ∙ ap (ok_then (λ item. Ok (items ++ item ∷ []))) j)
 
 -- what a line is judged by
-pub judged_ended : (b : Basin) (series : Inflows) (items : List Item) (bytes : List ℕ) → is_whole items ≡ true → judge b series items bytes ≡ Err (record { line = length items + 1; kind = kind.AfterEnd })
+pub judged_ended : (b : Basin) (series : Inflows) (items : List Item) (bytes : List ℕ) → is_whole items ≡ true →
+    judge b series items bytes ≡ Err (record { line = length items + 1; kind = kind.AfterEnd })
 unfolding judge
 judged_ended b series items bytes whole = rw whole refl
 
-pub judged_bad : (b : Basin) (series : Inflows) (items : List Item) (bytes : List ℕ) (why : BadLine) → is_whole items ≡ false → read_line b items bytes ≡ Err why →
+pub judged_bad : (b : Basin) (series : Inflows) (items : List Item) (bytes : List ℕ) (why : BadLine) →
+    is_whole items ≡ false → read_line b items bytes ≡ Err why →
     judge b series items bytes ≡ Err (record { line = length items + 1; kind = kind.BadLine })
 unfolding judge
 judged_bad b series items bytes why open_yet read = rw (open_yet, read) refl
 
-pub judged_item : (b : Basin) (series : Inflows) (items : List Item) (bytes : List ℕ) (item : Item) → is_whole items ≡ false → read_line b items bytes ≡ Ok item →
+pub judged_item : (b : Basin) (series : Inflows) (items : List Item) (bytes : List ℕ) (item : Item) →
+    is_whole items ≡ false → read_line b items bytes ≡ Ok item →
     judge b series items bytes ≡ judge_row items item (first_row b series (told_by b series items) item)
 unfolding judge
 judged_item b series items bytes item open_yet read = rw (open_yet, read) refl
 
 -- what is known of a line that is read
-pub line_comes : (b : Basin) (series : Inflows) (lines : List (List ℕ)) (bytes : List ℕ) (items : List Item) (item : Item) → IsValidBasin b → IsSeriesOf b series →
-    verdict_from b series [] lines ≡ Ok items → read_line b items bytes ≡ Ok item → MayCome b series (told_by b series items) item
+pub line_comes : (b : Basin) (series : Inflows) (lines : List (List ℕ)) (bytes : List ℕ) (items : List Item)
+    (item : Item) → IsValidBasin b → IsSeriesOf b series →
+    verdict_from b series [] lines ≡ Ok items → read_line b items bytes ≡ Ok item →
+    MayCome b series (told_by b series items) item
 line_comes b series lines bytes items item valid fits h read =
     let said = verdict_says b valid series [] items lines h in
     let front = ((fronts_are_accepted b items bytes item valid).0 read).2 in
     may_come b valid series fits items item (rw said.are said.good) front
 
 -- a line that is taken, or refused by a row
-pub took : (b : Basin) (series : Inflows) (k : Book) (lines : List (List ℕ)) (bytes : List ℕ) (items : List Item) (item : Item) (result : Result (Unit {0}) Refuted) →
-    verdict_from b series [] lines ≡ Ok items → judge b series items bytes ≡ judge_row items item (first_row b series (told_by b series items) item) →
-    k.reader.basin ≡ b → reader.StandsFor k.reader (items ++ item ∷ []) → TakesItem b series k items item result → TakesLine b series k (lines ++ bytes ∷ []) result
+pub took : (b : Basin) (series : Inflows) (k : Book) (lines : List (List ℕ)) (bytes : List ℕ) (items : List Item)
+    (item : Item) (result : Result (Unit {0}) Refuted) →
+    verdict_from b series [] lines ≡ Ok items →
+    judge b series items bytes ≡ judge_row items item (first_row b series (told_by b series items) item) →
+    k.reader.basin ≡ b → reader.StandsFor k.reader (items ++ item ∷ []) → TakesItem b series k items item result →
+    TakesLine b series k (lines ++ bytes ∷ []) result
 took b series k lines bytes items item (Ok done) good judged basin stands (none, keeps, counts) = record {
   items = items ++ item ∷ [];
   verdict = line_judged b series lines bytes items (Ok item) good (judged ∙ ap (judge_row items item) none);
@@ -113,32 +144,37 @@ took b series k lines bytes items item (Ok done) good judged basin stands (none,
   account = keeps;
   counts = counts;
 }
-took b series k lines bytes items item (Err e) good judged basin stands refuted = line_judged b series lines bytes items (Err e) good (judged ∙ refuted)
+took b series k lines bytes items item (Err e) good judged basin stands refuted =
+    line_judged b series lines bytes items (Err e) good (judged ∙ refuted)
 
 -- The whole checker.
 
-pub refusal_is : (c : CheckerSeen) (lines : List (List ℕ)) (e : Refuted) → c.refused ≡ Some e → StandsFor c lines → verdict_from c.basin c.series [] lines ≡ Err e
+pub refusal_is : (c : CheckerSeen) (lines : List (List ℕ)) (e : Refuted) → c.refused ≡ Some e → StandsFor c lines →
+    verdict_from c.basin c.series [] lines ≡ Err e
 refusal_is c lines e is stands = by_refused c.refused is stands
   where
     by_refused : (o : Option Refuted) → o ≡ Some e → Stands o c lines → verdict_from c.basin c.series [] lines ≡ Err e
     by_refused None is h = cc
     by_refused (Some other) is h = let same : other ≡ e = cc in h ∙ ap Err same
 
-pub refusal_stands : (c : CheckerSeen) (lines : List (List ℕ)) (e : Refuted) → c.refused ≡ Some e → verdict_from c.basin c.series [] lines ≡ Err e → StandsFor c lines
+pub refusal_stands : (c : CheckerSeen) (lines : List (List ℕ)) (e : Refuted) → c.refused ≡ Some e →
+    verdict_from c.basin c.series [] lines ≡ Err e → StandsFor c lines
 refusal_stands c lines e is h = by_refused c.refused is
   where
     by_refused : (o : Option Refuted) → o ≡ Some e → Stands o c lines
     by_refused None is = cc
     by_refused (Some other) is = let same : other ≡ e = cc in h ∙ ap Err (sym same)
 
-pub good_is : (c : CheckerSeen) (lines : List (List ℕ)) → c.refused ≡ None → StandsFor c lines → IsBookOf c.basin c.series c.book lines
+pub good_is : (c : CheckerSeen) (lines : List (List ℕ)) → c.refused ≡ None → StandsFor c lines →
+    IsBookOf c.basin c.series c.book lines
 good_is c lines is stands = by_refused c.refused is stands
   where
     by_refused : (o : Option Refuted) → o ≡ None → Stands o c lines → IsBookOf c.basin c.series c.book lines
     by_refused None is h = h
     by_refused (Some e) is h = cc
 
-pub good_stands : (c : CheckerSeen) (lines : List (List ℕ)) → c.refused ≡ None → IsBookOf c.basin c.series c.book lines → StandsFor c lines
+pub good_stands : (c : CheckerSeen) (lines : List (List ℕ)) → c.refused ≡ None →
+    IsBookOf c.basin c.series c.book lines → StandsFor c lines
 good_stands c lines is h = by_refused c.refused is
   where
     by_refused : (o : Option Refuted) → o ≡ None → Stands o c lines

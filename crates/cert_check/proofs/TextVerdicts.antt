@@ -1,5 +1,6 @@
 -- The verdict on the pieces of a text, one after the other.
-use Rattle.std.proofs.Common.{◌≡◌, ℕ, ◌+◌, ◌-◌, ◌<◌, ◌≤◌, Bool, true, false, refl, ap, ◌∙◌, arith, List, [], ◌∷◌, ◌++◌, length, take, length-append}
+use Rattle.std.proofs.Common.{◌≡◌, ℕ, ◌+◌, ◌-◌, ◌<◌, ◌≤◌, Bool, true, false, refl, ap, ◌∙◌, arith, List, [], ◌∷◌, ◌++◌}
+use Rattle.std.proofs.Common.{length, take, length-append}
 use Rattle.std.specs.Prelude.{Result, Ok, Err, nat_lt, slice_index_or, if◌then◌else◌}
 use Rattle.std.proofs.Math.Seq.{take-append_seam, take-append-add}
 use Rattle.std.proofs.lemmas.Bool.Decides.{nat_tests}
@@ -12,18 +13,22 @@ use Rattle.cert_check.specs.declared.refuted.Refuted.{Refuted}
 
 -- A refusal stands, whatever lines come behind.
 
-refused : (b : Basin) (series : Inflows) (before : List Item) (xs ys : List (List ℕ)) (e : Refuted) → verdict_from b series before xs ≡ Err e →
+refused : (b : Basin) (series : Inflows) (before : List Item) (xs ys : List (List ℕ)) (e : Refuted) →
+    verdict_from b series before xs ≡ Err e →
     verdict_from b series before (xs ++ ys) ≡ Err e
 refused b series before [] ys e h = let never : Ok before ≡ Err e = h in cc
-refused b series before (x ∷ xs) ys e h = by_line (judge b series before x) h (λ i k. refused b series (before ++ i ∷ []) xs ys e k)
+refused b series before (x ∷ xs) ys e h =
+    by_line (judge b series before x) h (λ i k. refused b series (before ++ i ∷ []) xs ys e k)
   where
     by_line : (r : Result Item Refuted) → ok_then (λ item. verdict_from b series (before ++ item ∷ []) xs) r ≡ Err e →
-        ((i : Item) → verdict_from b series (before ++ i ∷ []) xs ≡ Err e → verdict_from b series (before ++ i ∷ []) (xs ++ ys) ≡ Err e) →
+        ((i : Item) → verdict_from b series (before ++ i ∷ []) xs ≡ Err e →
+        verdict_from b series (before ++ i ∷ []) (xs ++ ys) ≡ Err e) →
         ok_then (λ item. verdict_from b series (before ++ item ∷ []) (xs ++ ys)) r ≡ Err e
     by_line (Ok i) k further = further i k
     by_line (Err why) k further = k
 
-pub refused_text : (b : Basin) (series : Inflows) (xs ys : List (List ℕ)) (rest : List ℕ) (e : Refuted) → verdict_from b series [] xs ≡ Err e →
+pub refused_text : (b : Basin) (series : Inflows) (xs ys : List (List ℕ)) (rest : List ℕ) (e : Refuted) →
+    verdict_from b series [] xs ≡ Err e →
     verdict b series (xs ++ ys) rest ≡ Err e
 refused_text b series xs ys rest e h = ap (ok_then (verdict_at_end rest)) (refused b series [] xs ys e h)
 
@@ -44,9 +49,11 @@ front-end xs x = ap (λ n. take n (xs ++ x ∷ [])) (one_less xs x) ∙ take-app
 
 -- a rest that counts as a line
 pub long_rest : (b : Basin) (series : Inflows) (lines : List (List ℕ)) (rest : List ℕ) → 128 < length rest →
-    verdict b series (lines_of_pieces (lines ++ rest ∷ [])) (rest_of_pieces (lines ++ rest ∷ [])) ≡ verdict b series (lines ++ rest ∷ []) []
+    verdict b series (lines_of_pieces (lines ++ rest ∷ [])) (rest_of_pieces (lines ++ rest ∷ [])) ≡ verdict b series
+    (lines ++ rest ∷ []) []
 long_rest b series lines rest h =
-    let long : is_line (behind_last (lines ++ rest ∷ [])) ≡ true = ap is_line (behind_last-end lines rest) ∙ passes (length rest) h in
+    let long : is_line (behind_last (lines ++ rest ∷ [])) ≡ true =
+    ap is_line (behind_last-end lines rest) ∙ passes (length rest) h in
     rw long refl
   where
     passes : (n : ℕ) → 128 < n → nat_lt 128 n ≡ true
@@ -54,30 +61,36 @@ long_rest b series lines rest h =
 
 -- and one that doesn't
 pub short_rest : (b : Basin) (series : Inflows) (lines : List (List ℕ)) (rest : List ℕ) → length rest ≤ 128 →
-    verdict b series (lines_of_pieces (lines ++ rest ∷ [])) (rest_of_pieces (lines ++ rest ∷ [])) ≡ verdict b series lines rest
+    verdict b series (lines_of_pieces (lines ++ rest ∷ [])) (rest_of_pieces (lines ++ rest ∷ [])) ≡ verdict b series
+    lines rest
 short_rest b series lines rest h =
-    let short : is_line (behind_last (lines ++ rest ∷ [])) ≡ false = ap is_line (behind_last-end lines rest) ∙ fails (length rest) h in
+    let short : is_line (behind_last (lines ++ rest ∷ [])) ≡ false =
+    ap is_line (behind_last-end lines rest) ∙ fails (length rest) h in
     rw (short, front-end lines rest, behind_last-end lines rest) refl
   where
     fails : (n : ℕ) → n ≤ 128 → nat_lt 128 n ≡ false
     fails n h = grind (arith, nat_tests)
 
 -- the pieces in front of others are lines
-front_lines : (front more : List (List ℕ)) → 0 < length more → (behind : List (List ℕ)) × (lines_of_pieces (front ++ more) ≡ front ++ behind)
+front_lines : (front more : List (List ℕ)) → 0 < length more → (behind : List (List ℕ)) ×
+    (lines_of_pieces (front ++ more) ≡ front ++ behind)
 front_lines front more some = by_test (is_line (behind_last (front ++ more)))
   where
     cut : take (length (front ++ more) - 1) (front ++ more) ≡ front ++ take (length more - 1) more
     cut =
-        let place : length (front ++ more) - 1 ≡ length front + (length more - 1) = omega (arith, length-append front more) in
+        let place : length (front ++ more) - 1 ≡ length front + (length more - 1) =
+        omega (arith, length-append front more) in
         ap (λ n. take n (front ++ more)) place ∙ take-append-add front more (length more - 1)
 
-    by_test : (t : Bool) → (behind : List (List ℕ)) × ((if t then front ++ more else take (length (front ++ more) - 1) (front ++ more)) ≡ front ++ behind)
+    by_test : (t : Bool) → (behind : List (List ℕ)) ×
+        ((if t then front ++ more else take (length (front ++ more) - 1) (front ++ more)) ≡ front ++ behind)
     by_test true = (more, refl)
     by_test false = (take (length more - 1) more, cut)
 
 -- a text is refused where lines in its front are
 pub front_refused : (b : Basin) (series : Inflows) (bytes : List ℕ) (front more : List (List ℕ)) (e : Refuted) →
-    pieces_of bytes ≡ front ++ more → 0 < length more → verdict_from b series [] front ≡ Err e → text_verdict b series bytes ≡ Err e
+    pieces_of bytes ≡ front ++ more → 0 < length more → verdict_from b series [] front ≡ Err e →
+    text_verdict b series bytes ≡ Err e
 front_refused b series bytes front more e is some h =
     let lines = front_lines front more some in
     ap (λ ls. verdict b series ls (rest_of_pieces (pieces_of bytes))) (ap lines_of_pieces is ∙ lines.1)

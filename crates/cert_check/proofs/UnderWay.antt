@@ -1,6 +1,8 @@
 -- What the lines of a month tell stays within bounds.
-use Rattle.std.proofs.Common.{◌≡◌, ℕ, zero, suc, ◌^◌, ◌<◌, ◌≤◌, Bool, true, false, refl, sym, ap, ◌∙◌, arith, inl, inr, List, [], ◌∷◌, length, map, fold, replicate}
-use Rattle.std.specs.Prelude.{Option, Some, None, ◌&&◌, ◌||◌, ◌==◌, not, min, nat_lt, is_some, slice_index, slice_get, slice_set, unwrap_or, option_map, if◌then◌else◌}
+use Rattle.std.proofs.Common.{◌≡◌, ℕ, zero, suc, ◌^◌, ◌<◌, ◌≤◌, Bool, true, false, refl, sym, ap, ◌∙◌, arith, inl, inr}
+use Rattle.std.proofs.Common.{List, [], ◌∷◌, length, map, fold, replicate}
+use Rattle.std.specs.Prelude.{Option, Some, None, ◌&&◌, ◌||◌, ◌==◌, not, min, nat_lt, is_some, slice_index, slice_get}
+use Rattle.std.specs.Prelude.{slice_set, unwrap_or, option_map, if◌then◌else◌}
 use Rattle.std.specs.List.{list_all}
 use Rattle.std.proofs.lemmas.Bool.{cases_lt}
 use Rattle.std.proofs.lemmas.Bool.Decides.{nat_tests}
@@ -58,14 +60,16 @@ pub record InMonth (b : Basin) (before : List MonthRecord) (i : ℕ) (t : Told) 
 
 -- one number of a list changes
 
-set_below : (xs : List ℕ) (i v : ℕ) (most : ℕ → ℕ) → ((k : ℕ) → slice_index xs k ≤ most k) → v ≤ most i → (k : ℕ) → slice_index (slice_set xs i v) k ≤ most k
+set_below : (xs : List ℕ) (i v : ℕ) (most : ℕ → ℕ) → ((k : ℕ) → slice_index xs k ≤ most k) → v ≤ most i → (k : ℕ) →
+    slice_index (slice_set xs i v) k ≤ most k
 set_below [] i v most h l k = h k
 set_below (x ∷ xs) zero v most h l zero = l
 set_below (x ∷ xs) zero v most h l (suc k) = h (suc k)
 set_below (x ∷ xs) (suc i) v most h l zero = h zero
 set_below (x ∷ xs) (suc i) v most h l (suc k) = set_below xs i v (λ j. most (suc j)) (λ j. h (suc j)) l k
 
-set_above : (xs : List ℕ) (i v : ℕ) (least : ℕ → ℕ) → ((k : ℕ) → least k ≤ slice_index xs k) → least i ≤ v → (k : ℕ) → least k ≤ slice_index (slice_set xs i v) k
+set_above : (xs : List ℕ) (i v : ℕ) (least : ℕ → ℕ) → ((k : ℕ) → least k ≤ slice_index xs k) → least i ≤ v → (k : ℕ) →
+    least k ≤ slice_index (slice_set xs i v) k
 set_above [] i v least h l k = h k
 set_above (x ∷ xs) zero v least h l zero = l
 set_above (x ∷ xs) zero v least h l (suc k) = h (suc k)
@@ -77,10 +81,12 @@ at_most x y h = grind (arith, nat_tests)
 
 -- Bounds on what the rows allow.
 
-evaporated_most : (b : Basin) (v storage place : ℕ) → of_entry b.reservoirs v (λ r. evaporation r.area storage (slice_index r.rate place)) 0 ≤ storage
+evaporated_most : (b : Basin) (v storage place : ℕ) →
+    of_entry b.reservoirs v (λ r. evaporation r.area storage (slice_index r.rate place)) 0 ≤ storage
 evaporated_most b v storage place = by_entry (slice_get b.reservoirs v)
   where
-    by_entry : (o : Option Reservoir) → unwrap_or (option_map (λ r. evaporation r.area storage (slice_index r.rate place)) o) 0 ≤ storage
+    by_entry : (o : Option Reservoir) →
+        unwrap_or (option_map (λ r. evaporation r.area storage (slice_index r.rate place)) o) 0 ≤ storage
     by_entry None = omega arith
     by_entry (Some r) = omega arith
 
@@ -90,15 +96,18 @@ carried_most b valid i e l = elim (cases_lt e (length b.links)) [
   | inr past ↦ rw (slice_get_past b.links e past) (omega arith)
 ]
 
-wanted_most : (b : Basin) → IsValidBasin b → (series : Inflows) → IsSeriesOf b series → (i r used : ℕ) → want_of b series r i used ≤ 10 ^ 9
+wanted_most : (b : Basin) → IsValidBasin b → (series : Inflows) → IsSeriesOf b series → (i r used : ℕ) →
+    want_of b series r i used ≤ 10 ^ 9
 wanted_most b valid series fits i r used = elim (cases_lt r (length b.rights)) [
   | inl within ↦ want_most b series r i used valid fits within
   | inr past ↦ rw (slice_get_past b.rights r past) (omega arith)
 ]
 
-amount_most : (link : Option ℕ) (flow : List ℕ) (amount want : ℕ) → amount_wrong link flow amount want ≡ false → amount ≤ want
+amount_most : (link : Option ℕ) (flow : List ℕ) (amount want : ℕ) → amount_wrong link flow amount want ≡ false →
+    amount ≤ want
 amount_most None flow amount want h = at_most want amount h
-amount_most (Some link) flow amount want h = (let e = is_same amount (min want (slice_index flow link)) h in omega arith)
+amount_most (Some link) flow amount want h =
+    (let e = is_same amount (min want (slice_index flow link)) h in omega arith)
 
 taken_most : (p : Bool) (amount most : ℕ) → amount ≤ most → (if p then amount else 0) ≤ most
 taken_most true amount most h = h
@@ -109,8 +118,10 @@ both_fail true q h = (refl, h)
 both_fail false q h = cc
 
 -- one line more
-pub in_month_more : (b : Basin) → IsValidBasin b → (series : Inflows) → IsSeriesOf b series → (before : List MonthRecord) (i : ℕ) → i ≡ length before → i < b.months → (t : Told) (item : Item) →
-    is_amid item ≡ true → NoneHolds (rows b series t item) → InMonth b before i t → InMonth b before i (tell b series t item)
+pub in_month_more : (b : Basin) → IsValidBasin b → (series : Inflows) → IsSeriesOf b series →
+    (before : List MonthRecord) (i : ℕ) → i ≡ length before → i < b.months → (t : Told) (item : Item) →
+    is_amid item ≡ true → NoneHolds (rows b series t item) → InMonth b before i t →
+    InMonth b before i (tell b series t item)
 in_month_more b valid series fits before i at l t line.Title h n m = m
 in_month_more b valid series fits before i at l t (line.Run first months) h n m = m
 in_month_more b valid series fits before i at l t (line.Month month) h n m = (let never : false ≡ true = h in cc)
@@ -123,8 +134,12 @@ in_month_more b valid series fits before i at l t (line.Amount quantity.Opening 
       index = m.index;
       month = m.month;
       bounded = record {
-        opening = set_below t.now.opening v amount (λ k. slice_index (opening_after b before) k) m.bounded.opening (omega (arith, is));
-        evaporated = set_above t.now.opening v amount (λ k. slice_index t.now.evaporated k) m.bounded.evaporated (omega (arith, is, m.bounded.evaporated v, m.bounded.opening v));
+        opening =
+            set_below t.now.opening v amount (λ k. slice_index (opening_after b before) k) m.bounded.opening
+            (omega (arith, is));
+        evaporated =
+            set_above t.now.opening v amount (λ k. slice_index t.now.evaporated k) m.bounded.evaporated
+            (omega (arith, is, m.bounded.evaporated v, m.bounded.opening v));
         returned = m.bounded.returned;
         flow = m.bounded.flow;
         take = m.bounded.take;
@@ -142,7 +157,9 @@ in_month_more b valid series fits before i at l t (line.Amount quantity.Evaporat
       month = m.month;
       bounded = record {
         opening = m.bounded.opening;
-        evaporated = set_below t.now.evaporated v amount (λ k. slice_index t.now.opening k) m.bounded.evaporated (omega (arith, is, evaporated_most b v (slice_index t.now.opening v) (in_year b t.now.index)));
+        evaporated =
+            set_below t.now.evaporated v amount (λ k. slice_index t.now.opening k) m.bounded.evaporated
+            (omega (arith, is, evaporated_most b v (slice_index t.now.opening v) (in_year b t.now.index)));
         returned = m.bounded.returned;
         flow = m.bounded.flow;
         take = m.bounded.take;
@@ -151,7 +168,8 @@ in_month_more b valid series fits before i at l t (line.Amount quantity.Evaporat
     }
 in_month_more b valid series fits before i at l t (line.Amount quantity.Returned k amount) h n m =
     let is = is_same amount (returned_at b (map (λ m. m.delivered) t.months) k t.now.index) n.1.1.1.1.0 in
-    let same : returned_at b (map (λ m. m.delivered) t.months) k t.now.index ≡ returned_at b (map (λ m. m.delivered) before) k (length before) = rw (m.months, m.index, at) refl in
+    let same : returned_at b (map (λ m. m.delivered) t.months) k t.now.index ≡ returned_at b
+    (map (λ m. m.delivered) before) k (length before) = rw (m.months, m.index, at) refl in
     record {
       months = m.months;
       index = m.index;
@@ -159,7 +177,9 @@ in_month_more b valid series fits before i at l t (line.Amount quantity.Returned
       bounded = record {
         opening = m.bounded.opening;
         evaporated = m.bounded.evaporated;
-        returned = set_below t.now.returned k amount (λ j. returned_at b (map (λ m. m.delivered) before) j (length before)) m.bounded.returned (omega (arith, is, same));
+        returned =
+            set_below t.now.returned k amount (λ j. returned_at b (map (λ m. m.delivered) before) j (length before))
+            m.bounded.returned (omega (arith, is, same));
         flow = m.bounded.flow;
         take = m.bounded.take;
         delivered = m.bounded.delivered;
@@ -169,7 +189,16 @@ in_month_more b valid series fits before i at l t (line.Amount quantity.Used r a
   months = m.months;
   index = m.index;
   month = m.month;
-  bounded = record { opening = m.bounded.opening; evaporated = m.bounded.evaporated; returned = m.bounded.returned; flow = m.bounded.flow; take = m.bounded.take; delivered = m.bounded.delivered };
+  bounded =
+      record {
+        opening = m.bounded.opening;
+        evaporated = m.bounded.evaporated;
+        returned = m.bounded.returned;
+        flow =
+            m.bounded.flow;
+        take = m.bounded.take;
+        delivered = m.bounded.delivered;
+      };
 }
 in_month_more b valid series fits before i at l t (line.Amount quantity.Flow e amount) h n m =
     let most = at_most (carry_of b t.now.month e) amount n.1.1.1.1.0 in
@@ -182,7 +211,8 @@ in_month_more b valid series fits before i at l t (line.Amount quantity.Flow e a
         opening = m.bounded.opening;
         evaporated = m.bounded.evaporated;
         returned = m.bounded.returned;
-        flow = set_below t.now.plan.flow e amount (λ k. 10 ^ 15) m.bounded.flow (omega (arith, most, same, carried_most b valid i e l));
+        flow = set_below t.now.plan.flow e amount (λ k. 10 ^ 15) m.bounded.flow
+            (omega (arith, most, same, carried_most b valid i e l));
         take = m.bounded.take;
         delivered = m.bounded.delivered;
       };
@@ -191,7 +221,13 @@ in_month_more b valid series fits before i at l t (line.Deliver r amount want) h
     let two = both_fail (want == want_of b series r t.now.index (slice_index t.now.used r))
     (amount_wrong (instream_link b r) t.now.plan.flow amount want) n.1.1.1.1.0 in
     let is = equal want (want_of b series r t.now.index (slice_index t.now.used r)) two.0 in
-    let small : amount ≤ 10 ^ 9 = omega (arith, is, wanted_most b valid series fits t.now.index r (slice_index t.now.used r), amount_most (instream_link b r) t.now.plan.flow amount want two.1) in
+    let small : amount ≤ 10 ^ 9 =
+    omega (
+      arith,
+      is,
+      wanted_most b valid series fits t.now.index r (slice_index t.now.used r),
+      amount_most (instream_link b r) t.now.plan.flow amount want two.1,
+    ) in
     record {
       months = m.months;
       index = m.index;
@@ -201,7 +237,8 @@ in_month_more b valid series fits before i at l t (line.Deliver r amount want) h
         evaporated = m.bounded.evaporated;
         returned = m.bounded.returned;
         flow = m.bounded.flow;
-        take = set_below t.now.plan.take r (if is_some (taking_node b r) then amount else 0) (λ k. 10 ^ 9) m.bounded.take (taken_most (is_some (taking_node b r)) amount (10 ^ 9) small);
+        take = set_below t.now.plan.take r (if is_some (taking_node b r) then amount else 0) (λ k. 10 ^ 9)
+            m.bounded.take (taken_most (is_some (taking_node b r)) amount (10 ^ 9) small);
         delivered = set_below t.now.delivered r amount (λ k. 10 ^ 9) m.bounded.delivered small;
       };
     }
@@ -212,13 +249,31 @@ in_month_more b valid series fits before i at l t (line.Amount quantity.Outflow 
   months = m.months;
   index = m.index;
   month = m.month;
-  bounded = record { opening = m.bounded.opening; evaporated = m.bounded.evaporated; returned = m.bounded.returned; flow = m.bounded.flow; take = m.bounded.take; delivered = m.bounded.delivered };
+  bounded =
+      record {
+        opening = m.bounded.opening;
+        evaporated = m.bounded.evaporated;
+        returned = m.bounded.returned;
+        flow =
+            m.bounded.flow;
+        take = m.bounded.take;
+        delivered = m.bounded.delivered;
+      };
 }
 in_month_more b valid series fits before i at l t (line.Call r) h n m = record {
   months = m.months;
   index = m.index;
   month = m.month;
-  bounded = record { opening = m.bounded.opening; evaporated = m.bounded.evaporated; returned = m.bounded.returned; flow = m.bounded.flow; take = m.bounded.take; delivered = m.bounded.delivered };
+  bounded =
+      record {
+        opening = m.bounded.opening;
+        evaporated = m.bounded.evaporated;
+        returned = m.bounded.returned;
+        flow =
+            m.bounded.flow;
+        take = m.bounded.take;
+        delivered = m.bounded.delivered;
+      };
 }
 in_month_more b valid series fits before i at l t (line.Member k) h n m = by_call t.calling
   where
@@ -228,32 +283,55 @@ in_month_more b valid series fits before i at l t (line.Member k) h n m = by_cal
       months = m.months;
       index = m.index;
       month = m.month;
-      bounded = record { opening = m.bounded.opening; evaporated = m.bounded.evaporated; returned = m.bounded.returned; flow = m.bounded.flow; take = m.bounded.take; delivered = m.bounded.delivered };
+      bounded =
+          record {
+            opening = m.bounded.opening;
+            evaporated = m.bounded.evaporated;
+            returned = m.bounded.returned;
+            flow =
+                m.bounded.flow;
+            take = m.bounded.take;
+            delivered = m.bounded.delivered;
+          };
     }
-in_month_more b valid series fits before i at l t (line.Called r caller) h n m = record { months = m.months; index = m.index; month = m.month; bounded = m.bounded }
+in_month_more b valid series fits before i at l t (line.Called r caller) h n m =
+    record { months = m.months; index = m.index; month = m.month; bounded = m.bounded }
 in_month_more b valid series fits before i at l t (line.Amount quantity.Closing v amount) h n m = record {
   months = m.months;
   index = m.index;
   month = m.month;
-  bounded = record { opening = m.bounded.opening; evaporated = m.bounded.evaporated; returned = m.bounded.returned; flow = m.bounded.flow; take = m.bounded.take; delivered = m.bounded.delivered };
+  bounded =
+      record {
+        opening = m.bounded.opening;
+        evaporated = m.bounded.evaporated;
+        returned = m.bounded.returned;
+        flow =
+            m.bounded.flow;
+        take = m.bounded.take;
+        delivered = m.bounded.delivered;
+      };
 }
 in_month_more b valid series fits before i at l t line.End h n m = (let never : false ≡ true = h in cc)
 in_month_more b valid series fits before i at l t (line.Done months) h n m = m
 
 -- all lines of a month so far
-pub in_month : (b : Basin) → IsValidBasin b → (series : Inflows) → IsSeriesOf b series → (before : List MonthRecord) (i : ℕ) → i ≡ length before → i < b.months → (xs : List Item) (t : Told) →
-    list_all is_amid xs ≡ true → AreGood b series t xs → InMonth b before i t → InMonth b before i (fold (tell b series) t xs)
+pub in_month : (b : Basin) → IsValidBasin b → (series : Inflows) → IsSeriesOf b series →
+    (before : List MonthRecord) (i : ℕ) → i ≡ length before → i < b.months → (xs : List Item) (t : Told) →
+    list_all is_amid xs ≡ true → AreGood b series t xs → InMonth b before i t →
+    InMonth b before i (fold (tell b series) t xs)
 in_month b valid series fits before i at l [] t h g m = m
 in_month b valid series fits before i at l (x ∷ xs) t h g m =
     let two = parts (is_amid x) (list_all is_amid xs) h in
-    in_month b valid series fits before i at l xs (tell b series t x) two.1 g.1 (in_month_more b valid series fits before i at l t x two.0 g.0 m)
+    in_month b valid series fits before i at l xs (tell b series t x) two.1 g.1
+    (in_month_more b valid series fits before i at l t x two.0 g.0 m)
   where
     parts : (p q : Bool) → p && q ≡ true → (p ≡ true) × (q ≡ true)
     parts true q e = (refl, e)
     parts false q e = cc
 
 -- a month begins
-pub month_begins : (b : Basin) (series : Inflows) (before : List MonthRecord) (i : ℕ) (t : Told) → i ≡ length before → t.months ≡ before →
+pub month_begins : (b : Basin) (series : Inflows) (before : List MonthRecord) (i : ℕ) (t : Told) → i ≡ length before →
+    t.months ≡ before →
     InMonth b before i (tell b series t (line.Month (run_month b i)))
 month_begins b series before i t at months = record {
   months = months;
@@ -271,7 +349,8 @@ month_begins b series before i t at months = record {
 
 -- No `called` line so far.
 
-uncalled_more : (b : Basin) (series : Inflows) (t : Told) (item : Item) → is_before_called item ≡ true → (tell b series t item).called ≡ t.called
+uncalled_more : (b : Basin) (series : Inflows) (t : Told) (item : Item) → is_before_called item ≡ true →
+    (tell b series t item).called ≡ t.called
 uncalled_more b series t line.Title h = refl
 uncalled_more b series t (line.Run first months) h = refl
 uncalled_more b series t (line.Month month) h = (let never : false ≡ true = h in cc)
@@ -287,7 +366,8 @@ uncalled_more b series t (line.Called r caller) h = (let never : false ≡ true 
 uncalled_more b series t line.End h = refl
 uncalled_more b series t (line.Done months) h = refl
 
-pub uncalled : (b : Basin) (series : Inflows) (xs : List Item) (t : Told) → list_all is_before_called xs ≡ true → (fold (tell b series) t xs).called ≡ t.called
+pub uncalled : (b : Basin) (series : Inflows) (xs : List Item) (t : Told) → list_all is_before_called xs ≡ true →
+    (fold (tell b series) t xs).called ≡ t.called
 uncalled b series [] t h = refl
 uncalled b series (x ∷ xs) t h =
     let two = parts (is_before_called x) (list_all is_before_called xs) h in
@@ -307,10 +387,12 @@ pub record IsFree (r : ℕ) (t : Told) : Type 0 where
   pub none : cut_of t.now r ≡ None
   pub other : t.calling ≡ Some r → ⊥
 
-free_more : (b : Basin) (series : Inflows) (r : ℕ) (t : Told) (item : Item) → no_call r item ≡ true → IsFree r t → IsFree r (tell b series t item)
+free_more : (b : Basin) (series : Inflows) (r : ℕ) (t : Told) (item : Item) → no_call r item ≡ true → IsFree r t →
+    IsFree r (tell b series t item)
 free_more b series r t line.Title h f = f
 free_more b series r t (line.Run first months) h f = f
-free_more b series r t (line.Month month) h f = record { none = no_sets (length b.rights) r; other = λ e. (let never : None ≡ Some r = e in cc) }
+free_more b series r t (line.Month month) h f =
+    record { none = no_sets (length b.rights) r; other = λ e. (let never : None ≡ Some r = e in cc) }
   where
     no_sets : (n r : ℕ) → of_entry (replicate {A = Option (List Bool)} n None) r (λ s. s) None ≡ None
     no_sets zero r = refl
@@ -320,7 +402,8 @@ free_more b series r t (line.Amount q entry amount) h f = record {
   none = ap (λ cuts. set_of cuts r) (cuts_with q t.now (slice_set (amounts_of q t.now) entry amount)) ∙ f.none;
   other = λ e. (let never : None ≡ Some r = e in cc);
 }
-free_more b series r t (line.Deliver s amount want) h f = record { none = f.none; other = λ e. (let never : None ≡ Some r = e in cc) }
+free_more b series r t (line.Deliver s amount want) h f =
+    record { none = f.none; other = λ e. (let never : None ≡ Some r = e in cc) }
 free_more b series r t (line.Call s) h f = record {
   none = set_apart t.now.cuts s r (Some (replicate (length b.nodes) false)) (λ e. apart s r h (sym e)) ∙ f.none;
   other = λ e. (let same : Some s ≡ Some r = e in let is : s ≡ r = cc in apart s r h is);
@@ -333,14 +416,17 @@ free_more b series r t (line.Member n) h f = by_call t.calling refl
     by_call : (o : Option ℕ) → t.calling ≡ o → IsFree r (with_member t o n)
     by_call None e = f
     by_call (Some right) e = record {
-      none = set_apart t.now.cuts right r (option_map (λ set. slice_set set n true) (cut_of t.now right)) (λ is. f.other (e ∙ ap (λ (x : ℕ). Some x) (sym is))) ∙ f.none;
+      none = set_apart t.now.cuts right r (option_map (λ set. slice_set set n true) (cut_of t.now right))
+          (λ is. f.other (e ∙ ap (λ (x : ℕ). Some x) (sym is))) ∙ f.none;
       other = f.other;
     }
-free_more b series r t (line.Called s caller) h f = record { none = f.none; other = λ e. (let never : None ≡ Some r = e in cc) }
+free_more b series r t (line.Called s caller) h f =
+    record { none = f.none; other = λ e. (let never : None ≡ Some r = e in cc) }
 free_more b series r t line.End h f = record { none = f.none; other = λ e. (let never : None ≡ Some r = e in cc) }
 free_more b series r t (line.Done months) h f = f
 
-pub free : (b : Basin) (series : Inflows) (r : ℕ) (xs : List Item) (t : Told) → list_all (no_call r) xs ≡ true → IsFree r t → IsFree r (fold (tell b series) t xs)
+pub free : (b : Basin) (series : Inflows) (r : ℕ) (xs : List Item) (t : Told) → list_all (no_call r) xs ≡ true →
+    IsFree r t → IsFree r (fold (tell b series) t xs)
 free b series r [] t h f = f
 free b series r (x ∷ xs) t h f =
     let two = parts (no_call r x) (list_all (no_call r) xs) h in

@@ -1,5 +1,6 @@
 -- What the verdict on lines says of the lines.
-use Rattle.std.proofs.Common.{◌≡◌, ℕ, ◌+◌, Bool, true, false, refl, sym, ap, subst, ◌∙◌, inl, inr, List, [], ◌∷◌, ◌++◌, length, map, append_assoc, append-nil}
+use Rattle.std.proofs.Common.{◌≡◌, ℕ, ◌+◌, Bool, true, false, refl, sym, ap, subst, ◌∙◌, inl, inr, List, [], ◌∷◌, ◌++◌}
+use Rattle.std.proofs.Common.{length, map, append_assoc, append-nil}
 use Rattle.std.specs.Prelude.{Option, Some, None, Result, Ok, Err, ◌⊎◌, if◌then◌else◌}
 use Rattle.water_model.specs.Spelling.{line_of}
 use Rattle.water_model.specs.Valid.{IsValidBasin}
@@ -12,29 +13,34 @@ use Rattle.result_reader.specs.Telling.{Told, tell, told_by, nothing_told}
 use Rattle.result_reader.specs.declared.bad_line.BadLine.{BadLine}
 use Rattle.result_reader.proofs.Accepting.{fronts_are_accepted}
 use Rattle.result_reader.proofs.Telling.{fold-both}
-use Rattle.cert_check.specs.Checking.{first_row, judge, judge_row, judge_read, ok_then, verdict_from, verdict_at_end, verdict, is_whole}
+use Rattle.cert_check.specs.Checking.{first_row, judge, judge_row, judge_read, ok_then, verdict_from, verdict_at_end}
+use Rattle.cert_check.specs.Checking.{verdict, is_whole}
 use Rattle.cert_check.specs.declared.refuted.RefutedKind.{RefutedKind}
 use Rattle.cert_check.specs.declared.refuted.RefutedKind.TheVariants as kind
 use Rattle.cert_check.specs.declared.refuted.Refuted.{Refuted}
 use Rattle.cert_check.proofs.Rows.{AreGood, good_row, row_good}
 
-pub told_more : (b : Basin) (series : Inflows) (before : List Item) (i : Item) → told_by b series (before ++ i ∷ []) ≡ tell b series (told_by b series before) i
+pub told_more : (b : Basin) (series : Inflows) (before : List Item) (i : Item) →
+    told_by b series (before ++ i ∷ []) ≡ tell b series (told_by b series before) i
 told_more b series before i = fold-both (tell b series) (nothing_told b) before (i ∷ [])
 
 -- Lines that are read, and that no row holds of, are good.
 
-judged_good : (b : Basin) (series : Inflows) (before : List Item) (bytes : List ℕ) (i : Item) → is_whole before ≡ false → read_line b before bytes ≡ Ok i →
+judged_good : (b : Basin) (series : Inflows) (before : List Item) (bytes : List ℕ) (i : Item) →
+    is_whole before ≡ false → read_line b before bytes ≡ Ok i →
     first_row b series (told_by b series before) i ≡ None → judge b series before bytes ≡ Ok i
 unfolding judge
 judged_good b series before bytes i open_yet read none = rw (open_yet, read, none) refl
 
 pub verdict_good : (b : Basin) (series : Inflows) (all items before : List Item) → all ≡ before ++ items →
-    ((x y : List Item) (i : Item) → all ≡ x ++ i ∷ y → read_line b x (line_of b i) ≡ Ok i) → ((x y : List Item) (i : Item) → all ≡ x ++ i ∷ y → is_whole x ≡ false) →
+    ((x y : List Item) (i : Item) → all ≡ x ++ i ∷ y → read_line b x (line_of b i) ≡ Ok i) →
+    ((x y : List Item) (i : Item) → all ≡ x ++ i ∷ y → is_whole x ≡ false) →
     AreGood b series (told_by b series before) items → verdict_from b series before (map (line_of b) items) ≡ Ok all
 verdict_good b series all [] before is read none g = ap Ok (sym (append-nil before) ∙ sym is)
 verdict_good b series all (i ∷ items) before is read none g =
     ap (λ r. ok_then (λ item. verdict_from b series (before ++ item ∷ []) (map (line_of b) items)) r)
-    (judged_good b series before (line_of b i) i (none before items i is) (read before items i is) (row_good b series (told_by b series before) i g.0))
+    (judged_good b series before (line_of b i) i (none before items i is) (read before items i is)
+    (row_good b series (told_by b series before) i g.0))
     ∙ verdict_good b series all items (before ++ i ∷ []) (is ∙ sym (append_assoc before (i ∷ []) items)) read none
     (subst (λ (t : Told). AreGood b series t items) (sym (told_more b series before i)) g.1)
 
@@ -45,7 +51,8 @@ pub record IsJudged (b : Basin) (series : Inflows) (before : List Item) (bytes :
   pub read : read_line b before bytes ≡ Ok i
   pub none : first_row b series (told_by b series before) i ≡ None
 
-judged : (b : Basin) (series : Inflows) (before : List Item) (bytes : List ℕ) (i : Item) → judge b series before bytes ≡ Ok i → IsJudged b series before bytes i
+judged : (b : Basin) (series : Inflows) (before : List Item) (bytes : List ℕ) (i : Item) →
+    judge b series before bytes ≡ Ok i → IsJudged b series before bytes i
 unfolding judge
 judged b series before bytes i h = by_end (is_whole before) refl h
   where
@@ -53,13 +60,21 @@ judged b series before bytes i h = by_end (is_whole before) refl h
     by_row item None e = let same : Ok item ≡ Ok i = e in (cc, refl)
     by_row item (Some kind) e = cc
 
-    by_read : is_whole before ≡ false → (r : Result Item BadLine) → read_line b before bytes ≡ r → judge_read b series before r ≡ Ok i → IsJudged b series before bytes i
+    by_read : is_whole before ≡ false → (r : Result Item BadLine) → read_line b before bytes ≡ r →
+        judge_read b series before r ≡ Ok i → IsJudged b series before bytes i
     by_read open_yet (Ok item) read e =
         let k = by_row item (first_row b series (told_by b series before) item) e in
-        record { open_yet = open_yet; read = read ∙ ap Ok k.0; none = ap (first_row b series (told_by b series before)) (sym k.0) ∙ k.1 }
+        record {
+          open_yet = open_yet;
+          read = read ∙ ap Ok k.0;
+          none =
+              ap (first_row b series (told_by b series before)) (sym k.0) ∙ k.1;
+        }
     by_read open_yet (Err why) read e = cc
 
-    by_end : (t : Bool) → is_whole before ≡ t → if◌then◌else◌ {A = Result Item Refuted} t (Err (record { line = length before + 1; kind = kind.AfterEnd })) (judge_read b series before (read_line b before bytes)) ≡ Ok i →
+    by_end : (t : Bool) → is_whole before ≡ t →
+        if◌then◌else◌ {A = Result Item Refuted} t (Err (record { line = length before + 1; kind = kind.AfterEnd }))
+        (judge_read b series before (read_line b before bytes)) ≡ Ok i →
         IsJudged b series before bytes i
     by_end true e k = cc
     by_end false e k = by_read e (read_line b before bytes) refl k
@@ -72,11 +87,14 @@ pub record AreJudged (b : Basin) (series : Inflows) (before items : List Item) (
   pub good : AreGood b series (told_by b series before) more
   pub front : (more ≡ []) ⊎ IsFront b items
 
-through : {X Y : Type 0} (f : X → Result Y Refuted) (r : Result X Refuted) (y : Y) → ok_then f r ≡ Ok y → (x : X) × (r ≡ Ok x) × (f x ≡ Ok y)
+through : {X Y : Type 0} (f : X → Result Y Refuted) (r : Result X Refuted) (y : Y) → ok_then f r ≡ Ok y → (x : X) ×
+    (r ≡ Ok x) × (f x ≡ Ok y)
 through f (Ok x) y h = (x, refl, h)
 through f (Err e) y h = let never : Err e ≡ Ok y = h in cc
 
-pub verdict_says : (b : Basin) → IsValidBasin b → (series : Inflows) (before items : List Item) (lines : List (List ℕ)) → verdict_from b series before lines ≡ Ok items →
+pub verdict_says : (b : Basin) → IsValidBasin b →
+    (series : Inflows) (before items : List Item) (lines : List (List ℕ)) →
+    verdict_from b series before lines ≡ Ok items →
     AreJudged b series before items lines
 verdict_says b valid series before items [] h =
     let same : Ok before ≡ Ok items = h in
@@ -91,38 +109,51 @@ verdict_says b valid series before items (bytes ∷ lines) h =
       more = t.0 ∷ rest.more;
       are = rest.are ∙ append_assoc before (t.0 ∷ []) rest.more;
       spelled = cons bytes (line_of b t.0) lines (map (line_of b) rest.more) said.0 rest.spelled;
-      good = (good_row b series (told_by b series before) t.0 j.none, subst (λ (u : Told). AreGood b series u rest.more) (told_more b series before t.0) rest.good);
+      good = (
+        good_row b series (told_by b series before) t.0 j.none,
+        subst (λ (u : Told). AreGood b series u rest.more)
+            (told_more b series before t.0) rest.good,
+      );
       front = inr (by_front t.0 rest.more rest.are rest.front said.2);
     }
   where
     cons : (x y : List ℕ) (xs ys : List (List ℕ)) → x ≡ y → xs ≡ ys → x ∷ xs ≡ y ∷ ys
     cons x y xs ys e f = rw (e, f) refl
 
-    by_front : (i : Item) → (more : List Item) → items ≡ (before ++ i ∷ []) ++ more → (more ≡ []) ⊎ IsFront b items → IsFront b (before ++ i ∷ []) → IsFront b items
+    by_front : (i : Item) → (more : List Item) → items ≡ (before ++ i ∷ []) ++ more → (more ≡ []) ⊎ IsFront b items →
+        IsFront b (before ++ i ∷ []) → IsFront b items
     by_front i more are (inr front) own = front
-    by_front i more are (inl none) own = subst (λ (xs : List Item). IsFront b xs) (sym (are ∙ (ap (λ ys. (before ++ i ∷ []) ++ ys) none ∙ append-nil (before ++ i ∷ [])))) own
+    by_front i more are (inl none) own =
+        subst (λ (xs : List Item). IsFront b xs)
+        (sym (are ∙ (ap (λ ys. (before ++ i ∷ []) ++ ys) none ∙ append-nil (before ++ i ∷ [])))) own
 
 -- a yes to a whole text
-pub record IsYes (b : Basin) (series : Inflows) (lines : List (List ℕ)) (rest : List ℕ) (items : List Item) : Type 0 where
-  pub lines_good : verdict_from b series [] lines ≡ Ok items
-  pub whole : is_whole items ≡ true
-  pub no_rest : rest ≡ []
+pub record IsYes (b : Basin) (series : Inflows) (lines : List (List ℕ)) (rest : List ℕ) (items : List Item) : Type 0
+  where
+    pub lines_good : verdict_from b series [] lines ≡ Ok items
+    pub whole : is_whole items ≡ true
+    pub no_rest : rest ≡ []
 
-pub yes_says : (b : Basin) (series : Inflows) (lines : List (List ℕ)) (rest : List ℕ) (items : List Item) → verdict b series lines rest ≡ Ok items → IsYes b series lines rest items
+pub yes_says : (b : Basin) (series : Inflows) (lines : List (List ℕ)) (rest : List ℕ) (items : List Item) →
+    verdict b series lines rest ≡ Ok items → IsYes b series lines rest items
 yes_says b series lines rest items h =
     let t = through (verdict_at_end rest) (verdict_from b series [] lines) items h in
     by_rest rest t.0 t.1 t.2
   where
-    by_whole : (xs : List Item) (p : Bool) → is_whole xs ≡ p → if◌then◌else◌ {A = Result (List Item) Refuted} p (Ok xs) (Err (record { line = length xs + 1; kind = kind.EarlyEnd })) ≡ Ok items → (xs ≡ items) × (is_whole xs ≡ true)
+    by_whole : (xs : List Item) (p : Bool) → is_whole xs ≡ p →
+        if◌then◌else◌ {A = Result (List Item) Refuted} p (Ok xs)
+        (Err (record { line = length xs + 1; kind = kind.EarlyEnd })) ≡ Ok items → (xs ≡ items) × (is_whole xs ≡ true)
     by_whole xs true e k = let same : Ok xs ≡ Ok items = k in (cc, e)
     by_whole xs false e k = cc
 
-    by_rest : (rest : List ℕ) (xs : List Item) → verdict_from b series [] lines ≡ Ok xs → verdict_at_end rest xs ≡ Ok items → IsYes b series lines rest items
+    by_rest : (rest : List ℕ) (xs : List Item) → verdict_from b series [] lines ≡ Ok xs →
+        verdict_at_end rest xs ≡ Ok items → IsYes b series lines rest items
     by_rest [] xs good k =
         let w = by_whole xs (is_whole xs) refl k in
         record { lines_good = good ∙ ap Ok w.0; whole = ap is_whole (sym w.0) ∙ w.1; no_rest = refl }
     by_rest (x ∷ rest) xs good k = cc
 
-pub says_yes : (b : Basin) (series : Inflows) (lines : List (List ℕ)) (items : List Item) → verdict_from b series [] lines ≡ Ok items → is_whole items ≡ true →
+pub says_yes : (b : Basin) (series : Inflows) (lines : List (List ℕ)) (items : List Item) →
+    verdict_from b series [] lines ≡ Ok items → is_whole items ≡ true →
     verdict b series lines [] ≡ Ok items
 says_yes b series lines items good whole = rw (good, whole) refl

@@ -1,5 +1,7 @@
 -- What a checker refutes.
-use Rattle.std.specs.Prelude.{ℕ, ◌+◌, ◌-◌, Bool, true, false, ◌&&◌, ◌||◌, not, List, [], ◌∷◌, ◌++◌, map, find, length, reverse, min, Option, Some, None, Result, Ok, Err, option_map, is_none, nat_le, nat_lt, ◌==◌, if◌then◌else◌, slice_index, slice_get}
+use Rattle.std.specs.Prelude.{ℕ, ◌+◌, ◌-◌, Bool, true, false, ◌&&◌, ◌||◌, not, List, [], ◌∷◌, ◌++◌, map, find, length}
+use Rattle.std.specs.Prelude.{reverse, min, Option, Some, None, Result, Ok, Err, option_map, is_none, nat_le, nat_lt}
+use Rattle.std.specs.Prelude.{◌==◌, if◌then◌else◌, slice_index, slice_get}
 use Rattle.std.specs.List.{list_all, list_any, flat_map}
 use Rattle.std.specs.Option.{option_map_or}
 use Rattle.place_sums.specs.Sums.{total_where}
@@ -67,7 +69,8 @@ cut_loose b series t item =
     not (is_member item) && option_map_or (λ r. not (has_tight b (with_supply b series t.now) r)) t.calling false
 
 abbrev pub cut_missing : Basin → Told → Item → Bool
-cut_missing b t item = list_any (λ r. is_short t.now r && is_none (cut_of t.now r) && passes b item r) (places_of b.rights)
+cut_missing b t item =
+    list_any (λ r. is_short t.now r && is_none (cut_of t.now r) && passes b item r) (places_of b.rights)
 
 abbrev pub cut_needless : Told → Item → Bool
 cut_needless t (line.Call r) = not (is_short t.now r)
@@ -214,7 +217,8 @@ verdict_from b series before (bytes ∷ lines) =
 
 -- the verdict at the end of a text whose lines are good. The rest is what stands behind the last line feed
 abbrev pub verdict_at_end : List ℕ → List Item → Result (List Item) Refuted
-verdict_at_end [] items = if is_whole items then Ok items else Err (record { line = length items + 1; kind = kind.EarlyEnd })
+verdict_at_end [] items =
+    if is_whole items then Ok items else Err (record { line = length items + 1; kind = kind.EarlyEnd })
 verdict_at_end rest items =
     Err (record { line = length items + 1; kind = if is_whole items then kind.AfterEnd else kind.EarlyEnd })
 

@@ -1,5 +1,6 @@
 -- What an account keeps of what lines tell.
-use Rattle.std.specs.Prelude.{◌≡◌, ℕ, ◌<◌, ◌≤◌, Bool, true, false, ◌&&◌, List, map, length, take, slice_index, slice_set, Some, IsSome, is_none}
+use Rattle.std.specs.Prelude.{◌≡◌, ℕ, ◌<◌, ◌≤◌, Bool, true, false, ◌&&◌, List, map, length, take, slice_index}
+use Rattle.std.specs.Prelude.{slice_set, Some, IsSome, is_none}
 use Rattle.std.specs.List.{list_any, flat_map}
 use Rattle.place_sums.specs.Sums.{total_where}
 use Rattle.water_text.specs.Months.{IsMonth}
@@ -21,8 +22,8 @@ use Rattle.cert_check.specs.Checking.{is_short, caller_due}
 use Rattle.cert_check.specs.Shows.{Shows}
 use Rattle.cert_check.specs.declared.account.Account.{Account}
 
--- an account's lists have a number for each reservoir or node, and its record fits the basin. The right whose nodes come
--- has a set
+-- an account's lists have a number for each reservoir or node, and its record fits the basin. The right whose nodes
+-- come has a set
 pub record FitsAccount (b : Basin) (a : Account) : Type 0 where
   pub month : FitsRecord b a.month
   pub calendar : IsMonth a.month.month
@@ -62,7 +63,8 @@ pub record Keeps (b : Basin) (series : Inflows) (a : Account) (t : Told) : Type 
   pub done : a.done ≡ length t.months
   pub lags : lag.StandsFor a.lags b.returns (map (λ m. m.delivered) t.months)
   pub opens : a.opens ≡ opening_after b t.months
-  pub comes : (n : ℕ) → n < length b.nodes → slice_index a.comes n ≡ returned_at b (map (λ m. m.delivered) t.months) n (length t.months)
+  pub comes : (n : ℕ) → n < length b.nodes →
+      slice_index a.comes n ≡ returned_at b (map (λ m. m.delivered) t.months) n (length t.months)
   pub used : HasUsed b (map (λ m. m.delivered) t.months) a.used
   pub supply : a.has_supply ≡ true → a.month.supply ≡ (with_supply b series t.now).supply
   pub closes : a.has_closes ≡ true → (v : ℕ) → v < length b.reservoirs → slice_index a.closes v

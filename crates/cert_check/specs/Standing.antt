@@ -26,8 +26,8 @@ pub record IsBookOf (b : Basin) (series : Inflows) (k : Book) (lines : List (Lis
   pub account : Keeps b series k.account.value (told_by b series items)
   pub counts : Counts k items
 
--- the value that contracts see of a checker: its basin and series, what it keeps of good lines, and the refusal if a line
--- was at fault
+-- the value that contracts see of a checker: its basin and series, what it keeps of good lines, and the refusal if a
+-- line was at fault
 pub record CheckerSeen : Type 0 where
   pub basin : Basin
   pub series : Inflows
@@ -38,8 +38,8 @@ pub record CheckerSeen : Type 0 where
 abbrev pub lines_left : CheckerSeen → ℕ
 lines_left c = c.book.reader.left
 
--- The checker was given these lines: none of them is at fault and it keeps what they say and tell, or it keeps the refusal
--- that the verdict on them is.
+-- The checker was given these lines: none of them is at fault and it keeps what they say and tell, or it keeps the
+-- refusal that the verdict on them is.
 abbrev pub Stands : Option Refuted → CheckerSeen → List (List ℕ) → Type 0
 Stands None c lines = IsBookOf c.basin c.series c.book lines
 Stands (Some refused) c lines = verdict_from c.basin c.series [] lines ≡ Err refused

@@ -34,5 +34,7 @@ pub record HasItems (b : Basin) (series : Inflows) (k : Book) (item : Item) : Ty
 -- an item that no row refutes is told, and of every other it is told why
 abbrev pub TakesItem : Basin → Inflows → Book → List Item → Item → Result (Unit {0}) Refuted → Type 0
 TakesItem b series k items item (Ok _) =
-    (first_row b series (told_by b series items) item ≡ None) × Keeps b series k.account.value (told_by b series (items ++ item ∷ [])) × Counts k (items ++ item ∷ [])
-TakesItem b series k items item (Err e) = judge_row items item (first_row b series (told_by b series items) item) ≡ Err e
+    (first_row b series (told_by b series items) item ≡ None) ×
+    Keeps b series k.account.value (told_by b series (items ++ item ∷ [])) × Counts k (items ++ item ∷ [])
+TakesItem b series k items item (Err e) =
+    judge_row items item (first_row b series (told_by b series items) item) ≡ Err e

@@ -1,5 +1,6 @@
 -- Walks over the rights in the order of seniority.
-use Rattle.std.specs.Prelude.{◌≡◌, ℕ, ◌+◌, ◌<◌, ◌≤◌, true, false, ◌++◌, ◌∷◌, [], length, take, slice_index, Option, Some, None}
+use Rattle.std.specs.Prelude.{◌≡◌, ℕ, ◌+◌, ◌<◌, ◌≤◌, true, false, ◌++◌, ◌∷◌, [], length, take, slice_index, Option}
+use Rattle.std.specs.Prelude.{Some, None}
 use Rattle.std.specs.List.{list_any}
 use Rattle.water_model.specs.Places.{seniors_first}
 use Rattle.water_model.specs.declared.item.Item.{Item}
@@ -29,7 +30,8 @@ IsPassed b m item None = IsMissed b m item
 -- from a place on this right is the first that answers to a caller
 pub record IsNextDue (b : Basin) (m : MonthRecord) (from : ℕ) (due : Due) : Type 0 where
   pub within : due.place < length (seniors_first b)
-  pub up_to : callers_of b m (take (due.place + 1) (seniors_first b)) ≡ callers_of b m (take from (seniors_first b)) ++ (due.right, due.caller) ∷ []
+  pub up_to : callers_of b m (take (due.place + 1) (seniors_first b)) ≡ callers_of b m
+      (take from (seniors_first b)) ++ (due.right, due.caller) ∷ []
 
 -- the first right from a place on that answers to a caller, or none
 abbrev pub IsDueFrom : Basin → MonthRecord → ℕ → Option Due → Type 0

@@ -15,8 +15,8 @@ pieces_of bytes = slice_split (λ byte. byte == 10) bytes
 abbrev pub behind_last : List (List ℕ) → List ℕ
 behind_last pieces = slice_index_or pieces (length pieces - 1) []
 
--- The lines of a text are ended by line feeds, and the rest stands behind the last of them. A rest of more than 128 bytes,
--- which no line has, counts as a line.
+-- The lines of a text are ended by line feeds, and the rest stands behind the last of them. A rest of more than 128
+-- bytes, which no line has, counts as a line.
 abbrev pub is_line : List ℕ → Bool
 is_line rest = nat_lt 128 (length rest)
 

@@ -1,5 +1,6 @@
 //! Whether what comes into each node leaves it.
-ghost use Rattle.std.specs.Prelude.{ℕ, ◌≡◌, ◌+◌, ◌==◌, ◌^◌, ◌<◌, ◌≤◌, true, false, length, slice_index, slice_set, IfSome};
+ghost use Rattle.std.specs.Prelude.{ℕ, ◌≡◌, ◌+◌, ◌==◌, ◌^◌, ◌<◌, ◌≤◌, true, false, length, slice_index, slice_set};
+ghost use Rattle.std.specs.Prelude.{IfSome};
 ghost use Rattle.month_terms.specs.Terms.{FitsRecord};
 ghost use Rattle.water_model.specs.Basin.{taking_node};
 ghost use Rattle.water_model.specs.Plans.{inflow_to, outflow_from, taken_at};
@@ -18,7 +19,8 @@ fn add_inflows(basin: &Basin, flow: &[u64], into: &mut [u64])
     requires basin { IsValidBasin basin.now }
     requires flow { length flow.now ≡ length basin.now.links }
     requires into { length into.old ≡ length basin.now.nodes }
-    requires small { (n : ℕ) → n < length basin.now.nodes → slice_index into.old n + inflow_to basin.now flow.now n < 2 ^ 64 }
+    requires small { (n : ℕ) → n < length basin.now.nodes →
+        slice_index into.old n + inflow_to basin.now flow.now n < 2 ^ 64 }
     ensures length { length into.new ≡ length into.old }
     ensures each { (n : ℕ) → slice_index into.new n ≡ slice_index into.old n + inflow_to basin.now flow.now n }
 {
@@ -32,7 +34,8 @@ fn add_outflows(basin: &Basin, flow: &[u64], out_of: &mut [u64])
     requires basin { IsValidBasin basin.now }
     requires flow { length flow.now ≡ length basin.now.links }
     requires out_of { length out_of.old ≡ length basin.now.nodes }
-    requires small { (n : ℕ) → n < length basin.now.nodes → slice_index out_of.old n + outflow_from basin.now flow.now n < 2 ^ 64 }
+    requires small { (n : ℕ) → n < length basin.now.nodes →
+        slice_index out_of.old n + outflow_from basin.now flow.now n < 2 ^ 64 }
     ensures length { length out_of.new ≡ length out_of.old }
     ensures each { (n : ℕ) → slice_index out_of.new n ≡ slice_index out_of.old n + outflow_from basin.now flow.now n }
 {
@@ -46,7 +49,8 @@ fn add_takes(basin: &Basin, take: &[u64], out_of: &mut [u64])
     requires basin { IsValidBasin basin.now }
     requires take { length take.now ≡ length basin.now.rights }
     requires out_of { length out_of.old ≡ length basin.now.nodes }
-    requires small { (n : ℕ) → n < length basin.now.nodes → slice_index out_of.old n + taken_at basin.now take.now n < 2 ^ 64 }
+    requires small { (n : ℕ) → n < length basin.now.nodes →
+        slice_index out_of.old n + taken_at basin.now take.now n < 2 ^ 64 }
     ensures length { length out_of.new ≡ length out_of.old }
     ensures each { (n : ℕ) → slice_index out_of.new n ≡ slice_index out_of.old n + taken_at basin.now take.now n }
 {
@@ -78,14 +82,16 @@ fn out_with(out: &[u64], at: u32, amount: u64, node: usize) -> u64
     }
 }
 
-/// Whether each node is in balance, by what comes into it, what leaves it and what leaves the basin there, where that is
-/// this amount at this node.
+/// Whether each node is in balance, by what comes into it, what leaves it and what leaves the basin there, where that
+/// is this amount at this node.
 fn are_even(into: &[u64], out_of: &[u64], out: &[u64], at: u32, amount: u64) -> bool
     requires count { length out_of.now ≡ length into.now }
     requires out { length out.now ≡ length into.now }
     requires at { at < length into.now }
-    ensures all { result ≡ true → (n : ℕ) → n < length into.now → slice_index into.now n == slice_index out_of.now n + slice_index (slice_set out.now at amount) n ≡ true }
-    ensures some { result ≡ false → (n : ℕ) × (n < length into.now) × (slice_index into.now n == slice_index out_of.now n + slice_index (slice_set out.now at amount) n ≡ false) }
+    ensures all { result ≡ true → (n : ℕ) → n < length into.now →
+        slice_index into.now n == slice_index out_of.now n + slice_index (slice_set out.now at amount) n ≡ true }
+    ensures some { result ≡ false → (n : ℕ) × (n < length into.now) ×
+        (slice_index into.now n == slice_index out_of.now n + slice_index (slice_set out.now at amount) n ≡ false) }
 {
     for node in 0..into.len() {
         if !is_even(into[node], out_of[node], out_with(out, at, amount, node)) {
@@ -103,7 +109,8 @@ fn sum_into(basin: &Basin, month: &MonthRecord, into: &mut [u64])
     requires supply { (n : ℕ) → n < length basin.now.nodes → slice_index month.now.supply n ≤ 10 ^ 15 }
     requires flow { (e : ℕ) → e < length basin.now.links → slice_index month.now.plan.flow e ≤ 10 ^ 15 }
     ensures length { length into.new ≡ length into.old }
-    ensures each { (n : ℕ) → slice_index into.new n ≡ slice_index month.now.supply n + inflow_to basin.now month.now.plan.flow n }
+    ensures each { (n : ℕ) →
+        slice_index into.new n ≡ slice_index month.now.supply n + inflow_to basin.now month.now.plan.flow n }
 {
     into.copy_from_slice(month.supply.as_slice());
     add_inflows(basin, month.plan.flow.as_slice(), into);

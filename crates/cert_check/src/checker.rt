@@ -1,5 +1,6 @@
 //! A checker of result texts, line by line.
-ghost use Rattle.std.specs.Prelude.{ℕ, List, [], ◌≡◌, ◌+◌, ◌*◌, ◌^◌, ◌≤◌, ◌++◌, ◌∷◌, length, Some, None, Err, IfOk, IfErr, IfSome, OnOk};
+ghost use Rattle.std.specs.Prelude.{ℕ, List, [], ◌≡◌, ◌+◌, ◌*◌, ◌^◌, ◌≤◌, ◌++◌, ◌∷◌, length, Some, None, Err, IfOk};
+ghost use Rattle.std.specs.Prelude.{IfErr, IfSome, OnOk};
 ghost use Rattle.cert_check.specs.Checking.{verdict, verdict_from};
 ghost use Rattle.cert_check.specs.Standing.{IsAnswer, IsLineAnswer, StandsFor, lines_left};
 ghost use Rattle.water_model.specs.Valid.{IsValidBasin, IsSeriesOf};
@@ -15,7 +16,8 @@ use std::alloc::{AllocError, Global};
 use std::marker::Model;
 use water_model::types::{Basin, Inflows};
 
-/// Checks the lines of a result text of a basin and its series, one after the other, and refutes the first that is at fault.
+/// Checks the lines of a result text of a basin and its series, one after the other, and refutes the first that is at
+/// fault.
 ///
 /// It stands for the list of all lines that it was given.
 #[derive(Drop)]
@@ -81,7 +83,8 @@ impl<'b> Checker<'b> {
     pub fn line(&mut self, text: &[u8]) -> Result<(), Refuted>
         ensures answer { (lines : List (List ℕ)) → StandsFor self.old lines →
             IsLineAnswer result (verdict_from self.old.basin self.old.series [] (lines ++ text.now ∷ [])) }
-        ensures stands { (lines : List (List ℕ)) → StandsFor self.old lines → StandsFor self.new (lines ++ text.now ∷ []) }
+        ensures stands { (lines : List (List ℕ)) → StandsFor self.old lines →
+            StandsFor self.new (lines ++ text.now ∷ []) }
         ensures basin { self.new.basin ≡ self.old.basin }
         ensures series { self.new.series ≡ self.old.series }
         ensures good { OnOk result (self.new.refused ≡ None) }

@@ -126,7 +126,8 @@ fn evaporation_of(
     requires tables { tables.now ≡ map (λ v. v.area) basin.now.reservoirs }
     requires reservoir { reservoir < length basin.now.reservoirs }
     requires place { place < 12 }
-    ensures { result ≡ of_entry basin.now.reservoirs reservoir (λ r. evaporation r.area storage (slice_index r.rate place)) 0 }
+    ensures { result ≡ of_entry basin.now.reservoirs reservoir
+        (λ r. evaporation r.area storage (slice_index r.rate place)) 0 }
 {
     let rate = basin.reservoirs[reservoir as usize].rate[place];
     tables[reservoir as usize].evaporation(storage, rate)

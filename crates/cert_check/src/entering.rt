@@ -1,5 +1,7 @@
 //! Enters what a line tells into an account.
-ghost use Rattle.std.specs.Prelude.{ℕ, ◌≡◌, ◌+◌, ◌^◌, ◌<◌, ◌≤◌, ◌&&◌, not, ◌++◌, ◌∷◌, [], List, Some, None, true, false, Bool, All, Option, IfSome, IsSome, length, replicate, slice_index, slice_set, is_some, if◌then◌else◌};
+ghost use Rattle.std.specs.Prelude.{ℕ, ◌≡◌, ◌+◌, ◌^◌, ◌<◌, ◌≤◌, ◌&&◌, not, ◌++◌, ◌∷◌, [], List, Some, None, true};
+ghost use Rattle.std.specs.Prelude.{false, Bool, All, Option, IfSome, IsSome, length, replicate, slice_index};
+ghost use Rattle.std.specs.Prelude.{slice_set, is_some, if◌then◌else◌};
 ghost use Rattle.calls.specs.Callers.{AreCallers};
 ghost use Rattle.lag_returns.specs.Lags.{return_rows};
 ghost use Rattle.lag_returns.specs.Lags as lag;
@@ -186,10 +188,17 @@ pub fn enter_call(account: &mut Account, right: u32)
 /// Enters an `in` line of the right whose nodes come.
 pub fn enter_member(account: &mut Account, node: u32)
     requires node { node < account.old.month.cuts.nodes }
-    requires calling { IfSome account.old.calling (λ right. (right < length account.old.month.cuts.sets) × IsSome (set_of account.old.month.cuts right)) }
+    requires calling { IfSome account.old.calling (λ right. (right < length account.old.month.cuts.sets) ×
+        IsSome (set_of account.old.month.cuts right)) }
     ensures none { account.old.calling ≡ None → account.new ≡ record account.old { has_callers = false; answered = 0 } }
-    ensures some { (right : ℕ) (set : List Bool) → account.old.calling ≡ Some right → set_of account.old.month.cuts right ≡ Some set →
-        account.new ≡ record account.old { month = record account.old.month { cuts = with_set account.old.month.cuts right (Some (slice_set set node true)) }; has_callers = false; answered = 0 } }
+    ensures some { (right : ℕ) (set : List Bool) → account.old.calling ≡ Some right →
+        set_of account.old.month.cuts right ≡ Some set →
+        account.new ≡ record account.old {
+          month =
+              record account.old.month { cuts = with_set account.old.month.cuts right (Some (slice_set set node true)) };
+          has_callers = false;
+          answered = 0;
+        } }
 {
     account.has_callers = false;
     account.answered = 0;
@@ -228,7 +237,8 @@ pub fn bring_back(basin: &Basin, lags: &Lags, comes: &mut [u64])
     requires rows { return_rows lags.now ≡ basin.now.returns }
     requires comes { length comes.old ≡ length basin.now.nodes }
     ensures length { length comes.new ≡ length comes.old }
-    ensures each { (deliveries : List (List ℕ)) → lag.StandsFor lags.now basin.now.returns deliveries → HasReturned basin.now deliveries comes.new }
+    ensures each { (deliveries : List (List ℕ)) → lag.StandsFor lags.now basin.now.returns deliveries →
+        HasReturned basin.now deliveries comes.new }
 {
     comes.fill(0);
     lags.arrive(comes);
@@ -257,7 +267,8 @@ pub fn enter_end(basin: &Basin, account: &mut Account)
         lag.StandsFor account.new.lags basin.now.returns (deliveries ++ account.old.month.delivered ∷ []) }
     ensures comes { (deliveries : List (List ℕ)) → lag.StandsFor account.old.lags basin.now.returns deliveries →
         HasReturned basin.now (deliveries ++ account.old.month.delivered ∷ []) account.new.comes }
-    ensures used { (deliveries : List (List ℕ)) → length deliveries ≡ account.old.done → HasUsed basin.now deliveries account.old.used →
+    ensures used { (deliveries : List (List ℕ)) → length deliveries ≡ account.old.done →
+        HasUsed basin.now deliveries account.old.used →
         HasUsed basin.now (deliveries ++ account.old.month.delivered ∷ []) account.new.used }
 {
     account.lags.month_done(account.month.delivered.as_slice());
@@ -282,7 +293,8 @@ pub fn enter(means: &Means, account: &mut Account, item: &Item)
     requires item { IsOfBasin means.now.basin.now item.now }
     requires awaits { Awaits means.now.basin.now means.now.series.now account.old item.now }
     requires ready { IsReadyForCalled account.old item.now }
-    ensures { (t : Told) → Keeps means.now.basin.now means.now.series.now account.old t → MayCome means.now.basin.now means.now.series.now t item.now →
+    ensures { (t : Told) → Keeps means.now.basin.now means.now.series.now account.old t →
+        MayCome means.now.basin.now means.now.series.now t item.now →
         first_row means.now.basin.now means.now.series.now t item.now ≡ None →
         Keeps means.now.basin.now means.now.series.now account.new (tell means.now.basin.now means.now.series.now t item.now) }
 {

@@ -47,7 +47,8 @@ fn room_for_sums(
     alloc: Global,
     basin: &Basin,
 ) -> Result<(Rows<u64>, Rows<u64>, Rows<u64>), AllocError>
-    ensures { IfOk result (λ sums. (length sums.0 ≡ length basin.now.reservoirs) × (length sums.1 ≡ length basin.now.nodes) × (length sums.2 ≡ length basin.now.nodes)) }
+    ensures { IfOk result (λ sums. (length sums.0 ≡ length basin.now.reservoirs) ×
+        (length sums.1 ≡ length basin.now.nodes) × (length sums.2 ≡ length basin.now.nodes)) }
 {
     let closes = zeros(alloc, basin.reservoirs.len())?;
     let into = zeros(alloc, basin.nodes.len())?;
@@ -58,7 +59,8 @@ fn room_for_sums(
 /// An account of no line.
 pub fn blank_account(alloc: Global, basin: &Basin) -> Result<Box<Account>, AllocError>
     requires { IsValidBasin basin.now }
-    ensures { IfOk result (λ account. (series : Inflows) → Keeps basin.now series account.value (nothing_told basin.now)) }
+    ensures { IfOk result (λ account. (series : Inflows) →
+        Keeps basin.now series account.value (nothing_told basin.now)) }
 {
     let lags = Lags::open(alloc, basin.returns.as_slice())?;
     let comes = first_comes(alloc, basin, &lags)?;

@@ -120,8 +120,8 @@ fn pass(means: &Means, account: &mut Account, item: &Item)
     }
 }
 
-/// Finds the callers where a line stands behind the `call` lines. Where no right is left that answers to one, they aren't
-/// looked at again.
+/// Finds the callers where a line stands behind the `call` lines. Where no right is left that answers to one, they
+/// aren't looked at again.
 fn answer(means: &Means, account: &mut Account, item: &Item)
     requires means { AreMeans means.now }
     requires keeps { HasTold means.now.basin.now means.now.series.now account.old }

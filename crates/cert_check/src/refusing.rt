@@ -12,7 +12,8 @@ ghost use Rattle.cert_check.specs.Coming.{Awaits, HasMonth, HasTold, IsUnderWay,
 ghost use Rattle.cert_check.specs.FirstRows.{first_of};
 ghost use Rattle.cert_check.specs.Keeping.{Keeps, with_outflow};
 ghost use Rattle.cert_check.specs.Means.{AreMeans};
-ghost use Rattle.cert_check.specs.Ready.{HasSums, IsReady, IsReadyForAmount, IsReadyForCalled, IsReadyForOwn, IsReadyForSet};
+ghost use Rattle.cert_check.specs.Ready.{HasSums, IsReady, IsReadyForAmount, IsReadyForCalled, IsReadyForOwn};
+ghost use Rattle.cert_check.specs.Ready.{IsReadyForSet};
 
 use crate::account::{Account, Means};
 use crate::answering::{Due, next_due};

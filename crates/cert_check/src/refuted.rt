@@ -29,8 +29,8 @@ pub enum RefutedKind {
     Used,
     /// The flow is above what the link carries.
     Flow,
-    /// The want is another amount, or a take is above the want, or an instream right's amount isn't the lesser of want and
-    /// flow.
+    /// The want is another amount, or a take is above the want, or an instream right's amount isn't the lesser of want
+    /// and flow.
     Delivery,
     /// At the last `out` line of a month, some node has more or less water than leaves it.
     Balance,

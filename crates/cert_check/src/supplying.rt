@@ -25,12 +25,15 @@ fn sum_supply(
     requires opening { length opening.now ≡ length basin.now.reservoirs }
     requires evaporated { length evaporated.now ≡ length basin.now.reservoirs }
     requires supply { length supply.old ≡ length basin.now.nodes }
-    requires less { (v : ℕ) → v < length basin.now.reservoirs → slice_index evaporated.now v ≤ slice_index opening.now v }
-    requires small { (n : ℕ) → n < length basin.now.nodes → inflow_at basin.now series.now n index + slice_index returned.now n
+    requires less { (v : ℕ) → v < length basin.now.reservoirs →
+        slice_index evaporated.now v ≤ slice_index opening.now v }
+    requires small { (n : ℕ) → n < length basin.now.nodes →
+        inflow_at basin.now series.now n index + slice_index returned.now n
         + stored_at basin.now opening.now evaporated.now n < 2 ^ 64 }
     ensures length { length supply.new ≡ length supply.old }
     ensures each { (n : ℕ) → n < length basin.now.nodes → slice_index supply.new n
-        ≡ inflow_at basin.now series.now n index + slice_index returned.now n + stored_at basin.now opening.now evaporated.now n }
+        ≡ inflow_at basin.now series.now n index + slice_index returned.now n + stored_at basin.now opening.now
+        evaporated.now n }
 {
     read_inflows(basin, series, index, returned, supply);
     add_stored(basin, opening, evaporated, supply);
@@ -42,8 +45,10 @@ pub fn make_supply(basin: &Basin, series: &Inflows, month: &mut MonthRecord)
     requires series { IsSeriesOf basin.now series.now }
     requires fits { FitsRecord basin.now month.old }
     requires index { month.old.index < basin.now.months }
-    requires less { (v : ℕ) → v < length basin.now.reservoirs → slice_index month.old.evaporated v ≤ slice_index month.old.opening v }
-    requires small { (n : ℕ) → n < length basin.now.nodes → inflow_at basin.now series.now n month.old.index + slice_index month.old.returned n
+    requires less { (v : ℕ) → v < length basin.now.reservoirs →
+        slice_index month.old.evaporated v ≤ slice_index month.old.opening v }
+    requires small { (n : ℕ) → n < length basin.now.nodes →
+        inflow_at basin.now series.now n month.old.index + slice_index month.old.returned n
         + stored_at basin.now month.old.opening month.old.evaporated n < 2 ^ 64 }
     ensures { month.new ≡ with_supply basin.now series.now month.old }
 {

@@ -8,11 +8,11 @@ use crate::pieces::give;
 use crate::refuted::Refuted;
 use water_text::line_in::LineIn;
 
-/// Checks a whole text: answers the number of its months where it is the text of a history, or the first line at fault and
-/// why. The checker was given no line before.
+/// Checks a whole text: answers the number of its months where it is the text of a history, or the first line at fault
+/// and why. The checker was given no line before.
 ///
-/// The lines of a text are ended by line feeds. What stands behind the last one is its rest; a rest of more than 128 bytes
-/// counts as a line. No line behind the first at fault is looked at.
+/// The lines of a text are ended by line feeds. What stands behind the last one is its rest; a rest of more than 128
+/// bytes counts as a line. No line behind the first at fault is looked at.
 pub fn check_text(checker: &mut Checker, text: &[u8]) -> Result<u32, Refuted>
     requires { StandsFor checker.old [] }
     ensures { IsAnswer checker.old.basin result (text_verdict checker.old.basin checker.old.series text.now) }

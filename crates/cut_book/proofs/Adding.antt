@@ -1,6 +1,8 @@
 -- What the lines of an account book add up to.
-use Rattle.std.proofs.Common.{◌≡◌, ℕ, zero, suc, ◌+◌, ◌<◌, ◌≤◌, Bool, true, false, refl, sym, ap, ◌∙◌, arith, List, [], ◌∷◌, ◌++◌, length, inl, inr}
-use Rattle.std.specs.Prelude.{slice_index, Option, Some, None, max, pos, ◌-ℤ◌, if◌then◌else◌, ◌&&◌, ◌⊎◌, not, nat_lt, ◌==◌, filter, sum_by}
+use Rattle.std.proofs.Common.{◌≡◌, ℕ, zero, suc, ◌+◌, ◌<◌, ◌≤◌, Bool, true, false, refl, sym, ap, ◌∙◌, arith, List, []}
+use Rattle.std.proofs.Common.{◌∷◌, ◌++◌, length, inl, inr}
+use Rattle.std.specs.Prelude.{slice_index, Option, Some, None, max, pos, ◌-ℤ◌, if◌then◌else◌, ◌&&◌, ◌⊎◌, not, nat_lt}
+use Rattle.std.specs.Prelude.{◌==◌, filter, sum_by}
 use Rattle.std.specs.List.{flat_map}
 use Rattle.std.proofs.lemmas.Bool.Decides.{nat_tests}
 use Rattle.std.proofs.lemmas.List.Sums.{sum_by-cons, sum_by-append}
@@ -34,16 +36,19 @@ sum_none : {X : Type 0} (f : X → ℕ) (xs : List X) → ((x : X) → f x ≡ 0
 sum_none f [] h = refl
 sum_none f (x ∷ xs) h = sum_by-cons f x xs ∙ omega (arith, h x, sum_none f xs h)
 
-sum_flat : {X Y : Type 0} (g : Y → ℕ) (f : X → List Y) (xs : List X) → sum_by g (flat_map f xs) ≡ sum_by (λ x. sum_by g (f x)) xs
+sum_flat : {X Y : Type 0} (g : Y → ℕ) (f : X → List Y) (xs : List X) →
+    sum_by g (flat_map f xs) ≡ sum_by (λ x. sum_by g (f x)) xs
 sum_flat g f [] = refl
 sum_flat g f (x ∷ xs) =
-    sum_by-append g (f x) (flat_map f xs) ∙ (omega (arith, sum_flat g f xs) ∙ sym (sum_by-cons (λ y. sum_by g (f y)) x xs))
+    sum_by-append g (f x) (flat_map f xs)
+    ∙ (omega (arith, sum_flat g f xs) ∙ sym (sum_by-cons (λ y. sum_by g (f y)) x xs))
 
 sum_numbers : (g : ℕ → ℕ) (n from : ℕ) → sum_by g (numbers_from from n) ≡ total n (λ k. g (from + k))
 unfolding numbers_from total
 sum_numbers g zero from = refl
 sum_numbers g (suc n) from =
-    let shifted : total n (λ k. g (suc from + k)) ≡ total n (λ k. g (from + suc k)) = total_same n (λ k. g (suc from + k)) (λ k. g (from + suc k)) (λ k l. ap g (further k)) in
+    let shifted : total n (λ k. g (suc from + k)) ≡ total n (λ k. g (from + suc k)) =
+    total_same n (λ k. g (suc from + k)) (λ k. g (from + suc k)) (λ k l. ap g (further k)) in
     sum_by-cons g from (numbers_from (suc from) n)
     ∙ (omega (arith, sum_numbers g n (suc from), shifted, ap g at_first) ∙ sym (total_first n (λ k. g (from + k))))
   where
@@ -71,7 +76,8 @@ sum_put rights g r (x ∷ xs) = by_test (Rattle.water_model.specs.Rights.is_seni
 
 sum_sort : (rights : List Right) (g : ℕ → ℕ) (xs : List ℕ) → sum_by g (sort_rights rights xs) ≡ sum_by g xs
 sum_sort rights g [] = refl
-sum_sort rights g (x ∷ xs) = sum_put rights g x (sort_rights rights xs) ∙ (omega (arith, sum_sort rights g xs) ∙ sym (sum_by-cons g x xs))
+sum_sort rights g (x ∷ xs) =
+    sum_put rights g x (sort_rights rights xs) ∙ (omega (arith, sum_sort rights g xs) ∙ sym (sum_by-cons g x xs))
 
 sum_seniors : (b : Basin) (g : ℕ → ℕ) → sum_by g (seniors_first b) ≡ total (length b.rights) g
 unfolding by_seniority
@@ -79,16 +85,20 @@ sum_seniors b g = sum_sort b.rights g (places_of b.rights) ∙ sum_places g b.ri
 
 -- Lines of amount 0 add nothing.
 
-sum_filtered : (g : Entry → ℕ) (es : List Entry) → ((e : Entry) → g e ≤ amount_of e) → sum_by g (filter has_amount es) ≡ sum_by g es
+sum_filtered : (g : Entry → ℕ) (es : List Entry) → ((e : Entry) → g e ≤ amount_of e) →
+    sum_by g (filter has_amount es) ≡ sum_by g es
 sum_filtered g [] most = refl
 sum_filtered g (e ∷ es) most = by_test (has_amount e) refl (sum_filtered g es most)
   where
     nothing : (x y : ℕ) → nat_lt 0 y ≡ false → x ≤ y → x ≡ 0
     nothing x y h l = grind (arith, nat_tests)
 
-    by_test : (t : Bool) → has_amount e ≡ t → sum_by g (filter has_amount es) ≡ sum_by g es → sum_by g (filter has_amount (e ∷ es)) ≡ sum_by g (e ∷ es)
-    by_test true h rest = rw h (sum_by-cons g e (filter has_amount es) ∙ (omega (arith, rest) ∙ sym (sum_by-cons g e es)))
-    by_test false h rest = rw h (rest ∙ (omega (arith, nothing (g e) (amount_of e) h (most e)) ∙ sym (sum_by-cons g e es)))
+    by_test : (t : Bool) → has_amount e ≡ t → sum_by g (filter has_amount es) ≡ sum_by g es →
+        sum_by g (filter has_amount (e ∷ es)) ≡ sum_by g (e ∷ es)
+    by_test true h rest =
+        rw h (sum_by-cons g e (filter has_amount es) ∙ (omega (arith, rest) ∙ sym (sum_by-cons g e es)))
+    by_test false h rest =
+        rw h (rest ∙ (omega (arith, nothing (g e) (amount_of e) h (most e)) ∙ sym (sum_by-cons g e es)))
 
 brought_most : (e : Entry) → brought e ≤ amount_of e
 brought_most (line.Why month right amount want) = omega arith
@@ -115,14 +125,18 @@ sum_part : (g : Entry → ℕ) (p : Part) (b : Basin) (m : MonthRecord) (right :
     sum_by g (lines_in p b m right set) ≡ sum_by (λ k. if counts p b right set k then value k else 0) (places_in p b)
 sum_part g p b m right set value most is =
     sum_flat g (lines_at p b m right set) (places_in p b)
-    ∙ sum_same (λ k. sum_by g (lines_at p b m right set k)) (λ k. if counts p b right set k then value k else 0) (places_in p b) (λ k. at k (counts p b right set k))
+    ∙ sum_same (λ k. sum_by g (lines_at p b m right set k)) (λ k. if counts p b right set k then value k else 0)
+    (places_in p b) (λ k. at k (counts p b right set k))
   where
-    at : (k : ℕ) (t : Bool) → sum_by g (if t then filter has_amount (terms_at p b m right k) else []) ≡ (if t then value k else 0)
+    at : (k : ℕ) (t : Bool) →
+        sum_by g (if t then filter has_amount (terms_at p b m right k) else []) ≡ (if t then value k else 0)
     at k true = sum_filtered g (terms_at p b m right k) most ∙ is k
     at k false = refl
 
-nothing_in : (p : Part) (b : Basin) (right : ℕ) (set : List Bool) → sum_by (λ k. if counts p b right set k then 0 else 0) (places_in p b) ≡ 0
-nothing_in p b right set = sum_none (λ k. if counts p b right set k then 0 else 0) (places_in p b) (λ k. same_at (counts p b right set k) 0)
+nothing_in : (p : Part) (b : Basin) (right : ℕ) (set : List Bool) →
+    sum_by (λ k. if counts p b right set k then 0 else 0) (places_in p b) ≡ 0
+nothing_in p b right set =
+    sum_none (λ k. if counts p b right set k then 0 else 0) (places_in p b) (λ k. same_at (counts p b right set k) 0)
   where
     same_at : (t : Bool) (x : ℕ) → (if t then x else x) ≡ x
     same_at true x = refl
@@ -138,26 +152,61 @@ unfolding greatest_where
 greatest_attained zero p f = inl refl
 greatest_attained (suc n) p f = by_test (p n) refl (greatest_attained n p f)
   where
-    by_test : (t : Bool) → p n ≡ t → (greatest_where n p f ≡ 0) ⊎ IsAttained n p f → (greatest_where (suc n) p f ≡ 0) ⊎ IsAttained (suc n) p f
-    by_test false e (inl none) = inl (ap (λ t. max (greatest_where n p f) (if t then f n else 0)) e ∙ omega (arith, none))
-    by_test false e (inr at) = inr (at.0, omega (arith, at.1), at.2, at.3 ∙ (omega arith ∙ sym (ap (λ t. max (greatest_where n p f) (if t then f n else 0)) e)))
+    by_test : (t : Bool) → p n ≡ t → (greatest_where n p f ≡ 0) ⊎ IsAttained n p f → (greatest_where (suc n) p f ≡ 0) ⊎
+        IsAttained (suc n) p f
+    by_test false e (inl none) =
+        inl (ap (λ t. max (greatest_where n p f) (if t then f n else 0)) e ∙ omega (arith, none))
+    by_test false e (inr at) =
+        inr (
+          at.0,
+          omega (arith, at.1),
+          at.2,
+          at.3
+              ∙ (omega arith ∙ sym (ap (λ t. max (greatest_where n p f) (if t then f n else 0)) e)),
+        )
     by_test true e (inl none) =
-        inr (n, omega arith, e, (let is : f n ≡ max (greatest_where n p f) (f n) = omega (arith, none) in is) ∙ sym (ap (λ t. max (greatest_where n p f) (if t then f n else 0)) e))
+        inr (
+          n,
+          omega arith,
+          e,
+          (let is : f n ≡ max (greatest_where n p f) (f n) = omega (arith, none) in is)
+              ∙ sym (ap (λ t. max (greatest_where n p f) (if t then f n else 0)) e),
+        )
     by_test true e (inr at) = elim (least_or (f n) (greatest_where n p f)) [
-      | inl less ↦ inr (at.0, omega (arith, at.1), at.2, at.3 ∙ ((let is : greatest_where n p f ≡ max (greatest_where n p f) (f n) = omega arith in is) ∙ sym (ap (λ t. max (greatest_where n p f) (if t then f n else 0)) e)))
-      | inr more ↦ inr (n, omega arith, e, (let is : f n ≡ max (greatest_where n p f) (f n) = omega arith in is) ∙ sym (ap (λ t. max (greatest_where n p f) (if t then f n else 0)) e))
+      | inl less ↦
+          inr (
+            at.0,
+            omega (arith, at.1),
+            at.2,
+            at.3
+                ∙ ((let is : greatest_where n p f ≡ max (greatest_where n p f) (f n) = omega arith in is)
+                ∙ sym (ap (λ t. max (greatest_where n p f) (if t then f n else 0)) e)),
+          )
+      | inr more ↦
+          inr (
+            n,
+            omega arith,
+            e,
+            (let is : f n ≡ max (greatest_where n p f) (f n) = omega arith in is)
+                ∙ sym (ap (λ t. max (greatest_where n p f) (if t then f n else 0)) e),
+          )
     ]
       where
         least_or : (x y : ℕ) → (x ≤ y) ⊎ (y ≤ x)
         least_or x y = grind arith
 
 -- so where nobody holds the amount that is kept, it is nothing
-nobody_holds : (b : Basin) (delivered : List ℕ) (right link : ℕ) → holder_of b delivered link (kept_on b delivered right link) ≡ None → kept_on b delivered right link ≡ 0
+nobody_holds : (b : Basin) (delivered : List ℕ) (right link : ℕ) →
+    holder_of b delivered link (kept_on b delivered right link) ≡ None → kept_on b delivered right link ≡ 0
 unfolding holder_of
 nobody_holds b delivered right link none =
-    elim (greatest_attained (length b.rights) (λ s. is_on_link b s link && is_senior b s right) (λ s. slice_index delivered s)) [
+    elim (greatest_attained (length b.rights) (λ s. is_on_link b s link && is_senior b s right)
+    (λ s. slice_index delivered s)) [
       | inl nothing ↦ nothing
-      | inr at ↦ absurd (clash (sym (passes at.0 at.2 at.3) ∙ find-none (holds_amount b delivered link (kept_on b delivered right link)) (seniors_first b) at.0 none (seniors_have b.rights at.0 at.1)))
+      | inr at ↦
+          absurd (clash
+          (sym (passes at.0 at.2 at.3) ∙ find-none (holds_amount b delivered link (kept_on b delivered right link))
+          (seniors_first b) at.0 none (seniors_have b.rights at.0 at.1)))
     ]
   where
     clash : true ≡ false → ⊥
@@ -170,11 +219,17 @@ nobody_holds b delivered right link none =
     same : (x y : ℕ) → x ≡ y → x == y ≡ true
     same x y h = grind (arith, nat_tests)
 
-    passes : (s : ℕ) → is_on_link b s link && is_senior b s right ≡ true → slice_index delivered s ≡ kept_on b delivered right link →
+    passes : (s : ℕ) → is_on_link b s link && is_senior b s right ≡ true →
+        slice_index delivered s ≡ kept_on b delivered right link →
         holds_amount b delivered link (kept_on b delivered right link) s ≡ true
-    passes s on is = rw (first (is_on_link b s link) (is_senior b s right) on, same (slice_index delivered s) (kept_on b delivered right link) is) refl
+    passes s on is =
+        rw (
+          first (is_on_link b s link) (is_senior b s right) on,
+          same (slice_index delivered s) (kept_on b delivered right link) is,
+        ) refl
 
-kept_terms : (b : Basin) (m : MonthRecord) (right link : ℕ) → sum_by kept (terms_at part.Keeps b m right link) ≡ kept_on b m.delivered right link
+kept_terms : (b : Basin) (m : MonthRecord) (right link : ℕ) →
+    sum_by kept (terms_at part.Keeps b m right link) ≡ kept_on b m.delivered right link
 kept_terms b m right link = by_holder (holder_of b m.delivered link (kept_on b m.delivered right link)) refl
   where
     by_holder : (o : Option ℕ) → holder_of b m.delivered link (kept_on b m.delivered right link) ≡ o →
@@ -192,7 +247,8 @@ no_brought b m right link = by_holder (holder_of b m.delivered link (kept_on b m
 -- all parts
 sum_terms : (g : Entry → ℕ) (b : Basin) (m : MonthRecord) (right : ℕ) (set : List Bool) (s e k t : ℕ) →
     sum_by g (lines_in part.Supplies b m right set) ≡ s → sum_by g (lines_in part.Enters b m right set) ≡ e →
-    sum_by g (lines_in part.Keeps b m right set) ≡ k → sum_by g (lines_in part.Takes b m right set) ≡ t → sum_by g (terms b m right set) ≡ s + e + k + t
+    sum_by g (lines_in part.Keeps b m right set) ≡ k → sum_by g (lines_in part.Takes b m right set) ≡ t →
+    sum_by g (terms b m right set) ≡ s + e + k + t
 sum_terms g b m right set s e k t is_s is_e is_k is_t =
     let supplies = lines_in part.Supplies b m right set in
     let enters = lines_in part.Enters b m right set in
@@ -210,26 +266,39 @@ sum_terms g b m right set s e k t is_s is_e is_k is_t =
       is_t,
     )
 
-pub brought_is_capacity : (b : Basin) (m : MonthRecord) (right : ℕ) (set : List Bool) → sum_by brought (terms b m right set) ≡ cut_capacity b m.month m.supply set
+pub brought_is_capacity : (b : Basin) (m : MonthRecord) (right : ℕ) (set : List Bool) →
+    sum_by brought (terms b m right set) ≡ cut_capacity b m.month m.supply set
 brought_is_capacity b m right set =
-    sum_terms brought b m right set (total_where (length b.nodes) (λ n. has set n) (λ n. slice_index m.supply n)) (total_where (length b.links) (λ e. enters b set e) (λ e. carry_of b m.month e)) 0 0
-    (sum_part brought part.Supplies b m right set (λ n. slice_index m.supply n) brought_most (λ n. one brought (line.Supply n (slice_index m.supply n)))
+    sum_terms brought b m right set (total_where (length b.nodes) (λ n. has set n) (λ n. slice_index m.supply n))
+    (total_where (length b.links) (λ e. enters b set e) (λ e. carry_of b m.month e)) 0 0
+    (sum_part brought part.Supplies b m right set (λ n. slice_index m.supply n) brought_most
+    (λ n. one brought (line.Supply n (slice_index m.supply n)))
     ∙ sum_places (λ n. if has set n then slice_index m.supply n else 0) b.nodes)
-    (sum_part brought part.Enters b m right set (λ e. carry_of b m.month e) brought_most (λ e. one brought (line.Enter e (carry_of b m.month e)))
+    (sum_part brought part.Enters b m right set (λ e. carry_of b m.month e) brought_most
+    (λ e. one brought (line.Enter e (carry_of b m.month e)))
     ∙ sum_places (λ e. if enters b set e then carry_of b m.month e else 0) b.links)
-    (sum_part brought part.Keeps b m right set (λ e. 0) brought_most (no_brought b m right) ∙ nothing_in part.Keeps b right set)
-    (sum_part brought part.Takes b m right set (λ s. 0) brought_most (λ s. one brought (line.Take s (slice_index m.delivered s))) ∙ nothing_in part.Takes b right set)
+    (sum_part brought part.Keeps b m right set (λ e. 0) brought_most (no_brought b m right)
+    ∙ nothing_in part.Keeps b right set)
+    (sum_part brought part.Takes b m right set (λ s. 0) brought_most
+    (λ s. one brought (line.Take s (slice_index m.delivered s))) ∙ nothing_in part.Takes b right set)
     ∙ omega arith
 
-pub kept_is_kept : (b : Basin) (m : MonthRecord) (right : ℕ) (set : List Bool) → sum_by kept (terms b m right set) ≡ cut_kept b m.delivered right set
+pub kept_is_kept : (b : Basin) (m : MonthRecord) (right : ℕ) (set : List Bool) →
+    sum_by kept (terms b m right set) ≡ cut_kept b m.delivered right set
 kept_is_kept b m right set =
-    sum_terms kept b m right set 0 0 (total_where (length b.links) (λ e. leaves b set e && not (is_on_link b right e)) (λ e. kept_on b m.delivered right e))
+    sum_terms kept b m right set 0 0
+    (total_where (length b.links) (λ e. leaves b set e && not (is_on_link b right e))
+    (λ e. kept_on b m.delivered right e))
     (total_where (length b.rights) (λ s. takes_within b set s && is_senior b s right) (λ s. slice_index m.delivered s))
-    (sum_part kept part.Supplies b m right set (λ n. 0) kept_most (λ n. one kept (line.Supply n (slice_index m.supply n))) ∙ nothing_in part.Supplies b right set)
-    (sum_part kept part.Enters b m right set (λ e. 0) kept_most (λ e. one kept (line.Enter e (carry_of b m.month e))) ∙ nothing_in part.Enters b right set)
+    (sum_part kept part.Supplies b m right set (λ n. 0) kept_most
+    (λ n. one kept (line.Supply n (slice_index m.supply n))) ∙ nothing_in part.Supplies b right set)
+    (sum_part kept part.Enters b m right set (λ e. 0) kept_most (λ e. one kept (line.Enter e (carry_of b m.month e)))
+    ∙ nothing_in part.Enters b right set)
     (sum_part kept part.Keeps b m right set (λ e. kept_on b m.delivered right e) kept_most (kept_terms b m right)
-    ∙ sum_places (λ e. if leaves b set e && not (is_on_link b right e) then kept_on b m.delivered right e else 0) b.links)
-    (sum_part kept part.Takes b m right set (λ s. slice_index m.delivered s) kept_most (λ s. one kept (line.Take s (slice_index m.delivered s)))
+    ∙ sum_places (λ e. if leaves b set e && not (is_on_link b right e) then kept_on b m.delivered right e else 0)
+    b.links)
+    (sum_part kept part.Takes b m right set (λ s. slice_index m.delivered s) kept_most
+    (λ s. one kept (line.Take s (slice_index m.delivered s)))
     ∙ sum_seniors b (λ s. if takes_within b set s && is_senior b s right then slice_index m.delivered s else 0))
     ∙ omega arith
 
@@ -239,4 +308,5 @@ lines_make_bound b m right set =
     ∙ ap (λ x. pos (cut_capacity b m.month m.supply set) -ℤ pos x) (kept_is_kept b m right set)
 
 pub tight_books_sum_to_delivery : TightBooksSumToDelivery
-tight_books_sum_to_delivery b m right set tight = omega (arith, brought_is_capacity b m right set, kept_is_kept b m right set, tight.tight)
+tight_books_sum_to_delivery b m right set tight =
+    omega (arith, brought_is_capacity b m right set, kept_is_kept b m right set, tight.tight)

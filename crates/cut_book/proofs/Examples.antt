@@ -1,5 +1,6 @@
 -- Two account books of an ordinary basin: a gauged river into a lake, a weir with a canal to a farm, and trout below.
-use Rattle.std.proofs.Common.{◌≡◌, ℕ, ◌*◌, ◌++◌, Bool, true, false, refl, ap, ◌∙◌, List, [], ◌∷◌, replicate, Some, None, arith}
+use Rattle.std.proofs.Common.{◌≡◌, ℕ, ◌*◌, ◌++◌, Bool, true, false, refl, ap, ◌∙◌, List, [], ◌∷◌, replicate, Some, None}
+use Rattle.std.proofs.Common.{arith}
 use Rattle.std.specs.Prelude.{codes, filter}
 use Rattle.std.specs.List.{flat_map}
 use Rattle.std.specs.Fmt.{digits}
@@ -55,7 +56,8 @@ basin = record {
       ∷ record { name = codes "sea"; outlet = true; inflow = no_water }
       ∷ [];
   links =
-      link (codes "r1") 0 1 River ∷ link (codes "r2") 1 2 River ∷ link (codes "r3") 2 4 River ∷ link (codes "r4") 3 4 River ∷ link (codes "r5") 4 5 River
+      link (codes "r1") 0 1 River ∷ link (codes "r2") 1 2 River ∷ link (codes "r3") 2 4 River ∷ link (codes "r4") 3 4
+      River ∷ link (codes "r5") 4 5 River
       ∷ link (codes "c1") 2 3 (Canal 100 (replicate 12 false))
       ∷ [];
   reservoirs =
@@ -67,7 +69,8 @@ basin = record {
       }
       ∷ [];
   rights =
-      right (codes "canalco") 1911 6 15 (Diversion 3) (0 ∷ 0 ∷ 0 ∷ 500 ∷ 2000 ∷ 3500 ∷ 4000 ∷ 3800 ∷ 1500 ∷ 300 ∷ 0 ∷ 0 ∷ [])
+      right (codes "canalco") 1911 6 15 (Diversion 3)
+      (0 ∷ 0 ∷ 0 ∷ 500 ∷ 2000 ∷ 3500 ∷ 4000 ∷ 3800 ∷ 1500 ∷ 300 ∷ 0 ∷ 0 ∷ [])
       ∷ right (codes "city") 1930 1 1 (Diversion 2) (replicate 12 400)
       ∷ right (codes "fish") 1905 4 1 (Instream 4) (replicate 12 1500)
       ∷ right (codes "dead") 1900 1 1 (Zone 0 1) (replicate 12 1000)
@@ -107,13 +110,15 @@ july = record {
 }
 
 live_lines : book basin july 4 above_sea
-    ≡ line.Why (record { year = 1960; month = 7 }) 4 4460 9000 ∷ line.Supply 0 2500 ∷ line.Supply 1 7560 ∷ line.Keep 4 1500 2 ∷ line.Take 3 1000 ∷ line.Take 0 3100
+    ≡ line.Why (record { year = 1960; month = 7 }) 4 4460 9000 ∷ line.Supply 0 2500 ∷ line.Supply 1 7560 ∷ line.Keep 4
+    1500 2 ∷ line.Take 3 1000 ∷ line.Take 0 3100
     ∷ line.Sum 4460 ∷ []
 unfolding numbers_from by_seniority greatest_where holder_of
 live_lines = refl
 
 live_text : book_bytes basin july 4 above_sea
-    ≡ codes "why 1960-07 live 4460 9000" ++ 10 ∷ codes "supply upper 2500" ++ 10 ∷ codes "supply lake 7560" ++ 10 ∷ codes "keep r5 1500 fish" ++ 10
+    ≡ codes "why 1960-07 live 4460 9000" ++ 10 ∷ codes "supply upper 2500" ++ 10 ∷ codes
+    "supply lake 7560" ++ 10 ∷ codes "keep r5 1500 fish" ++ 10
     ∷ codes "take dead 1000" ++ 10 ∷ codes "take canalco 3100" ++ 10 ∷ codes "sum 4460" ++ 10 ∷ []
 unfolding numbers_from by_seniority greatest_where holder_of whole_line fields_of digits
 live_text = refl
@@ -131,9 +136,13 @@ canalco_book = refl
 days_of_july : days_of (record { year = 1960; month = 7 }) ≡ 31
 days_of_july = days_in-days_in_month 1960 7 (omega arith) (omega arith)
 
-canalco_lines : flat_map (whole_line basin) (canal_book 31) ≡ codes "why 1960-07 canalco 3100 4000" ++ 10 ∷ codes "enter c1 3100" ++ 10 ∷ codes "sum 3100" ++ 10 ∷ []
+canalco_lines : flat_map (whole_line basin) (canal_book 31) ≡ codes "why 1960-07 canalco 3100 4000" ++ 10 ∷ codes
+    "enter c1 3100" ++ 10 ∷ codes "sum 3100" ++ 10 ∷ []
 unfolding whole_line fields_of digits
 canalco_lines = refl
 
-canalco_text : book_bytes basin july 0 by_farm ≡ codes "why 1960-07 canalco 3100 4000" ++ 10 ∷ codes "enter c1 3100" ++ 10 ∷ codes "sum 3100" ++ 10 ∷ []
-canalco_text = ap (flat_map (whole_line basin)) canalco_book ∙ (ap (λ days. flat_map (whole_line basin) (canal_book days)) days_of_july ∙ canalco_lines)
+canalco_text : book_bytes basin july 0 by_farm ≡ codes "why 1960-07 canalco 3100 4000" ++ 10 ∷ codes
+    "enter c1 3100" ++ 10 ∷ codes "sum 3100" ++ 10 ∷ []
+canalco_text =
+    ap (flat_map (whole_line basin)) canalco_book
+    ∙ (ap (λ days. flat_map (whole_line basin) (canal_book days)) days_of_july ∙ canalco_lines)

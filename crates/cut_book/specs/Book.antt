@@ -1,5 +1,6 @@
 -- The account book of a right: the terms of the bound of a set, and what they add up to.
-use Rattle.std.specs.Prelude.{ℕ, Bool, ◌&&◌, not, List, [], ◌∷◌, ◌++◌, filter, length, slice_index, Option, Some, None, if◌then◌else◌}
+use Rattle.std.specs.Prelude.{ℕ, Bool, ◌&&◌, not, List, [], ◌∷◌, ◌++◌, filter, length, slice_index, Option, Some, None}
+use Rattle.std.specs.Prelude.{if◌then◌else◌}
 use Rattle.std.specs.List.{flat_map}
 use Rattle.water_model.specs.Basin.{is_on_link, is_senior}
 use Rattle.water_model.specs.Cuts.{enters, leaves, takes_within, kept_on}
@@ -50,14 +51,16 @@ terms_at part.Takes b m right taker = line.Take taker (slice_index m.delivered t
 
 -- the lines of a part: its terms, without those of amount 0
 abbrev pub lines_at : Part → Basin → MonthRecord → ℕ → List Bool → ℕ → List Entry
-lines_at of_part b m right set place = if counts of_part b right set place then filter has_amount (terms_at of_part b m right place) else []
+lines_at of_part b m right set place =
+    if counts of_part b right set place then filter has_amount (terms_at of_part b m right place) else []
 
 abbrev pub lines_in : Part → Basin → MonthRecord → ℕ → List Bool → List Entry
 lines_in of_part b m right set = flat_map (lines_at of_part b m right set) (places_in of_part b)
 
 -- all terms: supplies, links that enter, what is kept on links, and takes
 abbrev pub terms : Basin → MonthRecord → ℕ → List Bool → List Entry
-terms b m right set = flat_map (λ p. lines_in p b m right set) (part.Supplies ∷ part.Enters ∷ part.Keeps ∷ part.Takes ∷ [])
+terms b m right set =
+    flat_map (λ p. lines_in p b m right set) (part.Supplies ∷ part.Enters ∷ part.Keeps ∷ part.Takes ∷ [])
 
 -- the book: what the right got and wanted, the terms, and their sum
 abbrev pub book : Basin → MonthRecord → ℕ → List Bool → List Entry

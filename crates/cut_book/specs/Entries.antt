@@ -53,7 +53,8 @@ IsOfBasin b (line.Sum amount) = Unit {0}
 
 -- a line's word and its fields
 unfoldable pub fields_of : Basin → Entry → List (List ℕ)
-fields_of b (line.Why month right amount want) = codes "why" ∷ month_digits month ∷ right_name b right ∷ decimal amount ∷ decimal want ∷ []
+fields_of b (line.Why month right amount want) =
+    codes "why" ∷ month_digits month ∷ right_name b right ∷ decimal amount ∷ decimal want ∷ []
 fields_of b (line.Supply node amount) = codes "supply" ∷ node_name b node ∷ decimal amount ∷ []
 fields_of b (line.Enter link amount) = codes "enter" ∷ link_name b link ∷ decimal amount ∷ []
 fields_of b (line.Keep link amount holder) = codes "keep" ∷ link_name b link ∷ decimal amount ∷ right_name b holder ∷ []

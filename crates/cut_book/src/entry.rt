@@ -21,8 +21,8 @@ pub enum Entry {
         link: u32,
         amount: u64,
     },
-    /// What is kept for instream rights on a link that leaves the set. The holder is the most senior of those on the link that are
-    /// delivered this amount.
+    /// What is kept for instream rights on a link that leaves the set. The holder is the most senior of those on the
+    /// link that are delivered this amount.
     Keep {
         link: u32,
         amount: u64,

@@ -31,7 +31,8 @@ fn holder_with(
     requires delivered { length delivered.now ≡ length basin.now.rights }
     requires before { IfSome before (λ r. r < length basin.now.rights) }
     requires right { right < length basin.now.rights }
-    ensures { result ≡ (if slice_index delivered.now right == amount then more_senior basin.now before right else before) }
+    ensures { result ≡ (if slice_index delivered.now right == amount then more_senior basin.now before right
+        else before) }
 {
     if delivered[right as usize] == amount {
         more_senior(basin, before, right)

@@ -1,4 +1,5 @@
-//! The account book of a right that is short: the terms of the bound that its set puts on it, one a line, and their sum.
+//! The account book of a right that is short: the terms of the bound that its set puts on it, one a line, and their
+//! sum.
 //!
 //! Whatever is supplied in the set and whatever the links that enter it can bring, less what seniors keep on the links
 //! that leave it and by takes in it, is the most that the right could get. Where the set is a tight cut, it is what the

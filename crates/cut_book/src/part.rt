@@ -54,7 +54,8 @@ fn supply_at(basin: &Basin, month: &MonthRecord, right: u32, node: u32) -> Optio
     requires month { FitsText basin.now month.now }
     requires cut { HasCut basin.now month.now.cuts right }
     requires node { node < length basin.now.nodes }
-    ensures lines { option_to_list result ≡ lines_at Part.Supplies basin.now month.now right (cut_at month.now.cuts right) node }
+    ensures lines { option_to_list result ≡ lines_at Part.Supplies basin.now month.now right
+        (cut_at month.now.cuts right) node }
     ensures named { IfSome result (IsOfBasin basin.now) }
 {
     if !holds(&month.cuts, right, node) {
@@ -70,7 +71,8 @@ fn enter_at(basin: &Basin, month: &MonthRecord, right: u32, link: u32) -> Option
     requires month { FitsText basin.now month.now }
     requires cut { HasCut basin.now month.now.cuts right }
     requires link { link < length basin.now.links }
-    ensures lines { option_to_list result ≡ lines_at Part.Enters basin.now month.now right (cut_at month.now.cuts right) link }
+    ensures lines { option_to_list result ≡ lines_at Part.Enters basin.now month.now right (cut_at month.now.cuts right)
+        link }
     ensures named { IfSome result (IsOfBasin basin.now) }
 {
     if !enters(basin, &month.cuts, right, link) {
@@ -87,7 +89,8 @@ fn keep_at(basin: &Basin, roll: &Roll, month: &MonthRecord, right: u32, link: u3
     requires month { FitsText basin.now month.now }
     requires cut { HasCut basin.now month.now.cuts right }
     requires link { link < length basin.now.links }
-    ensures lines { option_to_list result ≡ lines_at Part.Keeps basin.now month.now right (cut_at month.now.cuts right) link }
+    ensures lines { option_to_list result ≡ lines_at Part.Keeps basin.now month.now right (cut_at month.now.cuts right)
+        link }
     ensures named { IfSome result (IsOfBasin basin.now) }
 {
     if !leaves(basin, &month.cuts, right, link) || is_on_link(basin, right, link) {
@@ -112,7 +115,8 @@ fn take_at(basin: &Basin, month: &MonthRecord, right: u32, taker: u32) -> Option
     requires month { FitsText basin.now month.now }
     requires cut { HasCut basin.now month.now.cuts right }
     requires taker { taker < length basin.now.rights }
-    ensures lines { option_to_list result ≡ lines_at Part.Takes basin.now month.now right (cut_at month.now.cuts right) taker }
+    ensures lines { option_to_list result ≡ lines_at Part.Takes basin.now month.now right (cut_at month.now.cuts right)
+        taker }
     ensures named { IfSome result (IsOfBasin basin.now) }
 {
     if !takes_within(basin, &month.cuts, right, taker) || !is_senior_to(basin, taker, right) {
@@ -142,7 +146,8 @@ pub fn line_at(
     requires month { FitsText basin.now month.now }
     requires cut { HasCut basin.now month.now.cuts right }
     requires place { place < count_in part basin.now }
-    ensures lines { option_to_list result ≡ lines_at part basin.now month.now right (cut_at month.now.cuts right) place }
+    ensures lines { option_to_list result ≡ lines_at part basin.now month.now right (cut_at month.now.cuts right)
+        place }
     ensures named { IfSome result (IsOfBasin basin.now) }
 {
     match part {

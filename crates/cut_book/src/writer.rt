@@ -154,7 +154,8 @@ fn put_terms<K: Sink>(
 fn why(month: &MonthRecord, right: u32) -> Entry
     requires delivered { right < length month.now.delivered }
     requires want { right < length month.now.want }
-    ensures { result ≡ Entry.Why month.now.month right (slice_index month.now.delivered right) (slice_index month.now.want right) }
+    ensures { result ≡ Entry.Why month.now.month right (slice_index month.now.delivered right)
+        (slice_index month.now.want right) }
 {
     Entry::Why {
         month: month.month,
@@ -174,12 +175,12 @@ fn sum(month: &MonthRecord, right: u32) -> Entry
     }
 }
 
-/// Puts the account book of a right whose set in the record is a tight cut of it: what it got and wanted, each supply in
-/// the set, each link that enters it, what is kept on each link that leaves it and for whom, each take of a senior in it,
-/// and their sum, which is what the right got. A line of amount 0 is left out.
+/// Puts the account book of a right whose set in the record is a tight cut of it: what it got and wanted, each supply
+/// in the set, each link that enters it, what is kept on each link that leaves it and for whom, each take of a senior
+/// in it, and their sum, which is what the right got. A line of amount 0 is left out.
 ///
-/// Each line is one `put`. `SinkFailed` comes only where the sink counted a fault; a front of the book was then put. The
-/// cost is linear in nodes, links and rights, and no memory is taken.
+/// Each line is one `put`. `SinkFailed` comes only where the sink counted a fault; a front of the book was then put.
+/// The cost is linear in nodes, links and rights, and no memory is taken.
 pub fn put_book<K: Sink>(
     sink: &mut K,
     basin: &Basin,
@@ -191,7 +192,8 @@ pub fn put_book<K: Sink>(
     requires roll { IsRollOf basin.now.rights roll.now }
     requires month { FitsText basin.now month.now }
     requires cut { HasCut basin.now month.now.cuts right }
-    requires tight { IsTight basin.now month.now.month month.now.supply month.now.delivered right (cut_at month.now.cuts right) }
+    requires tight { IsTight basin.now month.now.month month.now.supply month.now.delivered right
+        (cut_at month.now.cuts right) }
     ensures text { Puts (K.taken sink.old) (K.taken sink.new) result
         (book_bytes basin.now month.now right (cut_at month.now.cuts right)) }
     ensures cause { HasCause (K.faults sink.old) (K.faults sink.new) (IsErr result) }

@@ -1,5 +1,6 @@
 -- Sums that fit their type.
-use Rattle.std.proofs.Common.{inl, inr, ◌≡◌, ℕ, zero, suc, ◌+◌, ◌-◌, ◌*◌, ◌^◌, ◌<◌, ◌≤◌, Bool, true, false, ap, sym, ◌∙◌, arith, List, length, get_or}
+use Rattle.std.proofs.Common.{inl, inr, ◌≡◌, ℕ, zero, suc, ◌+◌, ◌-◌, ◌*◌, ◌^◌, ◌<◌, ◌≤◌, Bool, true, false, ap, sym}
+use Rattle.std.proofs.Common.{◌∙◌, arith, List, length, get_or}
 use Rattle.std.specs.Prelude.{slice_index, slice_get, All, if◌then◌else◌, unwrap_or, option_map, pos, ◌&&◌}
 use Rattle.std.proofs.lemmas.Bool.{cases_lt}
 use Rattle.std.proofs.lemmas.List.{get_or_past}
@@ -26,7 +27,8 @@ total_most zero m f h = omega arith
 total_most (suc n) m f h = omega (arith, total_most n m f (λ k l. h k (omega arith)), h n (omega arith))
 
 -- the terms so far that pass, and the next one
-pub next_fits : (k n m : ℕ) (p : ℕ → Bool) (f : ℕ → ℕ) → k < n → ((i : ℕ) → i < n → f i ≤ m) → total_where k p f + f k ≤ n * m
+pub next_fits : (k n m : ℕ) (p : ℕ → Bool) (f : ℕ → ℕ) → k < n → ((i : ℕ) → i < n → f i ≤ m) →
+    total_where k p f + f k ≤ n * m
 next_fits k n m p f l h = omega (arith, total_where_fits k n p f l, total_most n m f h)
 
 -- and if it passes
@@ -71,10 +73,12 @@ canal_carries per_day shut month closed e =
     ap (λ t. if t then 0 else per_day * days_of month) (sym (unwrap_or-slice_get shut (month.month - 1) false ∙ e))
 
 -- no link carries more than a river
-pub carry_most : (b : Basin) (month : Month) (e : ℕ) → IsValidBasin b → IsMonth month → e < length b.links → carry_of b month e ≤ 10 ^ 15
+pub carry_most : (b : Basin) (month : Month) (e : ℕ) → IsValidBasin b → IsMonth month → e < length b.links →
+    carry_of b month e ≤ 10 ^ 15
 carry_most b month e valid is l =
     let entry = entry_holds (λ l. IsValidLink b l) b.links e valid.links l in
-    let at : carry_of b month e ≡ carry_of_kind entry.0.carry month = ap (λ o. unwrap_or (option_map (λ x. carry_of_kind x.carry month) o) 0) entry.1 in
+    let at : carry_of b month e ≡ carry_of_kind entry.0.carry month =
+    ap (λ o. unwrap_or (option_map (λ x. carry_of_kind x.carry month) o) 0) entry.1 in
     rw at (by_kind entry.0.carry entry.2.carry)
   where
     by_kind : (c : Carry) → IsValidCarry c → carry_of_kind c month ≤ 10 ^ 15
@@ -93,6 +97,8 @@ entry_most xs m k all = elim (cases_lt k (length xs)) [
 ]
 
 -- what is kept on a link is a delivery
-pub kept_most : (b : Basin) (delivered : List ℕ) (right link m : ℕ) → All (λ d. d ≤ m) delivered → kept_on b delivered right link ≤ m
+pub kept_most : (b : Basin) (delivered : List ℕ) (right link m : ℕ) → All (λ d. d ≤ m) delivered →
+    kept_on b delivered right link ≤ m
 kept_most b delivered right link m all =
-    greatest_where_le (length b.rights) (λ s. is_on_link b s link && is_senior b s right) (λ s. slice_index delivered s) m (λ s l h. entry_most delivered m s all)
+    greatest_where_le (length b.rights) (λ s. is_on_link b s link && is_senior b s right) (λ s. slice_index delivered s)
+    m (λ s l h. entry_most delivered m s all)

@@ -1,5 +1,6 @@
 -- What is kept on a link, from one right on it to the next.
-use Rattle.std.proofs.Common.{◌≡◌, ℕ, zero, suc, ◌+◌, ◌<◌, ◌≤◌, Bool, true, false, refl, sym, ap, ◌∙◌, arith, List, length, inl, inr, add-one}
+use Rattle.std.proofs.Common.{◌≡◌, ℕ, zero, suc, ◌+◌, ◌<◌, ◌≤◌, Bool, true, false, refl, sym, ap, ◌∙◌, arith, List}
+use Rattle.std.proofs.Common.{length, inl, inr, add-one}
 use Rattle.std.specs.Prelude.{slice_index, Option, Some, None, max, if◌then◌else◌, ◌&&◌, ◌==◌, ◌⊎◌, ◌≢◌}
 use Rattle.std.proofs.lemmas.Bool.Decides.{nat_tests}
 use Rattle.place_sums.specs.Sums.{greatest_where}
@@ -15,7 +16,9 @@ unfolding greatest_where
 greatest_skips m zero p f h none = let e : 0 ≡ m = omega arith in ap (λ k. greatest_where k p f) e
 greatest_skips m (suc n) p f h none = elim (at_or_below m n h) [
   | inl same ↦ ap (λ k. greatest_where k p f) (sym same)
-  | inr below ↦ rw (none n below (omega arith)) (zero_max (greatest_where n p f) ∙ greatest_skips m n p f below (λ k a c. none k a (omega arith)))
+  | inr below ↦
+      rw (none n below (omega arith))
+      (zero_max (greatest_where n p f) ∙ greatest_skips m n p f below (λ k a c. none k a (omega arith)))
 ]
   where
     at_or_below : (m n : ℕ) → m ≤ suc n → (m ≡ suc n) ⊎ (m ≤ n)
@@ -55,13 +58,16 @@ on_link b s link e = ap (λ o. is_at o link) e ∙ itself link
     itself : (x : ℕ) → x == x ≡ true
     itself x = grind (arith, nat_tests)
 
-pub kept_start : (b : Basin) (delivered : List ℕ) (right link : ℕ) (next : Option ℕ) → IsNextOn b.rights link 0 next → IsKeptSoFar b delivered right link 0 next
+pub kept_start : (b : Basin) (delivered : List ℕ) (right link : ℕ) (next : Option ℕ) → IsNextOn b.rights link 0 next →
+    IsKeptSoFar b delivered right link 0 next
 unfolding greatest_where
 kept_start b delivered right link next at = record { start = 0; within = omega arith; at = at; so_far = refl }
 
 -- one right of the chain more
-pub kept_more : (b : Basin) (delivered : List ℕ) (right link kept more holder : ℕ) (next : Option ℕ) → IsKeptSoFar b delivered right link kept (Some holder) →
-    more ≡ (if is_senior b holder right then max kept (slice_index delivered holder) else kept) → IsNextOn b.rights link (holder + 1) next →
+pub kept_more : (b : Basin) (delivered : List ℕ) (right link kept more holder : ℕ) (next : Option ℕ) →
+    IsKeptSoFar b delivered right link kept (Some holder) →
+    more ≡ (if is_senior b holder right then max kept (slice_index delivered holder) else kept) →
+    IsNextOn b.rights link (holder + 1) next →
     IsKeptSoFar b delivered right link more next
 unfolding greatest_where
 kept_more b delivered right link kept more holder next so is further = record {
@@ -75,14 +81,19 @@ kept_more b delivered right link kept more holder next so is further = record {
     subst_start h = rw (← add-one) h
 
     before : greatest_where holder (holds b right link) (λ s. slice_index delivered s) ≡ kept
-    before = greatest_skips so.start holder (holds b right link) (λ s. slice_index delivered s) so.at.0 (λ k l u. off_link b right link k (so.at.3 k l u)) ∙ sym so.so_far
+    before = greatest_skips so.start holder (holds b right link) (λ s. slice_index delivered s) so.at.0
+        (λ k l u. off_link b right link k (so.at.3 k l u)) ∙ sym so.so_far
 
     by_test : (t : Bool) → is_senior b holder right ≡ t → (if t then max kept (slice_index delivered holder) else kept)
-        ≡ max (greatest_where holder (holds b right link) (λ s. slice_index delivered s)) (if holds b right link holder then slice_index delivered holder else 0)
+        ≡ max (greatest_where holder (holds b right link) (λ s. slice_index delivered s))
+        (if holds b right link holder then slice_index delivered holder else 0)
     by_test true e = rw (before, on_link b holder link so.at.2, e) refl
     by_test false e = rw (before, on_link b holder link so.at.2, e) (omega arith)
 
 -- all rights of the chain
-pub kept_all : (b : Basin) (delivered : List ℕ) (right link kept : ℕ) → IsKeptSoFar b delivered right link kept None → kept ≡ kept_on b delivered right link
+pub kept_all : (b : Basin) (delivered : List ℕ) (right link kept : ℕ) → IsKeptSoFar b delivered right link kept None →
+    kept ≡ kept_on b delivered right link
 kept_all b delivered right link kept so =
-    so.so_far ∙ sym (greatest_skips so.start (length b.rights) (holds b right link) (λ s. slice_index delivered s) so.within (λ k l u. off_link b right link k (so.at k l u)))
+    so.so_far
+    ∙ sym (greatest_skips so.start (length b.rights) (holds b right link) (λ s. slice_index delivered s) so.within
+    (λ k l u. off_link b right link k (so.at k l u)))

@@ -4,7 +4,8 @@
 //! with lower bounds, for one right at a time: Ahuja, Magnanti and Orlin, Network Flows.)
 #![tactic(auto)]
 
-ghost use Rattle.std.specs.Prelude.{◌≡◌, ◌+◌, ◌*◌, ◌<◌, ◌≤◌, ◌^◌, ◌&&◌, not, max, All, if◌then◌else◌, length, slice_index, IsTrue, ◌↔◌};
+ghost use Rattle.std.specs.Prelude.{◌≡◌, ◌+◌, ◌*◌, ◌<◌, ◌≤◌, ◌^◌, ◌&&◌, not, max, All, if◌then◌else◌, length};
+ghost use Rattle.std.specs.Prelude.{slice_index, IsTrue, ◌↔◌};
 ghost use Rattle.place_sums.specs.Sums.{total, total_where, when};
 ghost use Rattle.water_text.specs.Months.{IsMonth, days_of};
 ghost use Rattle.water_model.specs.Lookups.{has};
@@ -96,7 +97,8 @@ fn supply_in(cuts: &CutList, right: u32, supply: &[u64]) -> u64
     requires supplies { length supply.now ≡ cuts.now.nodes }
     requires few { cuts.now.nodes ≤ 2000 }
     requires small { total (length supply.now) (λ n. slice_index supply.now n) < 4 * 10 ^ 13 }
-    ensures sum { result ≡ total_where (length supply.now) (λ n. has (cut_at cuts.now right) n) (λ n. slice_index supply.now n) }
+    ensures sum { result ≡ total_where (length supply.now) (λ n. has (cut_at cuts.now right) n)
+        (λ n. slice_index supply.now n) }
     ensures small { result < 4 * 10 ^ 13 }
 {
     let mut sum = 0;
@@ -113,7 +115,8 @@ fn kept_with(basin: &Basin, delivered: &[u64], right: u32, holder: u32, kept: u6
     requires delivered { length delivered.now ≡ length basin.now.rights }
     requires right { right < length basin.now.rights }
     requires holder { holder < length basin.now.rights }
-    ensures { result ≡ (if is_senior basin.now holder right then max kept (slice_index delivered.now holder) else kept) }
+    ensures { result ≡ (if is_senior basin.now holder right then max kept (slice_index delivered.now holder)
+        else kept) }
 {
     if is_senior_to(basin, holder, right) {
         kept.max(delivered[holder as usize])
@@ -248,7 +251,9 @@ fn kept_by_takes(basin: &Basin, delivered: &[u64], right: u32, cuts: &CutList) -
     requires delivered { length delivered.now ≡ length basin.now.rights }
     requires most { All (λ d. d ≤ 10 ^ 9) delivered.now }
     requires cut { HasCut basin.now cuts.now right }
-    ensures sum { result ≡ total_where (length basin.now.rights) (λ s. takes_within basin.now (cut_at cuts.now right) s && is_senior basin.now s right) (λ s. slice_index delivered.now s) }
+    ensures sum { result ≡ total_where (length basin.now.rights)
+        (λ s. takes_within basin.now (cut_at cuts.now right) s && is_senior basin.now s right)
+        (λ s. slice_index delivered.now s) }
     ensures small { result ≤ 2000 * 10 ^ 9 }
 {
     let mut sum = 0;
@@ -292,7 +297,8 @@ pub fn bound(
 fn separates(basin: &Basin, right: u32, cuts: &CutList) -> bool
     requires basin { IsValidBasin basin.now }
     requires cut { HasCut basin.now cuts.now right }
-    ensures { IsTrue result ↔ Separates basin.now (taking_node basin.now right) (instream_link basin.now right) (cut_at cuts.now right) }
+    ensures { IsTrue result ↔ Separates basin.now (taking_node basin.now right) (instream_link basin.now right)
+        (cut_at cuts.now right) }
 {
     match basin.rights[right as usize].kind {
         RightKind::Diversion { node } => holds(cuts, right, node),

@@ -9,10 +9,17 @@ use Rattle.water_model.proofs.Order.{length-numbers_from}
 
 few_columns : (p : ℕ → Bool) (count : ℕ) (keys : List ℕ) → keys ≡ filter p (numbers_from 0 count) → length keys ≤ count
 few_columns p count keys e =
-    rw e (omega (arith, length-filter p (numbers_from 0 count), count_by-le-length p (numbers_from 0 count), length-numbers_from 0 count))
+    rw e (omega (
+      arith,
+      length-filter p (numbers_from 0 count),
+      count_by-le-length p (numbers_from 0 count),
+      length-numbers_from 0 count,
+    ))
 
 pub few_gauges : (b : Basin) (series : Inflows) → IsValidBasin b → IsSeriesOf b series → length series.gauged ≤ 2000
-few_gauges b series valid fits = omega (arith, few_columns (λ n. is_gauged b n) (length b.nodes) series.gauged fits.gauged, valid.few.nodes)
+few_gauges b series valid fits =
+    omega (arith, few_columns (λ n. is_gauged b n) (length b.nodes) series.gauged fits.gauged, valid.few.nodes)
 
 pub few_wants : (b : Basin) (series : Inflows) → IsValidBasin b → IsSeriesOf b series → length series.wanted ≤ 2000
-few_wants b series valid fits = omega (arith, few_columns (λ k. is_in_series b k) (length b.rights) series.wanted fits.wanted, valid.few.rights)
+few_wants b series valid fits =
+    omega (arith, few_columns (λ k. is_in_series b k) (length b.rights) series.wanted fits.wanted, valid.few.rights)

@@ -26,11 +26,14 @@ to_place : (x first n i : ℕ) → index x first n ≡ Some i → (i < n) × (x 
 unfolding index
 to_place x first n i h = by_first (nat_lt x first) refl h
   where
-    by_second : (t : Bool) → nat_lt (x - first) n ≡ t → first ≤ x → (if t then Some (x - first) else None) ≡ Some i → (i < n) × (x ≡ first + i)
+    by_second : (t : Bool) → nat_lt (x - first) n ≡ t → first ≤ x → (if t then Some (x - first) else None) ≡ Some i →
+        (i < n) × (x ≡ first + i)
     by_second true e l h = let same : x - first ≡ i = cc in let k = below (x - first) n e in (omega arith, omega arith)
     by_second false e l h = cc
 
-    by_first : (t : Bool) → nat_lt x first ≡ t → (if t then None else (if nat_lt (x - first) n then Some (x - first) else None)) ≡ Some i → (i < n) × (x ≡ first + i)
+    by_first : (t : Bool) → nat_lt x first ≡ t →
+        (if t then None else (if nat_lt (x - first) n then Some (x - first) else None)) ≡ Some i → (i < n) ×
+        (x ≡ first + i)
     by_first true e h = cc
     by_first false e h = by_second (nat_lt (x - first) n) refl (above x first e) h
 
@@ -43,8 +46,10 @@ from_place x first n i l e =
 same_parts : (m n : Month) → m.year ≡ n.year → m.month ≡ n.month → m ≡ n
 same_parts m n years months = λ i. record { year = years i; month = months i }
 
-month_behind : (first m : Month) (i : ℕ) → IsMonth first → IsMonth m → month_number m ≡ month_number first + i → m ≡ month_after first i
-month_behind first m i h k e = same_parts m (month_after first i) (omega (arith, h.month, k.month)) (omega (arith, h.month, k.month))
+month_behind : (first m : Month) (i : ℕ) → IsMonth first → IsMonth m → month_number m ≡ month_number first + i →
+    m ≡ month_after first i
+month_behind first m i h k e =
+    same_parts m (month_after first i) (omega (arith, h.month, k.month)) (omega (arith, h.month, k.month))
 
 pub number_after : (first : Month) (i : ℕ) → IsMonth first → month_number (month_after first i) ≡ month_number first + i
 number_after first i h = omega (arith, h.month)
@@ -52,6 +57,8 @@ number_after first i h = omega (arith, h.month)
 pub months_have_their_index : MonthsHaveTheirIndex
 unfolding index
 months_have_their_index b m i valid month = (
-  (λ h. let found = to_place (month_number m) (month_number b.first) b.months i h in (found.0, month_behind b.first m i valid.run.first month found.1)),
-  (λ h. from_place (month_number m) (month_number b.first) b.months i h.0 (ap month_number h.1 ∙ number_after b.first i valid.run.first)),
+  (λ h. let found = to_place (month_number m) (month_number b.first) b.months i h in
+      (found.0, month_behind b.first m i valid.run.first month found.1)),
+  (λ h. from_place (month_number m) (month_number b.first) b.months i h.0
+      (ap month_number h.1 ∙ number_after b.first i valid.run.first)),
 )

@@ -1,5 +1,6 @@
 -- What stands between the spaces of a line, and between the line feeds of a text.
-use Rattle.std.proofs.Common.{◌≡◌, ℕ, ◌+◌, ◌-◌, ◌<◌, ◌≤◌, Bool, true, false, refl, sym, ap, ◌∙◌, arith, List, [], ◌∷◌, length, take, drop, Some, None, cond}
+use Rattle.std.proofs.Common.{◌≡◌, ℕ, ◌+◌, ◌-◌, ◌<◌, ◌≤◌, Bool, true, false, refl, sym, ap, ◌∙◌, arith, List, [], ◌∷◌}
+use Rattle.std.proofs.Common.{length, take, drop, Some, None, cond}
 use Rattle.std.specs.Prelude.{nat_lt}
 use Rattle.std.specs.List.{slice_split, onto_first, position, position_or_len}
 use Rattle.std.proofs.lemmas.Bool.Decides.{nat_tests}
@@ -7,11 +8,13 @@ use Rattle.std.proofs.lemmas.List.{take_rest}
 use Rattle.std.proofs.lemmas.List.Splits.{slice_split_first}
 
 -- a text has a piece
-pub some_piece : (p : ℕ → Bool) (bytes : List ℕ) → (piece : List ℕ) × (pieces : List (List ℕ)) × (slice_split p bytes ≡ piece ∷ pieces)
+pub some_piece : (p : ℕ → Bool) (bytes : List ℕ) → (piece : List ℕ) × (pieces : List (List ℕ)) ×
+    (slice_split p bytes ≡ piece ∷ pieces)
 some_piece p [] = ([], [], refl)
 some_piece p (c ∷ cs) = by_test (p c) (slice_split p cs)
   where
-    by_test : (t : Bool) (parts : List (List ℕ)) → (piece : List ℕ) × (pieces : List (List ℕ)) × (cond t ([] ∷ parts) (onto_first c parts) ≡ piece ∷ pieces)
+    by_test : (t : Bool) (parts : List (List ℕ)) → (piece : List ℕ) × (pieces : List (List ℕ)) ×
+        (cond t ([] ∷ parts) (onto_first c parts) ≡ piece ∷ pieces)
     by_test true parts = ([], parts, refl)
     by_test false [] = (c ∷ [], [], refl)
     by_test false (part ∷ parts) = (c ∷ part, parts, refl)
@@ -21,7 +24,8 @@ uncut : {X : Type 0} (p : X → Bool) (xs : List X) → length xs ≤ position_o
 uncut p [] h = refl
 uncut p (x ∷ xs) h = by_test (p x) refl (uncut p xs)
   where
-    by_test : (t : Bool) → p x ≡ t → (length xs ≤ position_or_len p xs → slice_split p xs ≡ xs ∷ []) → slice_split p (x ∷ xs) ≡ (x ∷ xs) ∷ []
+    by_test : (t : Bool) → p x ≡ t → (length xs ≤ position_or_len p xs → slice_split p xs ≡ xs ∷ []) →
+        slice_split p (x ∷ xs) ≡ (x ∷ xs) ∷ []
     by_test true e further = let here : position_or_len p (x ∷ xs) ≡ 0 = rw e refl in absurd (omega arith)
     by_test false e further =
         let here : position_or_len p (x ∷ xs) ≡ 1 + position_or_len p xs = rw e refl in

@@ -1,12 +1,14 @@
 -- The lines that were read, and those to come.
-use Rattle.std.proofs.Common.{◌≡◌, ℕ, ◌+◌, ◌≤◌, Bool, true, false, refl, sym, ap, subst, ◌∙◌, arith, List, [], ◌∷◌, ◌++◌, length, append_assoc, cond}
+use Rattle.std.proofs.Common.{◌≡◌, ℕ, ◌+◌, ◌≤◌, Bool, true, false, refl, sym, ap, subst, ◌∙◌, arith, List, [], ◌∷◌}
+use Rattle.std.proofs.Common.{◌++◌, length, append_assoc, cond}
 use Rattle.std.specs.Prelude.{◌==◌, codes, Result, Ok, Err, MatchResult, Vec}
 use Rattle.std.specs.List.{slice_split, onto_first}
 use Rattle.std.specs.Str.{bytes_eq}
 use Rattle.water_model.specs.declared.types.Basin.{Basin}
 use Rattle.water_model.specs.declared.types.Inflows.{Inflows}
 use Rattle.edit_script.specs.Lines.{edit_of}
-use Rattle.edit_script.specs.Scripts.{IsRefusalOf, Reading, ended, edits_from, edits_of_lines, in_front, lines_of, numbered, script_of}
+use Rattle.edit_script.specs.Scripts.{IsRefusalOf, Reading, ended, edits_from, edits_of_lines, in_front, lines_of}
+use Rattle.edit_script.specs.Scripts.{numbered, script_of}
 use Rattle.edit_script.specs.declared.edit.Edit.{Edit}
 use Rattle.edit_script.specs.declared.refused.ScriptRefused.{ScriptRefused}
 use Rattle.edit_script.specs.declared.refused.ScriptRefused.TheVariants as refused
@@ -22,13 +24,15 @@ pub nothing_before : (r : Reading) → r ≡ behind [] r
 nothing_before (Ok more) = refl
 nothing_before (Err why) = refl
 
-behind_more : (edits : List Edit) (e : Edit) (r : Reading) → behind edits (in_front (Ok e) r) ≡ behind (edits ++ e ∷ []) r
+behind_more : (edits : List Edit) (e : Edit) (r : Reading) →
+    behind edits (in_front (Ok e) r) ≡ behind (edits ++ e ∷ []) r
 behind_more edits e (Ok more) = ap (λ (es : List Edit). Ok es) (sym (append_assoc edits (e ∷ []) more))
 behind_more edits e (Err why) = refl
 
 -- one line that is followed by others
 one_line : (b : Basin) (series : Inflows) (number : ℕ) (line text : List ℕ) → bytes_eq line (codes "done") ≡ false →
-    edits_from b series number (line ∷ lines_of text) ≡ in_front (numbered number (edit_of b series line)) (edits_from b series (number + 1) (lines_of text))
+    edits_from b series number (line ∷ lines_of text) ≡ in_front (numbered number (edit_of b series line))
+    (edits_from b series (number + 1) (lines_of text))
 unfolding edits_from
 one_line b series number line text other =
     let found = some_piece (λ byte. byte == 10) text in
@@ -42,8 +46,10 @@ last_line b series number line text done =
     rw (found.2, done) refl
 
 -- the whole reading, by what was read and what is to come
-pub line_taken : (b : Basin) (series : Inflows) (whole : Reading) (edits : List Edit) (number : ℕ) (rest line text : List ℕ) (e : Edit) →
-    whole ≡ behind edits (edits_from b series number (lines_of rest)) → lines_of rest ≡ line ∷ lines_of text → bytes_eq line (codes "done") ≡ false →
+pub line_taken : (b : Basin) (series : Inflows) (whole : Reading) (edits : List Edit) (number : ℕ)
+    (rest line text : List ℕ) (e : Edit) →
+    whole ≡ behind edits (edits_from b series number (lines_of rest)) → lines_of rest ≡ line ∷ lines_of text →
+    bytes_eq line (codes "done") ≡ false →
     Ok e ≡ numbered number (edit_of b series line) →
     whole ≡ behind (edits ++ e ∷ []) (edits_from b series (number + 1) (lines_of text))
 line_taken b series whole edits number rest line text e so_far at other is =
@@ -53,8 +59,10 @@ line_taken b series whole edits number rest line text e so_far at other is =
     ∙ ap (λ r. behind edits (in_front r (edits_from b series (number + 1) (lines_of text)))) (sym is)
     ∙ behind_more edits e (edits_from b series (number + 1) (lines_of text))
 
-pub line_refused : (b : Basin) (series : Inflows) (whole : Reading) (edits : List Edit) (number : ℕ) (rest line text : List ℕ) (why : ScriptRefused) →
-    whole ≡ behind edits (edits_from b series number (lines_of rest)) → lines_of rest ≡ line ∷ lines_of text → bytes_eq line (codes "done") ≡ false →
+pub line_refused : (b : Basin) (series : Inflows) (whole : Reading) (edits : List Edit) (number : ℕ)
+    (rest line text : List ℕ) (why : ScriptRefused) →
+    whole ≡ behind edits (edits_from b series number (lines_of rest)) → lines_of rest ≡ line ∷ lines_of text →
+    bytes_eq line (codes "done") ≡ false →
     Err why ≡ numbered number (edit_of b series line) → whole ≡ Err why
 line_refused b series whole edits number rest line text why so_far at other is =
     so_far
@@ -63,7 +71,8 @@ line_refused b series whole edits number rest line text why so_far at other is =
     ∙ ap (λ r. behind edits (in_front r (edits_from b series (number + 1) (lines_of text)))) (sym is)
 
 -- behind the last line
-ended_behind : (edits : List Edit) (number : ℕ) (lines : List (List ℕ)) → behind edits (ended [] number lines) ≡ ended edits number lines
+ended_behind : (edits : List Edit) (number : ℕ) (lines : List (List ℕ)) →
+    behind edits (ended [] number lines) ≡ ended edits number lines
 ended_behind edits number [] = refl
 ended_behind edits number ([] ∷ []) = ap (λ (es : List Edit). Ok es) (no_more edits)
   where
@@ -73,8 +82,10 @@ ended_behind edits number ([] ∷ []) = ap (λ (es : List Edit). Ok es) (no_more
 ended_behind edits number ([] ∷ (line ∷ lines)) = refl
 ended_behind edits number ((c ∷ cs) ∷ lines) = refl
 
-pub end_taken : (b : Basin) (series : Inflows) (whole : Reading) (edits : List Edit) (number : ℕ) (rest line text : List ℕ) →
-    whole ≡ behind edits (edits_from b series number (lines_of rest)) → lines_of rest ≡ line ∷ lines_of text → bytes_eq line (codes "done") ≡ true →
+pub end_taken : (b : Basin) (series : Inflows) (whole : Reading) (edits : List Edit) (number : ℕ)
+    (rest line text : List ℕ) →
+    whole ≡ behind edits (edits_from b series number (lines_of rest)) → lines_of rest ≡ line ∷ lines_of text →
+    bytes_eq line (codes "done") ≡ true →
     whole ≡ ended edits (number + 1) (lines_of text)
 end_taken b series whole edits number rest line text so_far at done =
     so_far
@@ -87,15 +98,18 @@ pub early_end : (b : Basin) (series : Inflows) (whole : Reading) (edits : List E
     whole ≡ behind edits (edits_from b series number (lines_of rest)) → lines_of rest ≡ rest ∷ [] →
     whole ≡ Err (refused.Refused fault.EarlyEnd number)
 unfolding edits_from
-early_end b series whole edits number rest so_far at = so_far ∙ ap (λ ls. behind edits (edits_from b series number ls)) at
+early_end b series whole edits number rest so_far at =
+    so_far ∙ ap (λ ls. behind edits (edits_from b series number ls)) at
 
 -- bytes behind the last line
 pub more_behind : (edits : List Edit) (number : ℕ) (text : List ℕ) → 1 ≤ length text →
     ended edits number (lines_of text) ≡ Err (refused.Refused fault.AfterEnd number)
 more_behind edits number [] l = absurd (omega arith)
-more_behind edits number (c ∷ cs) l = by_test (c == 10) (slice_split (λ byte. byte == 10) cs) (some_piece (λ byte. byte == 10) cs)
+more_behind edits number (c ∷ cs) l =
+    by_test (c == 10) (slice_split (λ byte. byte == 10) cs) (some_piece (λ byte. byte == 10) cs)
   where
-    by_test : (t : Bool) (parts : List (List ℕ)) → (piece : List ℕ) × (pieces : List (List ℕ)) × (parts ≡ piece ∷ pieces) →
+    by_test : (t : Bool) (parts : List (List ℕ)) → (piece : List ℕ) × (pieces : List (List ℕ)) ×
+        (parts ≡ piece ∷ pieces) →
         ended edits number (cond t ([] ∷ parts) (onto_first c parts)) ≡ Err (refused.Refused fault.AfterEnd number)
     by_test true parts found = rw found.2 refl
     by_test false parts found = rw found.2 refl
@@ -107,30 +121,36 @@ refusal_of whole (refused.Refused fault line) e = e
 
 -- what an answer to a part of the reading says of the whole
 pub answered : {Z : Type 0} (whole part : Reading) (r : Result (Vec Edit Z) ScriptRefused) → whole ≡ part →
-    MatchResult r (λ edits. part ≡ Ok edits.items) (λ why. part ≡ Err why) → MatchResult r (λ edits. whole ≡ Ok edits.items) (IsRefusalOf whole)
+    MatchResult r (λ edits. part ≡ Ok edits.items) (λ why. part ≡ Err why) →
+    MatchResult r (λ edits. whole ≡ Ok edits.items) (IsRefusalOf whole)
 answered whole part (Ok edits) e h = e ∙ h
 answered whole part (Err why) e h = refusal_of whole why (e ∙ h)
 
 -- the first line
-pub first_good : (b : Basin) (series : Inflows) (text first behind : List ℕ) → lines_of text ≡ first ∷ lines_of behind → bytes_eq first (codes "river-edit 1") ≡ true →
+pub first_good : (b : Basin) (series : Inflows) (text first behind : List ℕ) → lines_of text ≡ first ∷ lines_of behind →
+    bytes_eq first (codes "river-edit 1") ≡ true →
     script_of b series text ≡ edits_from b series 2 (lines_of behind)
 unfolding script_of
 first_good b series text first behind at good =
     let found = some_piece (λ byte. byte == 10) behind in
     ap (edits_of_lines b series) at ∙ rw (found.2, good) refl
 
-pub first_bad : (b : Basin) (series : Inflows) (text first behind : List ℕ) → lines_of text ≡ first ∷ lines_of behind → bytes_eq first (codes "river-edit 1") ≡ false →
+pub first_bad : (b : Basin) (series : Inflows) (text first behind : List ℕ) → lines_of text ≡ first ∷ lines_of behind →
+    bytes_eq first (codes "river-edit 1") ≡ false →
     script_of b series text ≡ Err (refused.Refused fault.BadLine 1)
 unfolding script_of
 first_bad b series text first behind at bad =
     let found = some_piece (λ byte. byte == 10) behind in
     ap (edits_of_lines b series) at ∙ rw (found.2, bad) refl
 
-pub no_first : (b : Basin) (series : Inflows) (text : List ℕ) → lines_of text ≡ text ∷ [] → script_of b series text ≡ Err (refused.Refused fault.EarlyEnd 1)
+pub no_first : (b : Basin) (series : Inflows) (text : List ℕ) → lines_of text ≡ text ∷ [] →
+    script_of b series text ≡ Err (refused.Refused fault.EarlyEnd 1)
 unfolding script_of
 no_first b series text at = ap (edits_of_lines b series) at
 
 -- an answer that is given on
 pub given_on : {Z : Type 0} (whole part : Reading) (r : Result (Vec Edit Z) ScriptRefused) → whole ≡ part →
-    MatchResult r (λ edits. part ≡ Ok edits.items) (IsRefusalOf part) → MatchResult r (λ edits. whole ≡ Ok edits.items) (IsRefusalOf whole)
-given_on whole part r e h = subst (λ (x : Reading). MatchResult r (λ edits. x ≡ Ok edits.items) (IsRefusalOf x)) (sym e) h
+    MatchResult r (λ edits. part ≡ Ok edits.items) (IsRefusalOf part) →
+    MatchResult r (λ edits. whole ≡ Ok edits.items) (IsRefusalOf whole)
+given_on whole part r e h =
+    subst (λ (x : Reading). MatchResult r (λ edits. x ≡ Ok edits.items) (IsRefusalOf x)) (sym e) h

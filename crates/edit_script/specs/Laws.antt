@@ -7,7 +7,8 @@ use Rattle.water_model.specs.Valid.{IsValidBasin}
 use Rattle.water_model.specs.declared.types.Basin.{Basin}
 use Rattle.edit_script.specs.Names.{index_in_run}
 
--- Months have their index. A month has an index exactly where the run has it, and the month with that index is this one.
+-- Months have their index. A month has an index exactly where the run has it, and the month with that index is this
+-- one.
 abbrev pub MonthsHaveTheirIndex : Type 0
 MonthsHaveTheirIndex =
     (b : Basin) (m : Month) (i : ℕ) → IsValidBasin b → IsMonth m →

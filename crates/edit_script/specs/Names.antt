@@ -11,4 +11,5 @@ month_number m = 12 * m.year + m.month
 abbrev pub index_in_run : Basin → Month → Option ℕ
 index_in_run b m =
     if nat_lt (month_number m) (month_number b.first) then None
-    else (if nat_lt (month_number m - month_number b.first) b.months then Some (month_number m - month_number b.first) else None)
+    else (if nat_lt (month_number m - month_number b.first) b.months then Some (month_number m - month_number b.first)
+    else None)

@@ -59,7 +59,8 @@ fn read_edits(
     requires basin { IsValidBasin names.now.basin.now }
     requires series { IsSeriesOf names.now.basin.now series.now }
     requires small { length text.now ≤ 67108864 }
-    ensures reads { MatchResult result (λ edits. edits_from names.now.basin.now series.now 2 (lines_of text.now) ≡ Ok edits.items)
+    ensures reads { MatchResult result
+        (λ edits. edits_from names.now.basin.now series.now 2 (lines_of text.now) ≡ Ok edits.items)
         (IsRefusalOf (edits_from names.now.basin.now series.now 2 (lines_of text.now))) }
     ensures placed { IfOk result (λ edits. All (IsPlaced names.now.basin.now series.now) edits.items) }
 {
@@ -99,9 +100,9 @@ fn read_behind(
     read_edits(alloc, &names, series, text)
 }
 
-/// What a script asks for, line by line between its first and its last, or its first line at fault. No line behind that is
-/// looked at. A name is looked up in a map. Maps and edits take memory: OutOfMemory comes only where that is lacking, and
-/// says nothing of the text.
+/// What a script asks for, line by line between its first and its last, or its first line at fault. No line behind that
+/// is looked at. A name is looked up in a map. Maps and edits take memory: OutOfMemory comes only where that is
+/// lacking, and says nothing of the text.
 pub fn read_script(
     alloc: Global,
     basin: &Basin,

@@ -17,7 +17,8 @@ pub record AgreeBefore (b : Basin) (series other : Inflows) (month : ℕ) : Type
 
 -- A series stays one of its basin through each change.
 abbrev pub EditedSeriesFit : Type 0
-EditedSeriesFit = (b : Basin) (series : Inflows) (e : Edit) → IsSeriesOf b series → IsPlaced b series e → IsSeriesOf b (edited_by series e)
+EditedSeriesFit = (b : Basin) (series : Inflows) (e : Edit) → IsSeriesOf b series → IsPlaced b series e →
+    IsSeriesOf b (edited_by series e)
 
 -- Kept months stay. Of months of a basin and a series those before a change are months of the changed series: a month
 -- reads nothing of a series but its own numbers.

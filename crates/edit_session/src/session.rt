@@ -1,5 +1,6 @@
 //! A run whose series changes.
-ghost use Rattle.std.specs.Prelude.{ℕ, ◌≡◌, ◌+◌, ◌-◌, ◌*◌, ◌^◌, ◌<◌, ◌≤◌, [], max, length, take, slice_get, Some, IfOk, OnOk};
+ghost use Rattle.std.specs.Prelude.{ℕ, ◌≡◌, ◌+◌, ◌-◌, ◌*◌, ◌^◌, ◌<◌, ◌≤◌, [], max, length, take, slice_get, Some, IfOk};
+ghost use Rattle.std.specs.Prelude.{OnOk};
 ghost use Rattle.water_model.specs.Valid.{IsValidBasin, IsSeriesOf};
 ghost use Rattle.edit_script.specs.Edits.{with_inflow, with_want};
 ghost use Rattle.edit_session.specs.Sessions.{IsKept};
@@ -72,8 +73,8 @@ impl<'b> Session<'b> {
         &self.kept[index as usize]
     }
 
-    /// Changes what flows in at a gauge in a month, in units of 1,000 cubic metres. The gauge is given by its place among
-    /// the gauged nodes. The months before are kept, and no other. No memory is taken.
+    /// Changes what flows in at a gauge in a month, in units of 1,000 cubic metres. The gauge is given by its place
+    /// among the gauged nodes. The months before are kept, and no other. No memory is taken.
     pub fn set_inflow(&mut self, index: u32, gauge: u32, amount: u64)
         requires index { index < self.old.basin.months }
         requires gauge { gauge < length self.old.series.gauged }
@@ -88,8 +89,8 @@ impl<'b> Session<'b> {
         self.kept.truncate(index as usize);
     }
 
-    /// Changes what a right wants in a month, in units of 1,000 cubic metres. The right is given by its place among those
-    /// whose wants stand in the series. The months before are kept, and no other. No memory is taken.
+    /// Changes what a right wants in a month, in units of 1,000 cubic metres. The right is given by its place among
+    /// those whose wants stand in the series. The months before are kept, and no other. No memory is taken.
     pub fn set_want(&mut self, index: u32, place: u32, amount: u64)
         requires index { index < self.old.basin.months }
         requires place { place < length self.old.series.wanted }
@@ -104,8 +105,8 @@ impl<'b> Session<'b> {
         self.kept.truncate(index as usize);
     }
 
-    /// Solves the months up to this one that are not kept yet. The records that were kept stay as they are, and no month
-    /// of theirs is solved again. Each search that finds a walk ticks `searches` once.
+    /// Solves the months up to this one that are not kept yet. The records that were kept stay as they are, and no
+    /// month of theirs is solved again. Each search that finds a walk ticks `searches` once.
     ///
     /// AllocError comes only where memory is lacking. Some months more may be kept then, and the session can go on.
     pub fn solve<L: Ledger>(
@@ -121,7 +122,8 @@ impl<'b> Session<'b> {
         ensures solved { OnOk result (length self.new.kept ≡ max (length self.old.kept) (index + 1)) }
         ensures few { length self.new.kept ≤ max (length self.old.kept) (index + 1) }
         ensures history { IsKept self.new }
-        ensures pushes { searches.new ≤ searches.old + (index + 1 - length self.old.kept) * month_pushes self.old.basin }
+        ensures pushes { searches.new ≤ searches.old + (index + 1 - length self.old.kept) * month_pushes
+            self.old.basin }
     {
         if index < self.solved() {
             return Ok(());

@@ -23,12 +23,22 @@ get_taken (x ∷ xs) (suc n) (suc i) l = get_taken xs n i (omega arith)
 same_series : (b : Basin) (series : Inflows) (month : ℕ) → AgreeBefore b series series month
 same_series b series month = record { inflows = λ node i l m. refl; wants = λ right i used l m. refl }
 
-pub runs_agree : (b : Basin) (series : Inflows) (index : ℕ) (months : List MonthRecord) (m : MonthRecord) → IsValidBasin b →
-    IsKept (record { basin = b; series = series; kept = months }) → slice_get months index ≡ Some m → AgreesWithRuns b series index m
+pub runs_agree : (b : Basin) (series : Inflows) (index : ℕ) (months : List MonthRecord) (m : MonthRecord) →
+    IsValidBasin b →
+    IsKept (record { basin = b; series = series; kept = months }) → slice_get months index ≡ Some m →
+    AgreesWithRuns b series index m
 runs_agree b series index months m valid kept at records n other at' =
     let same = same_series b series (index + 1) in
     runs_have_one_outcome b series (take (index + 1) months) (take (index + 1) records) valid
-    (front_partial b series series months (index + 1) same kept.partial) (front_partial b series series records (index + 1) same other.partial)
+    (front_partial b series series months (index + 1) same kept.partial)
+    (front_partial b series series records (index + 1) same other.partial)
     (front_reaches b months (index + 1) kept.reaches) (front_reaches b records (index + 1) other.reaches)
-    (omega (arith, length-take (index + 1) months, length-take (index + 1) records, slice_get_within months index m at, slice_get_within records index n at'))
-    index m n (get_taken months (index + 1) index (omega arith) ∙ at) (get_taken records (index + 1) index (omega arith) ∙ at')
+    (omega (
+      arith,
+      length-take (index + 1) months,
+      length-take (index + 1) records,
+      slice_get_within months index m at,
+      slice_get_within records index n at',
+    ))
+    index m n (get_taken months (index + 1) index (omega arith) ∙ at) (get_taken records (index + 1) index (omega arith)
+    ∙ at')

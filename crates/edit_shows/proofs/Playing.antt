@@ -1,5 +1,6 @@
 -- A script answered line by line.
-use Rattle.std.proofs.Common.{◌≡◌, ℕ, zero, suc, ◌+◌, ◌*◌, ◌<◌, ◌≤◌, refl, sym, ap, subst, ◌∙◌, arith, List, [], ◌∷◌, ◌++◌, length, take, drop, get_or, append-nil, add-one, drop-cons, inl, inr}
+use Rattle.std.proofs.Common.{◌≡◌, ℕ, zero, suc, ◌+◌, ◌*◌, ◌<◌, ◌≤◌, refl, sym, ap, subst, ◌∙◌, arith, List, [], ◌∷◌}
+use Rattle.std.proofs.Common.{◌++◌, length, take, drop, get_or, append-nil, add-one, drop-cons, inl, inr}
 use Rattle.std.specs.Prelude.{Option, Some, None, Ok, Err, All, slice_get}
 use Rattle.std.specs.Io.KnownBytes.{Appends}
 use Rattle.std.specs.List.{flat_map}
@@ -20,7 +21,8 @@ use Rattle.edit_script.specs.declared.edit.Edit.{Edit}
 use Rattle.edit_script.specs.declared.edit.Edit.TheVariants.{Inflow, Want, Show}
 use Rattle.edit_session.specs.Sessions.{IsKept, SessionSeen}
 use Rattle.edit_shows.proofs.Agreeing.{runs_agree}
-use Rattle.edit_shows.specs.Shown.{Answers, AnswersWhole, AreShown, HaveShown, IsMonthOf, PutsFront, done_bytes, months_bytes, shows_in}
+use Rattle.edit_shows.specs.Shown.{Answers, AnswersWhole, AreShown, HaveShown, IsMonthOf, PutsFront, done_bytes}
+use Rattle.edit_shows.specs.Shown.{months_bytes, shows_in}
 use Rattle.edit_shows.specs.declared.stop.EditStop.{EditStop}
 use Rattle.edit_shows.specs.declared.stop.EditStop.TheVariants as stop
 
@@ -33,16 +35,20 @@ edited_behind : (series : Inflows) (es fs : List Edit) → edited series (es ++ 
 edited_behind series [] fs = refl
 edited_behind series (e ∷ es) fs = edited_behind (edited_by series e) es fs
 
-shown_behind : (b : Basin) (series : Inflows) (es fs : List Edit) (xs ys : List MonthRecord) → AreShown b series es xs → AreShown b (edited series es) fs ys →
+shown_behind : (b : Basin) (series : Inflows) (es fs : List Edit) (xs ys : List MonthRecord) → AreShown b series es xs →
+    AreShown b (edited series es) fs ys →
     AreShown b series (es ++ fs) (xs ++ ys)
 shown_behind b series [] fs [] ys h k = k
 shown_behind b series [] fs (x ∷ xs) ys h k = cc
-shown_behind b series (Inflow index gauge amount ∷ es) fs xs ys h k = shown_behind b (edited_by series (Inflow index gauge amount)) es fs xs ys h k
-shown_behind b series (Want index place amount ∷ es) fs xs ys h k = shown_behind b (edited_by series (Want index place amount)) es fs xs ys h k
+shown_behind b series (Inflow index gauge amount ∷ es) fs xs ys h k =
+    shown_behind b (edited_by series (Inflow index gauge amount)) es fs xs ys h k
+shown_behind b series (Want index place amount ∷ es) fs xs ys h k =
+    shown_behind b (edited_by series (Want index place amount)) es fs xs ys h k
 shown_behind b series (Show index ∷ es) fs [] ys h k = absurd h
 shown_behind b series (Show index ∷ es) fs (x ∷ xs) ys h k = (h.0, shown_behind b series es fs xs ys h.1 k)
 
-bytes_behind : (b : Basin) (xs ys : List MonthRecord) → months_bytes b (xs ++ ys) ≡ months_bytes b xs ++ months_bytes b ys
+bytes_behind : (b : Basin) (xs ys : List MonthRecord) →
+    months_bytes b (xs ++ ys) ≡ months_bytes b xs ++ months_bytes b ys
 bytes_behind b xs ys = flat_map-append (λ m. flat_map (whole_line b) (items_of_month b m)) xs ys
 
 -- a change moves no place
@@ -55,18 +61,21 @@ placed_by b series (Want index place amount) (Want i p a) h = h
 placed_by b series (Want index place amount) (Show i) h = h
 placed_by b series (Show index) e h = h
 
-placed_after : (b : Basin) (series : Inflows) (ds : List Edit) (e : Edit) → IsPlaced b series e → IsPlaced b (edited series ds) e
+placed_after : (b : Basin) (series : Inflows) (ds : List Edit) (e : Edit) → IsPlaced b series e →
+    IsPlaced b (edited series ds) e
 placed_after b series [] e h = h
 placed_after b series (d ∷ ds) e h = placed_after b (edited_by series d) ds e (placed_by b series d e h)
 
 -- so far the first lines were answered
-pub record IsPlayed (b : Basin) (series now : Inflows) (edits : List Edit) (old new : Option (List ℕ)) (i : ℕ) : Type 0 where
-  pub shown : List MonthRecord
-  pub are : AreShown b series (take i edits) shown
-  pub edited : now ≡ edited series (take i edits)
-  pub put : Appends old new (months_bytes b shown)
+pub record IsPlayed (b : Basin) (series now : Inflows) (edits : List Edit) (old new : Option (List ℕ)) (i : ℕ) : Type 0
+  where
+    pub shown : List MonthRecord
+    pub are : AreShown b series (take i edits) shown
+    pub edited : now ≡ edited series (take i edits)
+    pub put : Appends old new (months_bytes b shown)
 
-pub played_none : (b : Basin) (series : Inflows) (edits : List Edit) (old : Option (List ℕ)) → IsPlayed b series series edits old old 0
+pub played_none : (b : Basin) (series : Inflows) (edits : List Edit) (old : Option (List ℕ)) →
+    IsPlayed b series series edits old old 0
 played_none b series edits old = record {
   shown = [];
   are = none edits;
@@ -82,60 +91,102 @@ played_none b series edits old = record {
     same [] = refl
     same (e ∷ es) = refl
 
-pub next_placed : (b : Basin) (series now : Inflows) (edits : List Edit) (old new : Option (List ℕ)) (i : ℕ) (e : Edit) → IsPlayed b series now edits old new i →
+pub next_placed : (b : Basin) (series now : Inflows) (edits : List Edit) (old new : Option (List ℕ)) (i : ℕ)
+    (e : Edit) → IsPlayed b series now edits old new i →
     All (IsPlaced b series) edits → i < length edits → e ≡ get_or edits i e → IsPlaced b now e
 next_placed b series now edits old new i e played placed l is =
-    subst (λ s. IsPlaced b s e) (sym played.edited) (placed_after b series (take i edits) e (subst (IsPlaced b series) (sym is) (placed i e l)))
+    subst (λ s. IsPlaced b s e) (sym played.edited)
+    (placed_after b series (take i edits) e (subst (IsPlaced b series) (sym is) (placed i e l)))
 
-one_more : (edits : List Edit) (i : ℕ) (e : Edit) → i < length edits → e ≡ get_or edits i e → take (i + 1) edits ≡ take i edits ++ e ∷ []
+one_more : (edits : List Edit) (i : ℕ) (e : Edit) → i < length edits → e ≡ get_or edits i e →
+    take (i + 1) edits ≡ take i edits ++ e ∷ []
 one_more edits i e l is = take_more edits i e l ∙ ap (λ x. take i edits ++ x ∷ []) (sym is)
 
-pub played_more : (b : Basin) (series now then' : Inflows) (edits : List Edit) (old mid new : Option (List ℕ)) (i : ℕ) (e : Edit) (u : Unit {0}) →
-    IsPlayed b series now edits old mid i → i < length edits → e ≡ get_or edits i e → Answers b now (e ∷ []) (Ok u) mid new → then' ≡ edited_by now e →
+pub played_more : (b : Basin) (series now then' : Inflows) (edits : List Edit) (old mid new : Option (List ℕ)) (i : ℕ)
+    (e : Edit) (u : Unit {0}) →
+    IsPlayed b series now edits old mid i → i < length edits → e ≡ get_or edits i e →
+    Answers b now (e ∷ []) (Ok u) mid new → then' ≡ edited_by now e →
     IsPlayed b series then' edits old new (i + 1)
 played_more b series now then' edits old mid new i e u played l is answers next = record {
   shown = played.shown ++ answers.0;
   are = subst (λ (es : List Edit). AreShown b series es (played.shown ++ answers.0)) (sym (one_more edits i e l is))
-      (shown_behind b series (take i edits) (e ∷ []) played.shown answers.0 played.are (subst (λ s. AreShown b s (e ∷ []) answers.0) played.edited answers.1));
-  edited = next ∙ (ap (λ s. edited_by s e) played.edited ∙ (sym (edited_behind series (take i edits) (e ∷ [])) ∙ ap (edited series) (sym (one_more edits i e l is))));
-  put = subst (λ (bytes : List ℕ). Appends old new bytes) (sym (bytes_behind b played.shown answers.0)) (Appends-then old mid new _ _ played.put answers.2);
+      (shown_behind b series (take i edits) (e ∷ []) played.shown answers.0 played.are
+      (subst (λ s. AreShown b s (e ∷ []) answers.0) played.edited answers.1));
+  edited = next
+      ∙ (ap (λ s. edited_by s e) played.edited
+      ∙ (sym (edited_behind series (take i edits) (e ∷ [])) ∙ ap (edited series) (sym (one_more edits i e l is))));
+  put = subst (λ (bytes : List ℕ). Appends old new bytes) (sym (bytes_behind b played.shown answers.0))
+      (Appends-then old mid new _ _ played.put answers.2);
 }
 
 -- months shown by the line at i, and those before it
-have_more : (b : Basin) (series now : Inflows) (edits : List Edit) (old mid : Option (List ℕ)) (i : ℕ) (e : Edit) (ys : List MonthRecord) →
-    (played : IsPlayed b series now edits old mid i) → i < length edits → e ≡ get_or edits i e → HaveShown b now (e ∷ []) ys → HaveShown b series edits (played.shown ++ ys)
-have_more b series now edits old mid i e ys played l is have = by_count have.count (subst (λ s. AreShown b s (take have.count (e ∷ [])) ys) played.edited have.are)
+have_more : (b : Basin) (series now : Inflows) (edits : List Edit) (old mid : Option (List ℕ)) (i : ℕ) (e : Edit)
+    (ys : List MonthRecord) →
+    (played : IsPlayed b series now edits old mid i) → i < length edits → e ≡ get_or edits i e →
+    HaveShown b now (e ∷ []) ys → HaveShown b series edits (played.shown ++ ys)
+have_more b series now edits old mid i e ys played l is have =
+    by_count have.count (subst (λ s. AreShown b s (take have.count (e ∷ [])) ys) played.edited have.are)
   where
-    by_count : (count : ℕ) → AreShown b (edited series (take i edits)) (take count (e ∷ [])) ys → HaveShown b series edits (played.shown ++ ys)
-    by_count zero h = record { count = i; are = subst (λ (es : List Edit). AreShown b series es (played.shown ++ ys)) (append-nil (take i edits)) (shown_behind b series (take i edits) [] played.shown ys played.are h) }
-    by_count (suc zero) h = record { count = i + 1; are = subst (λ (es : List Edit). AreShown b series es (played.shown ++ ys)) (sym (one_more edits i e l is)) (shown_behind b series (take i edits) (e ∷ []) played.shown ys played.are h) }
-    by_count (suc (suc n)) h = record { count = i + 1; are = subst (λ (es : List Edit). AreShown b series es (played.shown ++ ys)) (sym (one_more edits i e l is)) (shown_behind b series (take i edits) (e ∷ []) played.shown ys played.are h) }
+    by_count : (count : ℕ) → AreShown b (edited series (take i edits)) (take count (e ∷ [])) ys →
+        HaveShown b series edits (played.shown ++ ys)
+    by_count zero h =
+        record {
+          count = i;
+          are =
+              subst (λ (es : List Edit). AreShown b series es (played.shown ++ ys)) (append-nil (take i edits))
+              (shown_behind b series (take i edits) [] played.shown ys played.are h);
+        }
+    by_count (suc zero) h =
+        record {
+          count = i + 1;
+          are =
+              subst (λ (es : List Edit). AreShown b series es (played.shown ++ ys)) (sym (one_more edits i e l is))
+              (shown_behind b series (take i edits) (e ∷ []) played.shown ys played.are h);
+        }
+    by_count (suc (suc n)) h =
+        record {
+          count = i + 1;
+          are =
+              subst (λ (es : List Edit). AreShown b series es (played.shown ++ ys)) (sym (one_more edits i e l is))
+              (shown_behind b series (take i edits) (e ∷ []) played.shown ys played.are h);
+        }
 
-pub played_stops : (b : Basin) (series now : Inflows) (edits : List Edit) (old mid new : Option (List ℕ)) (i : ℕ) (e : Edit) (why : EditStop) →
-    IsPlayed b series now edits old mid i → i < length edits → e ≡ get_or edits i e → Answers b now (e ∷ []) (Err why) mid new → Answers b series edits (Err why) old new
+pub played_stops : (b : Basin) (series now : Inflows) (edits : List Edit) (old mid new : Option (List ℕ)) (i : ℕ)
+    (e : Edit) (why : EditStop) →
+    IsPlayed b series now edits old mid i → i < length edits → e ≡ get_or edits i e →
+    Answers b now (e ∷ []) (Err why) mid new → Answers b series edits (Err why) old new
 played_stops b series now edits old mid new i e stop.SinkFailed played l is answers = (
   played.shown ++ answers.0,
   have_more b series now edits old mid i e answers.0 played l is answers.1,
-  subst (λ (bytes : List ℕ). PutsFront old new bytes) (sym (bytes_behind b played.shown answers.0)) (PutsFront-then old mid new _ _ played.put answers.2),
+  subst (λ (bytes : List ℕ). PutsFront old new bytes) (sym (bytes_behind b played.shown answers.0))
+      (PutsFront-then old mid new _ _ played.put answers.2),
 )
 played_stops b series now edits old mid new i e stop.OutOfMemory played l is answers = (
   played.shown ++ answers.0,
   have_more b series now edits old mid i e answers.0 played l is answers.1,
-  subst (λ (bytes : List ℕ). Appends old new bytes) (sym (bytes_behind b played.shown answers.0)) (Appends-then old mid new _ _ played.put answers.2),
+  subst (λ (bytes : List ℕ). Appends old new bytes) (sym (bytes_behind b played.shown answers.0))
+      (Appends-then old mid new _ _ played.put answers.2),
 )
 
-pub played_all : (b : Basin) (series now : Inflows) (edits : List Edit) (old new : Option (List ℕ)) (i : ℕ) (u : Unit {0}) → IsPlayed b series now edits old new i →
+pub played_all : (b : Basin) (series now : Inflows) (edits : List Edit) (old new : Option (List ℕ)) (i : ℕ)
+    (u : Unit {0}) → IsPlayed b series now edits old new i →
     length edits ≤ i → Answers b series edits (Ok u) old new
-played_all b series now edits old new i u played l =
-    (played.shown, subst (λ (es : List Edit). AreShown b series es played.shown) (take_all i edits l) played.are, played.put)
+played_all b series now edits old new i u played l = (
+  played.shown,
+  subst (λ (es : List Edit). AreShown b series es played.shown) (take_all i edits l) played.are,
+  played.put,
+)
 
 -- the pushes, by the cost of the lines to come
-pub costs_more : (edits : List Edit) (i : ℕ) (e : Edit) (kept kept_then p start before after whole : ℕ) → i < length edits → e ≡ get_or edits i e →
-    before + cost_from kept (drop i edits) * p ≤ start + whole * p → after ≤ before + solved_by kept e * p → kept_then ≡ kept_by kept e + solved_by kept e →
+pub costs_more : (edits : List Edit) (i : ℕ) (e : Edit) (kept kept_then p start before after whole : ℕ) →
+    i < length edits → e ≡ get_or edits i e →
+    before + cost_from kept (drop i edits) * p ≤ start + whole * p → after ≤ before + solved_by kept e * p →
+    kept_then ≡ kept_by kept e + solved_by kept e →
     after + cost_from kept_then (drop (i + 1) edits) * p ≤ start + whole * p
 costs_more edits i e kept kept_then p start before after whole l is so_far pushed then' =
     let split : cost_from kept (drop i edits) ≡ solved_by kept e + cost_from kept_then (drop (i + 1) edits) = here in
-    let product : cost_from kept (drop i edits) * p ≡ solved_by kept e * p + cost_from kept_then (drop (i + 1) edits) * p =
+    let product : cost_from kept (drop i edits) * p ≡ solved_by kept e * p + cost_from kept_then
+    (drop (i + 1) edits) * p =
     ap (λ n. n * p) split ∙ add-mul (solved_by kept e) (cost_from kept_then (drop (i + 1) edits)) p in
     omega arith
   where
@@ -145,35 +196,54 @@ costs_more edits i e kept kept_then p start before after whole l is so_far pushe
     here : cost_from kept (drop i edits) ≡ solved_by kept e + cost_from kept_then (drop (i + 1) edits)
     here = ap (cost_from kept) rest ∙ ap (λ k. solved_by kept e + cost_from k (drop (i + 1) edits)) (sym then')
 
-pub costs_stop : (edits : List Edit) (i : ℕ) (e : Edit) (kept p start before after whole : ℕ) → i < length edits → e ≡ get_or edits i e →
-    before + cost_from kept (drop i edits) * p ≤ start + whole * p → after ≤ before + solved_by kept e * p → after ≤ start + whole * p
+pub costs_stop : (edits : List Edit) (i : ℕ) (e : Edit) (kept p start before after whole : ℕ) → i < length edits →
+    e ≡ get_or edits i e →
+    before + cost_from kept (drop i edits) * p ≤ start + whole * p → after ≤ before + solved_by kept e * p →
+    after ≤ start + whole * p
 costs_stop edits i e kept p start before after whole l is so_far pushed =
-    let most = costs_more edits i e kept (kept_by kept e + solved_by kept e) p start before after whole l is so_far pushed refl in omega arith
+    let most =
+    costs_more edits i e kept (kept_by kept e + solved_by kept e) p start before after whole l is so_far pushed
+    refl in omega arith
 
 -- a month that a session keeps
-pub month_kept : (b : Basin) (s : SessionSeen) (series : Inflows) (index : ℕ) (m : MonthRecord) → IsValidBasin b → s.basin ≡ b → s.series ≡ series → IsKept s →
+pub month_kept : (b : Basin) (s : SessionSeen) (series : Inflows) (index : ℕ) (m : MonthRecord) → IsValidBasin b →
+    s.basin ≡ b → s.series ≡ series → IsKept s →
     slice_get s.kept index ≡ Some m → IsMonthOf b series index m
 month_kept b s series index m valid e f kept at =
     let here : IsKept (record { basin = b; series = series; kept = s.kept }) =
     record { partial = rw (← e, ← f) kept.partial; reaches = rw (← e) kept.reaches } in
     record { months = s.kept; kept = here; here = at; agrees = runs_agree b series index s.kept m valid here at }
 
-pub month_fits : (b : Basin) (series : Inflows) (index : ℕ) (m : MonthRecord) → IsValidBasin b → index < b.months → IsMonthOf b series index m → FitsText b m
+pub month_fits : (b : Basin) (series : Inflows) (index : ℕ) (m : MonthRecord) → IsValidBasin b → index < b.months →
+    IsMonthOf b series index m → FitsText b m
 month_fits b series index m valid l is =
-    FitsText-follows b series (take index is.months) m valid (is.kept.partial.each index m is.here) (omega (arith, length-take index is.months))
+    FitsText-follows b series (take index is.months) m valid (is.kept.partial.each index m is.here)
+    (omega (arith, length-take index is.months))
 
 -- it is shown
-pub show_put : (b : Basin) (series : Inflows) (index : ℕ) (m : MonthRecord) (old new : Option (List ℕ)) (u : Unit {0}) → IsMonthOf b series index m →
+pub show_put : (b : Basin) (series : Inflows) (index : ℕ) (m : MonthRecord) (old new : Option (List ℕ)) (u : Unit {0}) →
+    IsMonthOf b series index m →
     Appends old new (flat_map (whole_line b) (items_of_month b m)) → Answers b series (Show index ∷ []) (Ok u) old new
-show_put b series index m old new u is put =
-    (m ∷ [], (is, refl), subst (λ (bytes : List ℕ). Appends old new bytes) (sym (append-nil (flat_map (whole_line b) (items_of_month b m)))) put)
+show_put b series index m old new u is put = (
+  m ∷ [],
+  (is, refl),
+  subst (λ (bytes : List ℕ). Appends old new bytes)
+      (sym (append-nil (flat_map (whole_line b) (items_of_month b m)))) put,
+)
 
-pub show_failed : (b : Basin) (series : Inflows) (index : ℕ) (m : MonthRecord) (old new : Option (List ℕ)) → IsMonthOf b series index m →
-    PutsFront old new (flat_map (whole_line b) (items_of_month b m)) → Answers b series (Show index ∷ []) (Err stop.SinkFailed) old new
-show_failed b series index m old new is put =
-    (m ∷ [], record { count = 1; are = (is, refl) }, subst (λ (bytes : List ℕ). PutsFront old new bytes) (sym (append-nil (flat_map (whole_line b) (items_of_month b m)))) put)
+pub show_failed : (b : Basin) (series : Inflows) (index : ℕ) (m : MonthRecord) (old new : Option (List ℕ)) →
+    IsMonthOf b series index m →
+    PutsFront old new (flat_map (whole_line b) (items_of_month b m)) →
+    Answers b series (Show index ∷ []) (Err stop.SinkFailed) old new
+show_failed b series index m old new is put = (
+  m ∷ [],
+  record { count = 1; are = (is, refl) },
+  subst (λ (bytes : List ℕ). PutsFront old new bytes)
+      (sym (append-nil (flat_map (whole_line b) (items_of_month b m)))) put,
+)
 
-pub nothing_shown : (b : Basin) (series : Inflows) (edits : List Edit) (old : Option (List ℕ)) → Answers b series edits (Err stop.OutOfMemory) old old
+pub nothing_shown : (b : Basin) (series : Inflows) (edits : List Edit) (old : Option (List ℕ)) →
+    Answers b series edits (Err stop.OutOfMemory) old old
 nothing_shown b series edits old = ([], record { count = 0; are = none edits }, appends_nothing old)
   where
     none : (es : List Edit) → AreShown b series (take 0 es) []
@@ -181,15 +251,20 @@ nothing_shown b series edits old = ([], record { count = 0; are = none edits }, 
     none (e ∷ es) = refl
 
 -- the last line
-pub whole_put : (b : Basin) (series : Inflows) (edits : List Edit) (old mid new : Option (List ℕ)) (u v : Unit {0}) → Answers b series edits (Ok u) old mid →
+pub whole_put : (b : Basin) (series : Inflows) (edits : List Edit) (old mid new : Option (List ℕ)) (u v : Unit {0}) →
+    Answers b series edits (Ok u) old mid →
     Appends mid new (done_bytes (shows_in edits)) → AnswersWhole b series edits (Ok v) old new
-whole_put b series edits old mid new u v answers put = (answers.0, answers.1, Appends-then old mid new _ _ answers.2 put)
+whole_put b series edits old mid new u v answers put =
+    (answers.0, answers.1, Appends-then old mid new _ _ answers.2 put)
 
-pub whole_failed : (b : Basin) (series : Inflows) (edits : List Edit) (old mid new : Option (List ℕ)) (u : Unit {0}) → Answers b series edits (Ok u) old mid →
+pub whole_failed : (b : Basin) (series : Inflows) (edits : List Edit) (old mid new : Option (List ℕ)) (u : Unit {0}) →
+    Answers b series edits (Ok u) old mid →
     PutsFront mid new (done_bytes (shows_in edits)) → AnswersWhole b series edits (Err stop.SinkFailed) old new
-whole_failed b series edits old mid new u answers put = inr (answers.0, answers.1, PutsFront-then old mid new _ _ answers.2 put)
+whole_failed b series edits old mid new u answers put =
+    inr (answers.0, answers.1, PutsFront-then old mid new _ _ answers.2 put)
 
-pub whole_stopped : (b : Basin) (series : Inflows) (edits : List Edit) (old new : Option (List ℕ)) (why : EditStop) → Answers b series edits (Err why) old new →
+pub whole_stopped : (b : Basin) (series : Inflows) (edits : List Edit) (old new : Option (List ℕ)) (why : EditStop) →
+    Answers b series edits (Err why) old new →
     AnswersWhole b series edits (Err why) old new
 whole_stopped b series edits old new stop.SinkFailed answers = inl answers
 whole_stopped b series edits old new stop.OutOfMemory answers = answers

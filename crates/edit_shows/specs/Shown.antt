@@ -1,5 +1,6 @@
 -- The months that a script shows, and their text.
-use Rattle.std.specs.Prelude.{◌≡◌, ℕ, ◌≤◌, ◌⊎◌, List, [], ◌∷◌, ◌++◌, length, take, codes, Bool, true, false, Option, Result, Ok, Err, slice_get, Some}
+use Rattle.std.specs.Prelude.{◌≡◌, ℕ, ◌≤◌, ◌⊎◌, List, [], ◌∷◌, ◌++◌, length, take, codes, Bool, true, false, Option}
+use Rattle.std.specs.Prelude.{Result, Ok, Err, slice_get, Some}
 use Rattle.std.specs.Fmt.{decimal}
 use Rattle.std.specs.Io.KnownBytes.{Appends}
 use Rattle.std.specs.List.{flat_map}
@@ -17,8 +18,8 @@ use Rattle.edit_session.specs.Sessions.{IsKept}
 use Rattle.edit_shows.specs.declared.stop.EditStop.{EditStop}
 use Rattle.edit_shows.specs.declared.stop.EditStop.TheVariants as stop
 
--- in each run of the basin and the series whose sets are the reaches, the month of this index agrees with this one in all but
--- flows and single outflows, and has the same sets
+-- in each run of the basin and the series whose sets are the reaches, the month of this index agrees with this one in
+-- all but flows and single outflows, and has the same sets
 abbrev pub AgreesWithRuns : Basin → Inflows → ℕ → MonthRecord → Type 0
 AgreesWithRuns b series index m =
     (records : List MonthRecord) (n : MonthRecord) → IsKept (record { basin = b; series = series; kept = records }) →
@@ -35,7 +36,8 @@ pub record IsMonthOf (b : Basin) (series : Inflows) (index : ℕ) (m : MonthReco
 -- The months that a script shows, in order: each is one of the basin and of the series as it is by then.
 abbrev pub AreShown : Basin → Inflows → List Edit → List MonthRecord → Type 0
 AreShown b series [] shown = shown ≡ []
-AreShown b series (Inflow index gauge amount ∷ edits) shown = AreShown b (with_inflow series index gauge amount) edits shown
+AreShown b series (Inflow index gauge amount ∷ edits) shown =
+    AreShown b (with_inflow series index gauge amount) edits shown
 AreShown b series (Want index place amount ∷ edits) shown = AreShown b (with_want series index place amount) edits shown
 AreShown b series (Show index ∷ edits) [] = ⊥
 AreShown b series (Show index ∷ edits) (m ∷ shown) = IsMonthOf b series index m × AreShown b series edits shown
@@ -65,9 +67,10 @@ done_bytes shows = codes "done " ++ decimal shows ++ codes "\n"
 abbrev pub PutsFront : Option (List ℕ) → Option (List ℕ) → List ℕ → Type 0
 PutsFront old new piece = (count : ℕ) × (count ≤ length piece) × Appends old new (take count piece)
 
--- The lines of the months that are shown are appended. After a failure of the sink a front of those shown so far is, and
--- where memory is lacking the whole lines of those shown so far.
-abbrev pub Answers : Basin → Inflows → List Edit → Result (Unit {0}) EditStop → Option (List ℕ) → Option (List ℕ) → Type 0
+-- The lines of the months that are shown are appended. After a failure of the sink a front of those shown so far is,
+-- and where memory is lacking the whole lines of those shown so far.
+abbrev pub Answers : Basin → Inflows → List Edit → Result (Unit {0}) EditStop → Option (List ℕ) → Option (List ℕ) →
+    Type 0
 Answers b series edits (Ok _) old new =
     (shown : List MonthRecord) × AreShown b series edits shown × Appends old new (months_bytes b shown)
 Answers b series edits (Err stop.SinkFailed) old new =
@@ -75,12 +78,15 @@ Answers b series edits (Err stop.SinkFailed) old new =
 Answers b series edits (Err stop.OutOfMemory) old new =
     (shown : List MonthRecord) × HaveShown b series edits shown × Appends old new (months_bytes b shown)
 
--- The same with the last line behind all months: after a failure of the sink a front of the months shown so far is there, or of
--- the whole text.
-abbrev pub AnswersWhole : Basin → Inflows → List Edit → Result (Unit {0}) EditStop → Option (List ℕ) → Option (List ℕ) → Type 0
+-- The same with the last line behind all months: after a failure of the sink a front of the months shown so far is
+-- there, or of the whole text.
+abbrev pub AnswersWhole : Basin → Inflows → List Edit → Result (Unit {0}) EditStop → Option (List ℕ) → Option (List ℕ) →
+    Type 0
 AnswersWhole b series edits (Ok _) old new =
-    (shown : List MonthRecord) × AreShown b series edits shown × Appends old new (months_bytes b shown ++ done_bytes (shows_in edits))
+    (shown : List MonthRecord) × AreShown b series edits shown ×
+    Appends old new (months_bytes b shown ++ done_bytes (shows_in edits))
 AnswersWhole b series edits (Err stop.SinkFailed) old new =
     Answers b series edits (Err stop.SinkFailed) old new
-    ⊎ ((shown : List MonthRecord) × AreShown b series edits shown × PutsFront old new (months_bytes b shown ++ done_bytes (shows_in edits)))
+    ⊎ ((shown : List MonthRecord) × AreShown b series edits shown ×
+    PutsFront old new (months_bytes b shown ++ done_bytes (shows_in edits)))
 AnswersWhole b series edits (Err stop.OutOfMemory) old new = Answers b series edits (Err stop.OutOfMemory) old new

@@ -37,9 +37,11 @@ fn show<K: Sink, L: Ledger>(
     ensures basin { session.new.basin ≡ session.old.basin }
     ensures series { session.new.series ≡ session.old.series }
     ensures kept { OnOk result (length session.new.kept ≡ max (length session.old.kept) (index + 1)) }
-    ensures answers { Answers basin.now session.old.series (edit.Show index ∷ []) result (K.taken out.old) (K.taken out.new) }
+    ensures answers { Answers basin.now session.old.series (edit.Show index ∷ []) result (K.taken out.old)
+        (K.taken out.new) }
     ensures cause { HasCause (K.faults out.old) (K.faults out.new) (result ≡ Err SinkFailed) }
-    ensures pushes { searches.new ≤ searches.old + solved_by (length session.old.kept) (edit.Show index) * month_pushes basin.now }
+    ensures pushes { searches.new ≤ searches.old + solved_by (length session.old.kept) (edit.Show index) * month_pushes
+        basin.now }
 {
     session.solve(alloc, index, searches)?;
     match put_month(out, basin, roll, session.month(index)) {
@@ -64,7 +66,8 @@ pub fn answer<K: Sink, L: Ledger>(
     requires placed { IsPlaced basin.now session.old.series edit }
     ensures basin { session.new.basin ≡ session.old.basin }
     ensures series { session.new.series ≡ edited_by session.old.series edit }
-    ensures kept { OnOk result (length session.new.kept ≡ kept_by (length session.old.kept) edit + solved_by (length session.old.kept) edit) }
+    ensures kept { OnOk result
+        (length session.new.kept ≡ kept_by (length session.old.kept) edit + solved_by (length session.old.kept) edit) }
     ensures answers { Answers basin.now session.old.series (edit ∷ []) result (K.taken out.old) (K.taken out.new) }
     ensures cause { HasCause (K.faults out.old) (K.faults out.new) (result ≡ Err SinkFailed) }
     ensures pushes { searches.new ≤ searches.old + solved_by (length session.old.kept) edit * month_pushes basin.now }

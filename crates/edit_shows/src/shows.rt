@@ -37,7 +37,8 @@ fn answer_each<K: Sink, L: Ledger>(
     requires placed { All (IsPlaced basin.now session.old.series) edits.now }
     ensures answers { Answers basin.now session.old.series edits.now result (K.taken out.old) (K.taken out.new) }
     ensures cause { HasCause (K.faults out.old) (K.faults out.new) (result ≡ Err stop.SinkFailed) }
-    ensures pushes { searches.new ≤ searches.old + cost_from (length session.old.kept) edits.now * month_pushes basin.now }
+    ensures pushes { searches.new ≤ searches.old + cost_from (length session.old.kept) edits.now * month_pushes
+        basin.now }
 {
     for edit in edits {
         answer(alloc, basin, roll, session, *edit, out, searches)?;
@@ -97,7 +98,8 @@ fn put_answers<K: Sink, L: Ledger>(
     requires placed { All (IsPlaced basin.now session.old.series) edits.now }
     ensures answers { AnswersWhole basin.now session.old.series edits.now result (K.taken out.old) (K.taken out.new) }
     ensures cause { HasCause (K.faults out.old) (K.faults out.new) (result ≡ Err stop.SinkFailed) }
-    ensures pushes { searches.new ≤ searches.old + cost_from (length session.old.kept) edits.now * month_pushes basin.now }
+    ensures pushes { searches.new ≤ searches.old + cost_from (length session.old.kept) edits.now * month_pushes
+        basin.now }
 {
     answer_each(alloc, basin, roll, session, edits, out, searches)?;
     match put_done(out, count_shows(edits)) {
@@ -106,12 +108,12 @@ fn put_answers<K: Sink, L: Ledger>(
     }
 }
 
-/// Answers a script: puts for each `show` the lines of its month, of the series as it is by then, and at the end the number
-/// of months shown. Kept months before a change are not solved again: the searches push at most so often as the cost of
-/// the script in months allows.
+/// Answers a script: puts for each `show` the lines of its month, of the series as it is by then, and at the end the
+/// number of months shown. Kept months before a change are not solved again: the searches push at most so often as the
+/// cost of the script in months allows.
 ///
-/// Kept months take memory. OutOfMemory comes where that is lacking, and the whole lines of the months shown so far stand
-/// then; SinkFailed comes only where the sink counted a fault, and a front of the answer stands.
+/// Kept months take memory. OutOfMemory comes where that is lacking, and the whole lines of the months shown so far
+/// stand then; SinkFailed comes only where the sink counted a fault, and a front of the answer stands.
 pub fn put_shows<K: Sink, L: Ledger>(
     alloc: Global,
     basin: &Basin,

@@ -1,5 +1,6 @@
 -- The different amounts of a list, and how often each came.
-use Rattle.std.proofs.Common.{◌≡◌, ◌≢◌, ℕ, zero, suc, ◌+◌, ◌-◌, ◌<◌, ◌≤◌, Bool, true, false, refl, sym, ap, ◌∙◌, arith, List, [], ◌∷◌, length, drop, map, inl, inr, get_or}
+use Rattle.std.proofs.Common.{◌≡◌, ◌≢◌, ℕ, zero, suc, ◌+◌, ◌-◌, ◌<◌, ◌≤◌, Bool, true, false, refl, sym, ap, ◌∙◌, arith}
+use Rattle.std.proofs.Common.{List, [], ◌∷◌, length, drop, map, inl, inr, get_or}
 use Rattle.std.specs.Prelude.{nat_lt, ◌==◌, if◌then◌else◌, sum_by, cond, ◌⊎◌, slice_index}
 use Rattle.std.specs.List.{prefix_len}
 use Rattle.std.specs.List.Sorted.{IsNonDecreasingBy, IsPermutation}
@@ -34,13 +35,16 @@ IsRising [] = Unit {0}
 IsRising (x ∷ xs) = ((y : ℕ) → Has xs y → x < y) × IsRising xs
 
 -- two rising lists with the same members are equal
-one_rising : (xs ys : List ℕ) → IsRising xs → IsRising ys → ((r : ℕ) → Has xs r → Has ys r) → ((r : ℕ) → Has ys r → Has xs r) → xs ≡ ys
+one_rising : (xs ys : List ℕ) → IsRising xs → IsRising ys → ((r : ℕ) → Has xs r → Has ys r) →
+    ((r : ℕ) → Has ys r → Has xs r) → xs ≡ ys
 one_rising [] [] first second there back = refl
 one_rising [] (y ∷ ys) first second there back = absurd (back y (inl refl))
 one_rising (x ∷ xs) [] first second there back = absurd (there x (inl refl))
 one_rising (x ∷ xs) (y ∷ ys) first second there back =
     let e : x ≡ y = same_first (there x (inl refl)) (back y (inl refl)) in
-    let rest : xs ≡ ys = one_rising xs ys first.1 second.1 (λ r h. behind_y r e h (there r (inr h))) (λ r h. behind_x r e h (back r (inr h))) in
+    let rest : xs ≡ ys =
+    one_rising xs ys first.1 second.1 (λ r h. behind_y r e h (there r (inr h)))
+    (λ r h. behind_x r e h (back r (inr h))) in
     ap (λ z. z ∷ xs) e ∙ ap (λ zs. y ∷ zs) rest
   where
     same_first : Has (y ∷ ys) x → Has (x ∷ xs) y → x ≡ y
@@ -65,11 +69,13 @@ put_has x (y ∷ ys) z h = by_less (put_has x ys z) (nat_lt x y) h
     behind further (inl e) = inr (inl e)
     behind further (inr k) = elim (further k) [ inl e ↦ inl e | inr there ↦ inr (inr there) ]
 
-    by_same : (Has (put_amount x ys) z → (z ≡ x) ⊎ Has ys z) → (t : Bool) → Has (if t then y ∷ ys else y ∷ put_amount x ys) z → (z ≡ x) ⊎ Has (y ∷ ys) z
+    by_same : (Has (put_amount x ys) z → (z ≡ x) ⊎ Has ys z) → (t : Bool) →
+        Has (if t then y ∷ ys else y ∷ put_amount x ys) z → (z ≡ x) ⊎ Has (y ∷ ys) z
     by_same further true h = inr h
     by_same further false h = behind further h
 
-    by_less : (Has (put_amount x ys) z → (z ≡ x) ⊎ Has ys z) → (t : Bool) → Has (if t then x ∷ y ∷ ys else if x == y then y ∷ ys else y ∷ put_amount x ys) z →
+    by_less : (Has (put_amount x ys) z → (z ≡ x) ⊎ Has ys z) → (t : Bool) →
+        Has (if t then x ∷ y ∷ ys else if x == y then y ∷ ys else y ∷ put_amount x ys) z →
         (z ≡ x) ⊎ Has (y ∷ ys) z
     by_less further true h = h
     by_less further false h = by_same further (x == y) h
@@ -87,11 +93,13 @@ has_put x (y ∷ ys) z h = by_less (has_put x ys z) (nat_lt x y)
     here e (inl is) = inl (is ∙ e)
     here e (inr k) = k
 
-    by_same : ((z ≡ x) ⊎ Has ys z → Has (put_amount x ys) z) → (t : Bool) → x == y ≡ t → Has (if t then y ∷ ys else y ∷ put_amount x ys) z
+    by_same : ((z ≡ x) ⊎ Has ys z → Has (put_amount x ys) z) → (t : Bool) → x == y ≡ t →
+        Has (if t then y ∷ ys else y ∷ put_amount x ys) z
     by_same further true e = here (same_is x y e) h
     by_same further false e = behind further h
 
-    by_less : ((z ≡ x) ⊎ Has ys z → Has (put_amount x ys) z) → (t : Bool) → Has (if t then x ∷ y ∷ ys else if x == y then y ∷ ys else y ∷ put_amount x ys) z
+    by_less : ((z ≡ x) ⊎ Has ys z → Has (put_amount x ys) z) → (t : Bool) →
+        Has (if t then x ∷ y ∷ ys else if x == y then y ∷ ys else y ∷ put_amount x ys) z
     by_less further true = h
     by_less further false = by_same further (x == y) refl
 
@@ -112,11 +120,13 @@ put_rising x (y ∷ ys) h = by_less (put_rising x ys h.1) (nat_lt x y) refl
     behind : y < x → (z : ℕ) → Has (put_amount x ys) z → y < z
     behind l z k = elim (put_has x ys z k) [ inl e ↦ omega arith | inr there ↦ h.0 z there ]
 
-    by_same : IsRising (put_amount x ys) → (t : Bool) → x == y ≡ t → nat_lt x y ≡ false → IsRising (if t then y ∷ ys else y ∷ put_amount x ys)
+    by_same : IsRising (put_amount x ys) → (t : Bool) → x == y ≡ t → nat_lt x y ≡ false →
+        IsRising (if t then y ∷ ys else y ∷ put_amount x ys)
     by_same further true e f = h
     by_same further false e f = (behind (more f e), further)
 
-    by_less : IsRising (put_amount x ys) → (t : Bool) → nat_lt x y ≡ t → IsRising (if t then x ∷ y ∷ ys else if x == y then y ∷ ys else y ∷ put_amount x ys)
+    by_less : IsRising (put_amount x ys) → (t : Bool) → nat_lt x y ≡ t →
+        IsRising (if t then x ∷ y ∷ ys else if x == y then y ∷ ys else y ∷ put_amount x ys)
     by_less further true e = (in_front (less e), h)
     by_less further false e = by_same further (x == y) refl e
 
@@ -143,24 +153,29 @@ count-cons x y ys = sum_by-cons (λ z. cond (z == x) 1 0) y ys
 
 has_counted : (xs : List ℕ) (x : ℕ) → Has xs x → 0 < count_of x xs
 has_counted [] x h = absurd h
-has_counted (y ∷ ys) x (inl e) = let one : unit (y == x) ≡ 1 = ap unit (is_same y x (sym e)) in omega (arith, count-cons x y ys)
+has_counted (y ∷ ys) x (inl e) = let one : unit (y == x) ≡ 1 = ap unit (is_same y x (sym e)) in
+    omega (arith, count-cons x y ys)
 has_counted (y ∷ ys) x (inr k) = omega (arith, count-cons x y ys, has_counted ys x k)
 
 counted_has : (xs : List ℕ) (x : ℕ) → 0 < count_of x xs → Has xs x
 counted_has [] x h = absurd (omega arith)
 counted_has (y ∷ ys) x h = elim (cases_eq y x) [
   | inl same ↦ inl (sym same)
-  | inr other ↦ inr (counted_has ys x (let none : unit (y == x) ≡ 0 = ap unit (is_other y x other) in omega (arith, count-cons x y ys)))
+  | inr other ↦
+      inr (counted_has ys x (let none : unit (y == x) ≡ 0 = ap unit (is_other y x other) in
+      omega (arith, count-cons x y ys)))
 ]
 
 -- lists in which each amount comes equally often have the same lines
 map_same : {Y : Type 0} (f g : ℕ → Y) (xs : List ℕ) → ((x : ℕ) → Has xs x → f x ≡ g x) → map f xs ≡ map g xs
 map_same f g [] h = refl
-map_same f g (x ∷ xs) h = ap (λ y. y ∷ map f xs) (h x (inl refl)) ∙ ap (λ ys. g x ∷ ys) (map_same f g xs (λ y k. h y (inr k)))
+map_same f g (x ∷ xs) h =
+    ap (λ y. y ∷ map f xs) (h x (inl refl)) ∙ ap (λ ys. g x ∷ ys) (map_same f g xs (λ y k. h y (inr k)))
 
 pub same_counts : (xs ys : List ℕ) → ((x : ℕ) → count_of x xs ≡ count_of x ys) → yearly_lines xs ≡ yearly_lines ys
 same_counts xs ys h =
-    map_same (λ x. line.Yearly x (count_of x xs)) (λ x. line.Yearly x (count_of x ys)) (rising xs) (λ x k. ap (λ n. line.Yearly x n) (h x))
+    map_same (λ x. line.Yearly x (count_of x xs)) (λ x. line.Yearly x (count_of x ys)) (rising xs)
+    (λ x k. ap (λ n. line.Yearly x n) (h x))
     ∙ ap (map (λ x. line.Yearly x (count_of x ys))) (one_rising (rising xs) (rising ys) (rising_is xs) (rising_is ys)
     (λ r k. has_rising ys r (counted_has ys r (omega (arith, h r, has_counted xs r (rising_has xs r k)))))
     (λ r k. has_rising xs r (counted_has xs r (omega (arith, h r, has_counted ys r (rising_has ys r k))))))
@@ -182,7 +197,8 @@ has-at (y ∷ ys) x (inr h) = let at = has-at ys x h in (suc at.0, omega (arith,
 non_falling : (xs : List ℕ) → IsNonDecreasingBy (λ x. x) xs → IsNonFalling xs
 non_falling [] h = tt
 non_falling (x ∷ xs) h = (
-  λ y k. (let at = has-at xs y k in let l : x ≤ get_or xs at.0 0 = h 0 (suc at.0) 0 (omega arith) (omega (arith, at.1)) in omega (arith, at.2)),
+  λ y k. (let at = has-at xs y k in let l : x ≤ get_or xs at.0 0 =
+      h 0 (suc at.0) 0 (omega arith) (omega (arith, at.1)) in omega (arith, at.2)),
   non_falling xs (λ i j d l u. h (suc i) (suc j) d (omega arith) (omega arith)),
 )
 
@@ -194,7 +210,9 @@ abbrev behind : ℕ → List ℕ → List ℕ
 behind x zs = drop (front x zs) zs
 
 behind-same : (x z : ℕ) (zs : List ℕ) → z ≡ x → behind x (z ∷ zs) ≡ behind x zs
-behind-same x z zs e = rw (is_same z x e) (let one : drop (1 + front x zs) (z ∷ zs) ≡ drop (front x zs) zs = ap (λ n. drop n (z ∷ zs)) (more (front x zs)) in one)
+behind-same x z zs e =
+    rw (is_same z x e) (let one : drop (1 + front x zs) (z ∷ zs) ≡ drop (front x zs) zs =
+    ap (λ n. drop n (z ∷ zs)) (more (front x zs)) in one)
   where
     more : (n : ℕ) → 1 + n ≡ suc n
     more n = omega arith
@@ -205,7 +223,9 @@ behind-other x z zs e = rw (is_other z x e) refl
 greater : (x : ℕ) (zs : List ℕ) → IsNonFalling zs → ((y : ℕ) → Has zs y → x ≤ y) → (y : ℕ) → Has (behind x zs) y → x < y
 greater x [] h low y k = absurd k
 greater x (z ∷ zs) h low y k = elim (cases_eq z x) [
-  | inl same ↦ greater x zs h.1 (λ w j. low w (inr j)) y (let there : Has (behind x zs) y = rw (behind-same x z zs same) at k in there)
+  | inl same ↦
+      greater x zs h.1 (λ w j. low w (inr j)) y (let there : Has (behind x zs) y = rw (behind-same x z zs same) at k in
+      there)
   | inr other ↦ above other (let there : Has (z ∷ zs) y = rw (behind-other x z zs other) at k in there)
 ]
   where
@@ -226,7 +246,8 @@ put-front x (y ∷ ys) h = rw (is_less x y (h y (inl refl))) refl
 put-again : (x : ℕ) (ys : List ℕ) → put_amount x (x ∷ ys) ≡ x ∷ ys
 put-again x ys = rw (is_no_less x x (omega arith), is_same x x refl) refl
 
-first_rising : (x : ℕ) (zs : List ℕ) → IsNonFalling zs → ((y : ℕ) → Has zs y → x ≤ y) → rising (x ∷ zs) ≡ x ∷ rising (behind x zs)
+first_rising : (x : ℕ) (zs : List ℕ) → IsNonFalling zs → ((y : ℕ) → Has zs y → x ≤ y) →
+    rising (x ∷ zs) ≡ x ∷ rising (behind x zs)
 first_rising x [] h low = refl
 first_rising x (z ∷ zs) h low = elim (cases_eq z x) [
   | inl same ↦
@@ -234,7 +255,9 @@ first_rising x (z ∷ zs) h low = elim (cases_eq z x) [
       ∙ (ap (put_amount x) (first_rising x zs h.1 (λ w j. low w (inr j)))
       ∙ (put-again x (rising (behind x zs)) ∙ ap (λ ws. x ∷ rising ws) (sym (behind-same x z zs same))))
   | inr other ↦
-      put-front x (rising (z ∷ zs)) (λ y k. greater x (z ∷ zs) h low y (let there : Has (behind x (z ∷ zs)) y = rw (behind-other x z zs other) (rising_has (z ∷ zs) y k) in there))
+      put-front x (rising (z ∷ zs))
+      (λ y k. greater x (z ∷ zs) h low y (let there : Has (behind x (z ∷ zs)) y =
+      rw (behind-other x z zs other) (rising_has (z ∷ zs) y k) in there))
       ∙ ap (λ ws. x ∷ rising ws) (sym (behind-other x z zs other))
 ]
 
@@ -253,7 +276,9 @@ count_front x (z ∷ zs) h low = elim (cases_eq z x) [
       omega (arith, count-cons x z zs, count_front x zs h.1 (λ w j. low w (inr j)))
   | inr other ↦
       let end : front x (z ∷ zs) ≡ 0 = rw (is_other z x other) refl in
-      none_counted x (z ∷ zs) (λ y k. greater x (z ∷ zs) h low y (let there : Has (behind x (z ∷ zs)) y = rw (behind-other x z zs other) k in there)) ∙ sym end
+      none_counted x (z ∷ zs)
+      (λ y k. greater x (z ∷ zs) h low y (let there : Has (behind x (z ∷ zs)) y =
+      rw (behind-other x z zs other) k in there)) ∙ sym end
 ]
 
 count_behind : (x y : ℕ) (zs : List ℕ) → x ≢ y → count_of y zs ≡ count_of y (behind x zs)
@@ -273,7 +298,9 @@ pub first_line : (x : ℕ) (zs : List ℕ) → IsNonFalling (x ∷ zs) →
 first_line x zs h =
     ap (map (λ y. line.Yearly y (count_of y (x ∷ zs)))) (first_rising x zs h.1 h.0)
     ∙ (ap (λ n. line.Yearly x n ∷ map (λ y. line.Yearly y (count_of y (x ∷ zs))) (rising (behind x zs))) counted
-    ∙ ap (λ ls. line.Yearly x (1 + front x zs) ∷ ls) (map_same (λ y. line.Yearly y (count_of y (x ∷ zs))) (λ y. line.Yearly y (count_of y (behind x zs))) (rising (behind x zs)) others))
+    ∙ ap (λ ls. line.Yearly x (1 + front x zs) ∷ ls)
+    (map_same (λ y. line.Yearly y (count_of y (x ∷ zs))) (λ y. line.Yearly y (count_of y (behind x zs)))
+    (rising (behind x zs)) others))
   where
     one : unit (x == x) ≡ 1
     one = ap unit (is_same x x refl)
@@ -281,7 +308,8 @@ first_line x zs h =
     counted : count_of x (x ∷ zs) ≡ 1 + front x zs
     counted = omega (arith, count-cons x x zs, one, count_front x zs h.1 h.0)
 
-    others : (y : ℕ) → Has (rising (behind x zs)) y → line.Yearly y (count_of y (x ∷ zs)) ≡ line.Yearly y (count_of y (behind x zs))
+    others : (y : ℕ) → Has (rising (behind x zs)) y →
+        line.Yearly y (count_of y (x ∷ zs)) ≡ line.Yearly y (count_of y (behind x zs))
     others y k =
         let less : x < y = greater x zs h.1 h.0 y (rising_has (behind x zs) y k) in
         let other : x ≢ y = λ e. omega arith in
@@ -289,13 +317,16 @@ first_line x zs h =
         ap (λ n. line.Yearly y n) (omega (arith, count-cons y x zs, count_behind x y zs other))
 
 -- the same of the list as a whole
-pub first_of_rest : (xs : List ℕ) (count : ℕ) → IsNonDecreasingBy (λ x. x) xs → 0 < length xs → count ≡ prefix_len (λ x. x == slice_index xs 0) xs →
+pub first_of_rest : (xs : List ℕ) (count : ℕ) → IsNonDecreasingBy (λ x. x) xs → 0 < length xs →
+    count ≡ prefix_len (λ x. x == slice_index xs 0) xs →
     yearly_lines xs ≡ line.Yearly (slice_index xs 0) count ∷ yearly_lines (drop count xs)
 first_of_rest [] count h l is = absurd (omega arith)
 first_of_rest (x ∷ zs) count h l is =
     let whole : count ≡ 1 + front x zs = is ∙ (rw (is_same x x refl) refl) in
     let step : drop count (x ∷ zs) ≡ behind x zs = ap (λ n. drop n (x ∷ zs)) (whole ∙ more (front x zs)) in
-    first_line x zs (non_falling (x ∷ zs) h) ∙ (ap (λ n. line.Yearly x n ∷ yearly_lines (behind x zs)) (sym whole) ∙ ap (λ ws. line.Yearly x count ∷ yearly_lines ws) (sym step))
+    first_line x zs (non_falling (x ∷ zs) h)
+    ∙ (ap (λ n. line.Yearly x n ∷ yearly_lines (behind x zs)) (sym whole)
+    ∙ ap (λ ws. line.Yearly x count ∷ yearly_lines ws) (sym step))
   where
     more : (n : ℕ) → 1 + n ≡ suc n
     more n = omega arith

@@ -27,7 +27,12 @@ basin = record {
   first = record { year = 1900; month = 1 };
   months = 24;
   year_start = 10;
-  nodes = record { name = codes "top"; outlet = false; inflow = Gauged } ∷ record { name = codes "mouth"; outlet = true; inflow = Monthly (replicate 12 0) } ∷ [];
+  nodes = record { name = codes "top"; outlet = false; inflow = Gauged } ∷ record {
+    name = codes "mouth";
+    outlet =
+        true;
+    inflow = Monthly (replicate 12 0);
+  } ∷ [];
   links = record { name = codes "a"; from = 0; to = 1; carry = River } ∷ [];
   reservoirs = [];
   rights =
@@ -46,6 +51,7 @@ basin = record {
 
 -- a right that wants 10 a month gets 48 and 120 in the years of the first trace, and 120 and 48 in those of the second
 text_of_two : flat_map (whole_line basin) (ensemble_lines basin (λ right. 48 ∷ 120 ∷ 120 ∷ 48 ∷ []))
-    ≡ codes "ensemble 1900-01 2" ++ 10 ∷ codes "right user" ++ 10 ∷ codes "yearly 48 2" ++ 10 ∷ codes "yearly 120 2" ++ 10 ∷ codes "done 2" ++ 10 ∷ []
+    ≡ codes "ensemble 1900-01 2" ++ 10 ∷ codes "right user" ++ 10 ∷ codes "yearly 48 2" ++ 10 ∷ codes
+    "yearly 120 2" ++ 10 ∷ codes "done 2" ++ 10 ∷ []
 unfolding whole_line fields_of digits by_seniority numbers_from
 text_of_two = refl

@@ -20,12 +20,16 @@ use Rattle.index_seq.specs.declared.entry.Entry.TheVariants as line
 use Rattle.index_seq.proofs.Counting.{same_lines}
 use Rattle.index_seq.proofs.Running.{traces_whole, sums_whole}
 
-flat_same : {Y : Type 0} (f g : ℕ → List Y) (xs : List ℕ) → ((x : ℕ) → Has xs x → f x ≡ g x) → flat_map f xs ≡ flat_map g xs
+flat_same : {Y : Type 0} (f g : ℕ → List Y) (xs : List ℕ) → ((x : ℕ) → Has xs x → f x ≡ g x) →
+    flat_map f xs ≡ flat_map g xs
 flat_same f g [] h = refl
-flat_same f g (x ∷ xs) h = ap (λ ys. ys ++ flat_map f xs) (h x (inl refl)) ∙ ap (λ ys. g x ++ ys) (flat_same f g xs (λ y k. h y (inr k)))
+flat_same f g (x ∷ xs) h =
+    ap (λ ys. ys ++ flat_map f xs) (h x (inl refl)) ∙ ap (λ ys. g x ++ ys) (flat_same f g xs (λ y k. h y (inr k)))
 
-pub sorted_lines : (b : Basin) (series : Inflows) (sums amounts : List (List ℕ)) → HaveSums b series (years_of b) sums → length amounts ≡ length sums →
-    ((r : ℕ) → IsPermutation (slice_index_or sums r []) (slice_index_or amounts r [])) → ((r : ℕ) → IsNonDecreasingBy (λ x. x) (slice_index_or amounts r [])) →
+pub sorted_lines : (b : Basin) (series : Inflows) (sums amounts : List (List ℕ)) → HaveSums b series (years_of b) sums →
+    length amounts ≡ length sums →
+    ((r : ℕ) → IsPermutation (slice_index_or sums r []) (slice_index_or amounts r [])) →
+    ((r : ℕ) → IsNonDecreasingBy (λ x. x) (slice_index_or amounts r [])) →
     HaveLines b series amounts
 sorted_lines b series sums amounts h count moved sorted = record {
   traces = h.traces;
@@ -33,19 +37,23 @@ sorted_lines b series sums amounts h count moved sorted = record {
   count = count ∙ h.sums.count;
   sorted = sorted;
   lines = ap (λ ls. line.Ensemble b.first (years_of b) ∷ (ls ++ line.Done (years_of b) ∷ []))
-      (flat_same (right_lines (λ r. slice_index_or amounts r [])) (right_lines (yearly_deliveries b h.traces)) (seniors_first b) (λ r k. ap (λ ls. line.Right r ∷ ls)
-      (sym (same_lines (slice_index_or sums r []) (slice_index_or amounts r []) (moved r)) ∙ ap yearly_lines (sums_whole b series sums h r (seniors_below b.rights r k)))));
+      (flat_same (right_lines (λ r. slice_index_or amounts r [])) (right_lines (yearly_deliveries b h.traces))
+      (seniors_first b) (λ r k. ap (λ ls. line.Right r ∷ ls)
+      (sym (same_lines (slice_index_or sums r []) (slice_index_or amounts r []) (moved r))
+      ∙ ap yearly_lines (sums_whole b series sums h r (seniors_below b.rights r k)))));
 }
 
 -- a front of these lines is a front of the text of the traces
-pub text_cut : (b : Basin) (series : Inflows) (amounts : List (List ℕ)) (old new : Option (List ℕ)) → HaveLines b series amounts →
+pub text_cut : (b : Basin) (series : Inflows) (amounts : List (List ℕ)) (old new : Option (List ℕ)) →
+    HaveLines b series amounts →
     PutsFront old new (flat_map (whole_line b) (ensemble_lines b (λ r. slice_index_or amounts r []))) →
     (traces : List (List MonthRecord)) × AreTraces b series traces × PutsFront old new (ensemble_text b traces)
 text_cut b series amounts old new h cut =
     (h.traces, h.whole, subst (λ (ls : List Entry). PutsFront old new (flat_map (whole_line b) ls)) h.lines cut)
 
 -- and the whole of them the whole text
-pub text_told : (b : Basin) (series : Inflows) (amounts : List (List ℕ)) (old new : Option (List ℕ)) → HaveLines b series amounts →
+pub text_told : (b : Basin) (series : Inflows) (amounts : List (List ℕ)) (old new : Option (List ℕ)) →
+    HaveLines b series amounts →
     Appends old new (flat_map (whole_line b) (ensemble_lines b (λ r. slice_index_or amounts r []))) →
     (traces : List (List MonthRecord)) × AreTraces b series traces × Appends old new (ensemble_text b traces)
 text_told b series amounts old new h told =

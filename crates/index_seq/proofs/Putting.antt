@@ -1,5 +1,6 @@
 -- The lines of different amounts, put one after another.
-use Rattle.std.proofs.Common.{◌≡◌, ℕ, ◌<◌, ◌≤◌, List, [], ◌∷◌, ◌++◌, length, take, drop, refl, sym, ap, subst, ◌∙◌, arith, append_assoc, append-nil, Option, Some, None, Result}
+use Rattle.std.proofs.Common.{◌≡◌, ℕ, ◌<◌, ◌≤◌, List, [], ◌∷◌, ◌++◌, length, take, drop, refl, sym, ap, subst, ◌∙◌}
+use Rattle.std.proofs.Common.{arith, append_assoc, append-nil, Option, Some, None, Result}
 use Rattle.std.specs.Prelude.{slice_index, IsErr, ◌==◌}
 use Rattle.std.specs.List.{flat_map, prefix_len}
 use Rattle.std.specs.List.Sorted.{IsNonDecreasingBy}
@@ -25,29 +26,37 @@ pub record IsPutSoFar (b : Basin) (amounts rest : List ℕ) (old now : Option (L
   pub sorted : IsNonDecreasingBy (λ x. x) rest
   pub later : before ≤ after
 
-pub put_start : (b : Basin) (amounts : List ℕ) (old : Option (List ℕ)) (before : ℕ) → IsNonDecreasingBy (λ x. x) amounts → IsPutSoFar b amounts amounts old old before before
-put_start b amounts old before sorted = record { done = []; put = nothing old; whole = refl; sorted = sorted; later = omega arith }
+pub put_start : (b : Basin) (amounts : List ℕ) (old : Option (List ℕ)) (before : ℕ) →
+    IsNonDecreasingBy (λ x. x) amounts → IsPutSoFar b amounts amounts old old before before
+put_start b amounts old before sorted =
+    record { done = []; put = nothing old; whole = refl; sorted = sorted; later = omega arith }
   where
     nothing : (old : Option (List ℕ)) → Appends old old []
     nothing None = tt
     nothing (Some bytes) = sym (append-nil bytes)
 
 -- the line of the first amount of the rest, and then those behind its run
-rest_lines : (b : Basin) (rest : List ℕ) (count : ℕ) → IsNonDecreasingBy (λ x. x) rest → 0 < length rest → count ≡ prefix_len (λ x. x == slice_index rest 0) rest →
+rest_lines : (b : Basin) (rest : List ℕ) (count : ℕ) → IsNonDecreasingBy (λ x. x) rest → 0 < length rest →
+    count ≡ prefix_len (λ x. x == slice_index rest 0) rest →
     flat_map (whole_line b) (yearly_lines rest)
-    ≡ flat_map (whole_line b) (line.Yearly (slice_index rest 0) count ∷ []) ++ flat_map (whole_line b) (yearly_lines (drop count rest))
+    ≡ flat_map (whole_line b) (line.Yearly (slice_index rest 0) count ∷ []) ++ flat_map (whole_line b)
+    (yearly_lines (drop count rest))
 rest_lines b rest count sorted l is =
     ap (flat_map (whole_line b)) (first_of_rest rest count sorted l is)
-    ∙ ap (λ t. t ++ flat_map (whole_line b) (yearly_lines (drop count rest))) (sym (append-nil (whole_line b (line.Yearly (slice_index rest 0) count))))
+    ∙ ap (λ t. t ++ flat_map (whole_line b) (yearly_lines (drop count rest)))
+    (sym (append-nil (whole_line b (line.Yearly (slice_index rest 0) count))))
 
-pub put_next : (b : Basin) (amounts rest : List ℕ) (count : ℕ) (old mid new : Option (List ℕ)) (before between after : ℕ) → IsPutSoFar b amounts rest old mid before between →
+pub put_next : (b : Basin) (amounts rest : List ℕ) (count : ℕ) (old mid new : Option (List ℕ))
+    (before between after : ℕ) → IsPutSoFar b amounts rest old mid before between →
     0 < length rest → count ≡ prefix_len (λ x. x == slice_index rest 0) rest →
     Appends mid new (flat_map (whole_line b) (line.Yearly (slice_index rest 0) count ∷ [])) → between ≤ after →
     IsPutSoFar b amounts (drop count rest) old new before after
 put_next b amounts rest count old mid new before between after s l is here later = record {
   done = s.done ++ piece;
   put = Appends-then old mid new s.done piece s.put here;
-  whole = s.whole ∙ (ap (λ t. s.done ++ t) (rest_lines b rest count s.sorted l is) ∙ sym (append_assoc s.done piece (flat_map (whole_line b) (yearly_lines (drop count rest)))));
+  whole = s.whole
+      ∙ (ap (λ t. s.done ++ t) (rest_lines b rest count s.sorted l is)
+      ∙ sym (append_assoc s.done piece (flat_map (whole_line b) (yearly_lines (drop count rest)))));
   sorted = IsNonDecreasingBy-drop (λ x. x) count rest s.sorted;
   later = omega (arith, s.later);
 }
@@ -55,12 +64,15 @@ put_next b amounts rest count old mid new before between after s l is here later
     piece : List ℕ
     piece = flat_map (whole_line b) (line.Yearly (slice_index rest 0) count ∷ [])
 
-pub put_fails : {E : Type 0} (b : Basin) (amounts rest : List ℕ) (count : ℕ) (old mid new : Option (List ℕ)) (before between : ℕ) (r : Result (Unit {0}) E) →
-    IsPutSoFar b amounts rest old mid before between → 0 < length rest → count ≡ prefix_len (λ x. x == slice_index rest 0) rest →
+pub put_fails : {E : Type 0} (b : Basin) (amounts rest : List ℕ) (count : ℕ) (old mid new : Option (List ℕ))
+    (before between : ℕ) (r : Result (Unit {0}) E) →
+    IsPutSoFar b amounts rest old mid before between → 0 < length rest →
+    count ≡ prefix_len (λ x. x == slice_index rest 0) rest →
     PutsFront mid new (flat_map (whole_line b) (line.Yearly (slice_index rest 0) count ∷ [])) → IsErr r →
     Puts old new r (flat_map (whole_line b) (yearly_lines amounts))
 put_fails b amounts rest count old mid new before between r s l is here failed =
-    subst (λ (bytes : List ℕ). Puts old new r bytes) (sym (s.whole ∙ ap (λ t. s.done ++ t) (rest_lines b rest count s.sorted l is)))
+    subst (λ (bytes : List ℕ). Puts old new r bytes)
+    (sym (s.whole ∙ ap (λ t. s.done ++ t) (rest_lines b rest count s.sorted l is)))
     (PutsFront-fails old new r (s.done ++ (piece ++ further)) failed
     (PutsFront-then old mid new s.done (piece ++ further) s.put (PutsFront-cut mid new piece further here)))
   where
@@ -70,19 +82,24 @@ put_fails b amounts rest count old mid new before between r s l is here failed =
     further : List ℕ
     further = flat_map (whole_line b) (yearly_lines (drop count rest))
 
-pub put_whole : (b : Basin) (amounts rest : List ℕ) (old now : Option (List ℕ)) (before after : ℕ) → IsPutSoFar b amounts rest old now before after →
+pub put_whole : (b : Basin) (amounts rest : List ℕ) (old now : Option (List ℕ)) (before after : ℕ) →
+    IsPutSoFar b amounts rest old now before after →
     length rest ≡ 0 → Appends old now (flat_map (whole_line b) (yearly_lines amounts))
-put_whole b amounts [] old now before after s e = subst (λ (bytes : List ℕ). Appends old now bytes) (sym (s.whole ∙ append-nil s.done)) s.put
+put_whole b amounts [] old now before after s e =
+    subst (λ (bytes : List ℕ). Appends old now bytes) (sym (s.whole ∙ append-nil s.done)) s.put
 put_whole b amounts (x ∷ rest) old now before after s e = absurd (omega arith)
 
 -- a whole text: its first line, those of the rights, and its last line
 pub text_pieces : (b : Basin) (amounts : ℕ → List ℕ) →
     flat_map (whole_line b) (line.Ensemble b.first (years_of b) ∷ [])
-    ++ (flat_map (whole_line b) (flat_map (right_lines amounts) (seniors_first b)) ++ flat_map (whole_line b) (line.Done (years_of b) ∷ []))
+    ++ (flat_map (whole_line b) (flat_map (right_lines amounts) (seniors_first b)) ++ flat_map (whole_line b)
+    (line.Done (years_of b) ∷ []))
     ≡ flat_map (whole_line b) (ensemble_lines b amounts)
 text_pieces b amounts =
-    ap (λ t. t ++ (flat_map (whole_line b) rights ++ flat_map (whole_line b) (line.Done (years_of b) ∷ []))) (append-nil (whole_line b (line.Ensemble b.first (years_of b))))
-    ∙ ap (λ t. whole_line b (line.Ensemble b.first (years_of b)) ++ t) (sym (flat_map-append (whole_line b) rights (line.Done (years_of b) ∷ [])))
+    ap (λ t. t ++ (flat_map (whole_line b) rights ++ flat_map (whole_line b) (line.Done (years_of b) ∷ [])))
+    (append-nil (whole_line b (line.Ensemble b.first (years_of b))))
+    ∙ ap (λ t. whole_line b (line.Ensemble b.first (years_of b)) ++ t)
+    (sym (flat_map-append (whole_line b) rights (line.Done (years_of b) ∷ [])))
   where
     rights : List Entry
     rights = flat_map (right_lines amounts) (seniors_first b)

@@ -1,5 +1,7 @@
 -- The sums of traces, from one month to the next, from one year to the next, and from one trace to the next.
-use Rattle.std.proofs.Common.{◌≡◌, ℕ, zero, suc, ◌+◌, ◌*◌, ◌/◌, ◌<◌, ◌≤◌, ◌^◌, refl, sym, ap, subst, ◌∙◌, arith, List, [], ◌∷◌, ◌++◌, length, take, drop, map, inl, inr, append-nil, append_assoc, length-append, take_all, add-one}
+use Rattle.std.proofs.Common.{◌≡◌, ℕ, zero, suc, ◌+◌, ◌*◌, ◌/◌, ◌<◌, ◌≤◌, ◌^◌, refl, sym, ap, subst, ◌∙◌, arith, List}
+use Rattle.std.proofs.Common.{[], ◌∷◌, ◌++◌, length, take, drop, map, inl, inr, append-nil, append_assoc, length-append}
+use Rattle.std.proofs.Common.{take_all, add-one}
 use Rattle.std.specs.Prelude.{slice_index, slice_index_or, slice_get, sum_by, Some, ◌⊎◌}
 use Rattle.std.specs.List.{flat_map}
 use Rattle.std.proofs.Math.Nat.{mul-le-mul_right, add-mul, mul_assoc}
@@ -15,7 +17,8 @@ use Rattle.water_model.specs.declared.types.Basin.{Basin}
 use Rattle.water_model.specs.declared.types.Inflows.{Inflows}
 use Rattle.water_model.specs.declared.types.MonthRecord.{MonthRecord}
 use Rattle.index_seq.specs.Sums.{AreSums, IsYear, IsUnderWay, HaveSums, AreFirst}
-use Rattle.index_seq.specs.Traces.{begun_after, delivered_in_year, yearly_deliveries, years_of, HasWholeYears, AreTraces}
+use Rattle.index_seq.specs.Traces.{begun_after, delivered_in_year, yearly_deliveries, years_of, HasWholeYears}
+use Rattle.index_seq.specs.Traces.{AreTraces}
 use Rattle.senior_hold.specs.MonthNetwork.{month_pushes}
 
 -- what a right was delivered in a year that is over does not change
@@ -26,35 +29,45 @@ year_stays right year records m h =
     (ap (take 12) (drop-append-le (12 * year) records (m ∷ []) (omega arith))
     ∙ take-append-le 12 (drop (12 * year) records) (m ∷ []) (omega (arith, length-drop (12 * year) records)))
 
-map_numbers : (f g : ℕ → ℕ) (from n : ℕ) → ((k : ℕ) → k < from + n → f k ≡ g k) → map f (numbers_from from n) ≡ map g (numbers_from from n)
+map_numbers : (f g : ℕ → ℕ) (from n : ℕ) → ((k : ℕ) → k < from + n → f k ≡ g k) →
+    map f (numbers_from from n) ≡ map g (numbers_from from n)
 unfolding numbers_from
 map_numbers f g from zero h = refl
 map_numbers f g from (suc n) h =
-    ap (λ x. x ∷ map f (numbers_from (suc from) n)) (h from (omega arith)) ∙ ap (λ xs. g from ∷ xs) (map_numbers f g (suc from) n (λ k l. h k (omega arith)))
+    ap (λ x. x ∷ map f (numbers_from (suc from) n)) (h from (omega arith))
+    ∙ ap (λ xs. g from ∷ xs) (map_numbers f g (suc from) n (λ k l. h k (omega arith)))
 
-map_more : (f : ℕ → ℕ) (from n : ℕ) → map f (numbers_from from (suc n)) ≡ map f (numbers_from from n) ++ f (from + n) ∷ []
+map_more : (f : ℕ → ℕ) (from n : ℕ) →
+    map f (numbers_from from (suc n)) ≡ map f (numbers_from from n) ++ f (from + n) ∷ []
 unfolding numbers_from
 map_more f from zero = ap (λ k. f k ∷ []) (let is : from ≡ from + 0 = omega arith in is)
 map_more f from (suc n) =
-    ap (λ xs. f from ∷ xs) (map_more f (suc from) n) ∙ ap (λ k. f from ∷ (map f (numbers_from (suc from) n) ++ f k ∷ [])) (let is : suc from + n ≡ from + suc n = omega arith in is)
+    ap (λ xs. f from ∷ xs) (map_more f (suc from) n)
+    ∙ ap (λ k. f from ∷ (map f (numbers_from (suc from) n) ++ f k ∷ [])) (let is : suc from + n ≡ from + suc n =
+    omega arith in is)
 
 -- the month that follows
-pub partial_next : (b : Basin) (series : Inflows) (next : RunSeen) (records : List MonthRecord) (m : MonthRecord) → next.basin ≡ b → next.series ≡ series → m ≡ next.last →
+pub partial_next : (b : Basin) (series : Inflows) (next : RunSeen) (records : List MonthRecord) (m : MonthRecord) →
+    next.basin ≡ b → next.series ≡ series → m ≡ next.last →
     StandsFor next (records ++ next.last ∷ []) → IsPartialHistory b series (records ++ m ∷ [])
 partial_next b series next records m same fits last stands = rw (← same, ← fits, last) stands.partial
 
 -- it has a delivery for each right
-pub month_fits : (b : Basin) (series : Inflows) (records : List MonthRecord) (m : MonthRecord) (so_far : List ℕ) → length so_far ≡ length b.rights →
+pub month_fits : (b : Basin) (series : Inflows) (records : List MonthRecord) (m : MonthRecord) (so_far : List ℕ) →
+    length so_far ≡ length b.rights →
     IsPartialHistory b series (records ++ m ∷ []) → length so_far ≡ length m.delivered
-month_fits b series records m so_far count partial = count ∙ sym (partial.each (length records) m (at_end records)).fits.delivered
+month_fits b series records m so_far count partial =
+    count ∙ sym (partial.each (length records) m (at_end records)).fits.delivered
   where
     at_end : (xs : List MonthRecord) → slice_get (xs ++ m ∷ []) (length xs) ≡ Some m
     at_end [] = refl
     at_end (x ∷ xs) = at_end xs
 
 -- there is room for it
-pub month_room : (b : Basin) (series : Inflows) (trace years months : ℕ) (run : RunSeen) (all : List (List ℕ)) (so_far : List ℕ) (m : MonthRecord) → IsValidBasin b →
-    IsSeriesOf b (begun_after series trace) → (u : IsUnderWay b series trace years months run all so_far) → IsPartialHistory b (begun_after series trace) (u.records ++ m ∷ []) →
+pub month_room : (b : Basin) (series : Inflows) (trace years months : ℕ) (run : RunSeen) (all : List (List ℕ))
+    (so_far : List ℕ) (m : MonthRecord) → IsValidBasin b →
+    IsSeriesOf b (begun_after series trace) → (u : IsUnderWay b series trace years months run all so_far) →
+    IsPartialHistory b (begun_after series trace) (u.records ++ m ∷ []) →
     (r : ℕ) → r < length so_far → slice_index so_far r + slice_index m.delivered r < 2 ^ 64
 month_room b series trace years months run all so_far m valid fits u partial r l =
     let f : MonthRecord → ℕ = λ k. slice_index k.delivered r in
@@ -70,9 +83,12 @@ month_room b series trace years months run all so_far m valid fits u partial r l
     )
 
 -- with it the trace is under way by one month more
-pub month_more : (b : Basin) (series : Inflows) (trace years months : ℕ) (run next : RunSeen) (all : List (List ℕ)) (so_far more : List ℕ) (m : MonthRecord) →
-    (u : IsUnderWay b series trace years months run all so_far) → next.basin ≡ run.basin → next.series ≡ run.series → StandsFor next (u.records ++ m ∷ []) →
-    length more ≡ length so_far → ((r : ℕ) → r < length so_far → slice_index more r ≡ slice_index so_far r + slice_index m.delivered r) →
+pub month_more : (b : Basin) (series : Inflows) (trace years months : ℕ) (run next : RunSeen) (all : List (List ℕ))
+    (so_far more : List ℕ) (m : MonthRecord) →
+    (u : IsUnderWay b series trace years months run all so_far) → next.basin ≡ run.basin → next.series ≡ run.series →
+    StandsFor next (u.records ++ m ∷ []) →
+    length more ≡ length so_far →
+    ((r : ℕ) → r < length so_far → slice_index more r ≡ slice_index so_far r + slice_index m.delivered r) →
     IsUnderWay b series trace years (months + 1) next all more
 month_more b series trace years months run next all so_far more m u same fits stands long added = record {
   traces = u.traces;
@@ -85,20 +101,29 @@ month_more b series trace years months run next all so_far more m u same fits st
   count = omega (arith, length-append u.records (m ∷ []), u.count);
   sums = record {
     count = u.sums.count;
-    each = λ r l. u.sums.each r l ∙ ap (λ xs. yearly_deliveries b u.traces r ++ xs) (sym (map_numbers (delivered_in_year (u.records ++ m ∷ []) r) (delivered_in_year u.records r) 0 years
+    each = λ r l. u.sums.each r l
+        ∙ ap (λ xs. yearly_deliveries b u.traces r ++ xs)
+        (sym (map_numbers (delivered_in_year (u.records ++ m ∷ []) r) (delivered_in_year u.records r) 0 years
         (λ k h. year_stays r k u.records m (omega (arith, u.count)))));
   };
   year = record {
     count = long ∙ u.year.count;
-    each = λ r l. added r (omega (arith, u.year.count)) ∙ (ap (λ n. n + slice_index m.delivered r) (u.year.each r l) ∙ sym (grown r));
+    each = λ r l. added r (omega (arith, u.year.count))
+        ∙ (ap (λ n. n + slice_index m.delivered r) (u.year.each r l) ∙ sym (grown r));
   };
 }
   where
-    grown : (r : ℕ) → sum_by (λ k. slice_index k.delivered r) (drop (12 * years) (u.records ++ m ∷ [])) ≡ sum_by (λ k. slice_index k.delivered r) (drop (12 * years) u.records) + slice_index m.delivered r
-    grown r = ap (sum_by (λ k. slice_index k.delivered r)) (drop-append-le (12 * years) u.records (m ∷ []) (omega (arith, u.count))) ∙ sum_by_push (λ k. slice_index k.delivered r) (drop (12 * years) u.records) m
+    grown : (r : ℕ) →
+        sum_by (λ k. slice_index k.delivered r) (drop (12 * years) (u.records ++ m ∷ [])) ≡ sum_by
+        (λ k. slice_index k.delivered r) (drop (12 * years) u.records) + slice_index m.delivered r
+    grown r =
+        ap (sum_by (λ k. slice_index k.delivered r))
+        (drop-append-le (12 * years) u.records (m ∷ []) (omega (arith, u.count)))
+        ∙ sum_by_push (λ k. slice_index k.delivered r) (drop (12 * years) u.records) m
 
 -- when a year is over, its sums stand behind those before, and another year begins
-pub year_more : (b : Basin) (series : Inflows) (trace years : ℕ) (run : RunSeen) (all more : List (List ℕ)) (so_far none : List ℕ) →
+pub year_more : (b : Basin) (series : Inflows) (trace years : ℕ) (run : RunSeen) (all more : List (List ℕ))
+    (so_far none : List ℕ) →
     IsUnderWay b series trace years 12 run all so_far → length more ≡ length all →
     ((r : ℕ) → r < length all → slice_index_or more r [] ≡ slice_index_or all r [] ++ slice_index so_far r ∷ []) →
     length none ≡ length so_far → ((r : ℕ) → r < length so_far → slice_index none r ≡ 0) →
@@ -114,33 +139,45 @@ year_more b series trace years run all more so_far none u long added short zeros
   count = omega (arith, u.count);
   sums = record {
     count = long ∙ u.sums.count;
-    each = λ r l. added r (omega (arith, u.sums.count)) ∙ (ap (λ xs. xs ++ slice_index so_far r ∷ []) (u.sums.each r l) ∙ (append_assoc (yearly_deliveries b u.traces r) (map (delivered_in_year u.records r) (numbers_from 0 years)) (slice_index so_far r ∷ [])
+    each = λ r l. added r (omega (arith, u.sums.count))
+        ∙ (ap (λ xs. xs ++ slice_index so_far r ∷ []) (u.sums.each r l)
+        ∙ (append_assoc (yearly_deliveries b u.traces r) (map (delivered_in_year u.records r) (numbers_from 0 years))
+        (slice_index so_far r ∷ [])
         ∙ ap (λ xs. yearly_deliveries b u.traces r ++ xs) (joined r l)));
   };
   year = record {
     count = short ∙ u.year.count;
-    each = λ r l. zeros r (omega (arith, u.year.count)) ∙ sym (ap (sum_by (λ k. slice_index k.delivered r)) (drop_all (12 * (years + 1)) u.records (omega (arith, u.count))));
+    each = λ r l. zeros r (omega (arith, u.year.count))
+        ∙ sym (ap (sum_by (λ k. slice_index k.delivered r))
+        (drop_all (12 * (years + 1)) u.records (omega (arith, u.count))));
   };
 }
   where
     this_year : (r : ℕ) → r < length b.rights → slice_index so_far r ≡ delivered_in_year u.records r (0 + years)
     this_year r l =
         u.year.each r l
-        ∙ (ap (sum_by (λ k. slice_index k.delivered r)) (sym (take_all 12 (drop (12 * years) u.records) (omega (arith, length-drop (12 * years) u.records, u.count))))
+        ∙ (ap (sum_by (λ k. slice_index k.delivered r))
+        (sym (take_all 12 (drop (12 * years) u.records)
+        (omega (arith, length-drop (12 * years) u.records, u.count))))
         ∙ ap (delivered_in_year u.records r) (let is : years ≡ 0 + years = omega arith in is))
 
-    joined : (r : ℕ) → r < length b.rights → map (delivered_in_year u.records r) (numbers_from 0 years) ++ slice_index so_far r ∷ [] ≡ map (delivered_in_year u.records r) (numbers_from 0 (years + 1))
+    joined : (r : ℕ) → r < length b.rights →
+        map (delivered_in_year u.records r) (numbers_from 0 years) ++ slice_index so_far r ∷ [] ≡ map
+        (delivered_in_year u.records r) (numbers_from 0 (years + 1))
     joined r l =
         ap (λ x. map (delivered_in_year u.records r) (numbers_from 0 years) ++ x ∷ []) (this_year r l)
-        ∙ (sym (map_more (delivered_in_year u.records r) 0 years) ∙ ap (λ n. map (delivered_in_year u.records r) (numbers_from 0 n)) (sym (add-one years)))
+        ∙ (sym (map_more (delivered_in_year u.records r) 0 years)
+        ∙ ap (λ n. map (delivered_in_year u.records r) (numbers_from 0 n)) (sym (add-one years)))
 
 no_years : (f : ℕ → ℕ) (xs : List ℕ) → xs ≡ xs ++ map f (numbers_from 0 0)
 unfolding numbers_from
 no_years f xs = sym (append-nil xs)
 
 -- a trace begins where those before it are whole
-pub trace_start : (b : Basin) (series : Inflows) (trace : ℕ) (run : RunSeen) (all : List (List ℕ)) (none : List ℕ) → (h : HaveSums b series trace all) →
-    run.basin ≡ b → run.series ≡ begun_after series trace → StandsFor run [] → length none ≡ length b.rights → ((r : ℕ) → r < length b.rights → slice_index none r ≡ 0) →
+pub trace_start : (b : Basin) (series : Inflows) (trace : ℕ) (run : RunSeen) (all : List (List ℕ)) (none : List ℕ) →
+    (h : HaveSums b series trace all) →
+    run.basin ≡ b → run.series ≡ begun_after series trace → StandsFor run [] → length none ≡ length b.rights →
+    ((r : ℕ) → r < length b.rights → slice_index none r ≡ 0) →
     IsUnderWay b series trace 0 0 run all none
 trace_start b series trace run all none h same fits stands long zeros = record {
   traces = h.traces;
@@ -155,14 +192,17 @@ trace_start b series trace run all none h same fits stands long zeros = record {
   year = record { count = long; each = zeros };
 }
 
-last_or_before : {X : Type 0} (xs : List X) (x y : X) (i : ℕ) → slice_get (xs ++ x ∷ []) i ≡ Some y → (slice_get xs i ≡ Some y) ⊎ ((i ≡ length xs) × (x ≡ y))
+last_or_before : {X : Type 0} (xs : List X) (x y : X) (i : ℕ) → slice_get (xs ++ x ∷ []) i ≡ Some y →
+    (slice_get xs i ≡ Some y) ⊎ ((i ≡ length xs) × (x ≡ y))
 last_or_before [] x y zero h = let same : x ≡ y = cc in inr (refl, same)
 last_or_before [] x y (suc i) h = let none : slice_get [] i ≡ Some y = h in cc
 last_or_before (z ∷ xs) x y zero h = inl h
-last_or_before (z ∷ xs) x y (suc i) h = elim (last_or_before xs x y i h) [ inl before ↦ inl before | inr last ↦ inr (ap suc last.0, last.1) ]
+last_or_before (z ∷ xs) x y (suc i) h =
+    elim (last_or_before xs x y i h) [ inl before ↦ inl before | inr last ↦ inr (ap suc last.0, last.1) ]
 
 -- and when all its years are over, it is whole too
-pub trace_over : (b : Basin) (series : Inflows) (trace : ℕ) (run : RunSeen) (all : List (List ℕ)) (none : List ℕ) → IsUnderWay b series trace (years_of b) 0 run all none →
+pub trace_over : (b : Basin) (series : Inflows) (trace : ℕ) (run : RunSeen) (all : List (List ℕ)) (none : List ℕ) →
+    IsUnderWay b series trace (years_of b) 0 run all none →
     HasWholeYears b → HaveSums b series (trace + 1) all
 trace_over b series trace run all none u whole = record {
   traces = u.traces ++ u.records ∷ [];
@@ -180,23 +220,28 @@ trace_over b series trace run all none u whole = record {
     history : IsHistory b (begun_after series trace) u.records
     history = record { partial = partial; whole = omega (arith, u.count) }
 
-    each : (y : ℕ) (records : List MonthRecord) → slice_get (u.traces ++ u.records ∷ []) y ≡ Some records → IsHistory b (begun_after series y) records
+    each : (y : ℕ) (records : List MonthRecord) → slice_get (u.traces ++ u.records ∷ []) y ≡ Some records →
+        IsHistory b (begun_after series y) records
     each y records at = elim (last_or_before u.traces u.records records y at) [
       | inl before ↦ u.first.each y records before
       | inr last ↦
           let number : trace ≡ y = sym (last.0 ∙ u.number) in
-          subst (λ (ms : List MonthRecord). IsHistory b (begun_after series y) ms) last.1 (subst (λ (k : ℕ). IsHistory b (begun_after series k) u.records) number history)
+          subst (λ (ms : List MonthRecord). IsHistory b (begun_after series y) ms) last.1
+          (subst (λ (k : ℕ). IsHistory b (begun_after series k) u.records) number history)
     ]
 
     sums : (r : ℕ) → yearly_deliveries b u.traces r ++ map (delivered_in_year u.records r) (numbers_from 0 (years_of b))
         ≡ yearly_deliveries b (u.traces ++ u.records ∷ []) r ++ map (delivered_in_year [] r) (numbers_from 0 0)
     sums r =
-        ap (λ xs. yearly_deliveries b u.traces r ++ xs) (sym (append-nil (map (delivered_in_year u.records r) (numbers_from 0 (years_of b)))))
-        ∙ (sym (flat_map-append (λ records. map (delivered_in_year records r) (numbers_from 0 (years_of b))) u.traces (u.records ∷ []))
+        ap (λ xs. yearly_deliveries b u.traces r ++ xs)
+        (sym (append-nil (map (delivered_in_year u.records r) (numbers_from 0 (years_of b)))))
+        ∙ (sym (flat_map-append (λ records. map (delivered_in_year records r) (numbers_from 0 (years_of b))) u.traces
+        (u.records ∷ []))
         ∙ no_years (delivered_in_year [] r) (yearly_deliveries b (u.traces ++ u.records ∷ []) r))
 
 -- before the first trace
-pub sums_start : (b : Basin) (series : Inflows) (all : List (List ℕ)) → length all ≡ length b.rights → ((r : ℕ) → slice_index_or all r [] ≡ []) → HaveSums b series 0 all
+pub sums_start : (b : Basin) (series : Inflows) (all : List (List ℕ)) → length all ≡ length b.rights →
+    ((r : ℕ) → slice_index_or all r [] ≡ []) → HaveSums b series 0 all
 sums_start b series all count empty = record {
   traces = [];
   number = refl;
@@ -205,23 +250,32 @@ sums_start b series all count empty = record {
 }
 
 -- and after the last
-pub traces_whole : (b : Basin) (series : Inflows) (all : List (List ℕ)) → (h : HaveSums b series (years_of b) all) → AreTraces b series h.traces
+pub traces_whole : (b : Basin) (series : Inflows) (all : List (List ℕ)) → (h : HaveSums b series (years_of b) all) →
+    AreTraces b series h.traces
 traces_whole b series all h = record { count = h.number; each = h.first.each }
 
-pub sums_whole : (b : Basin) (series : Inflows) (all : List (List ℕ)) → (h : HaveSums b series (years_of b) all) → (r : ℕ) → r < length b.rights →
+pub sums_whole : (b : Basin) (series : Inflows) (all : List (List ℕ)) → (h : HaveSums b series (years_of b) all) →
+    (r : ℕ) → r < length b.rights →
     slice_index_or all r [] ≡ yearly_deliveries b h.traces r
-sums_whole b series all h r l = h.sums.each r l ∙ sym (no_years (delivered_in_year [] r) (yearly_deliveries b h.traces r))
+sums_whole b series all h r l =
+    h.sums.each r l ∙ sym (no_years (delivered_in_year [] r) (yearly_deliveries b h.traces r))
 
 -- the pushes of some steps and of one more are within those of all
-pub within_steps : (most first before after i n : ℕ) → before ≤ first + i * most → after ≤ before + most → i < n → after ≤ first + n * most
-within_steps most first before after i n sofar more l = let all : (i + 1) * most ≤ n * most = mul-le-mul_right most (omega arith) in omega (arith, add-mul i 1 most)
+pub within_steps : (most first before after i n : ℕ) → before ≤ first + i * most → after ≤ before + most → i < n →
+    after ≤ first + n * most
+within_steps most first before after i n sofar more l = let all : (i + 1) * most ≤ n * most =
+    mul-le-mul_right most (omega arith) in omega (arith, add-mul i 1 most)
 
-pub one_step : (most first before after i : ℕ) → before ≤ first + i * most → after ≤ before + most → after ≤ first + (i + 1) * most
+pub one_step : (most first before after i : ℕ) → before ≤ first + i * most → after ≤ before + most →
+    after ≤ first + (i + 1) * most
 one_step most first before after i sofar more = omega (arith, add-mul i 1 most)
 
 -- the months of all years are those of the run
 pub year_pushes : (b : Basin) → HasWholeYears b → years_of b * (12 * month_pushes b) ≡ run_pushes b
-year_pushes b whole = sym (mul_assoc (years_of b) 12 (month_pushes b)) ∙ ap (λ m. m * month_pushes b) (let is : years_of b * 12 ≡ b.months = omega arith in is)
+year_pushes b whole =
+    sym (mul_assoc (years_of b) 12 (month_pushes b))
+    ∙ ap (λ m. m * month_pushes b) (let is : years_of b * 12 ≡ b.months = omega arith in is)
 
-pub pushes_of_run : (b : Basin) (first after : ℕ) → HasWholeYears b → after ≤ first + years_of b * (12 * month_pushes b) → after ≤ first + run_pushes b
+pub pushes_of_run : (b : Basin) (first after : ℕ) → HasWholeYears b →
+    after ≤ first + years_of b * (12 * month_pushes b) → after ≤ first + run_pushes b
 pushes_of_run b first after whole h = subst (λ (n : ℕ). after ≤ first + n) (year_pushes b whole) h

@@ -1,5 +1,6 @@
 -- A series that begins in another year.
-use Rattle.std.proofs.Common.{◌≡◌, ℕ, ◌+◌, ◌-◌, ◌*◌, ◌/◌, ◌%◌, ◌<◌, ◌≤◌, ◌^◌, refl, sym, ap, ◌∙◌, arith, List, [], ◌∷◌, ◌++◌, length, take, drop, get_or, inl, inr, length-append}
+use Rattle.std.proofs.Common.{◌≡◌, ℕ, ◌+◌, ◌-◌, ◌*◌, ◌/◌, ◌%◌, ◌<◌, ◌≤◌, ◌^◌, refl, sym, ap, ◌∙◌, arith, List, [], ◌∷◌}
+use Rattle.std.proofs.Common.{◌++◌, length, take, drop, get_or, inl, inr, length-append}
 use Rattle.std.specs.Prelude.{Bool, true, false, cond, filter, slice_index, All}
 use Rattle.std.proofs.Math.ListN.{get_or-append}
 use Rattle.std.proofs.Math.Nat.{mod-eq_of_lt, add-mod_left, mul-le-mul, mul-le-mul_right, add-mul}
@@ -14,17 +15,20 @@ use Rattle.water_model.specs.declared.types.Inflows.{Inflows}
 use Rattle.index_seq.specs.Traces.{HasWholeYears, years_of, begun_after, IsBegunAfter}
 
 -- the place at which the record begins lies in it
-pub within : (b : Basin) (series : Inflows) (years : ℕ) → IsSeriesOf b series → years < years_of b → 12 * years * length series.gauged ≤ length series.amount
+pub within : (b : Basin) (series : Inflows) (years : ℕ) → IsSeriesOf b series → years < years_of b →
+    12 * years * length series.gauged ≤ length series.amount
 within b series years fits h =
     let shift : 12 * years ≤ b.months = omega arith in
-    let most : 12 * years * length series.gauged ≤ b.months * length series.gauged = mul-le-mul_right (length series.gauged) shift in
+    let most : 12 * years * length series.gauged ≤ b.months * length series.gauged =
+    mul-le-mul_right (length series.gauged) shift in
     omega (arith, fits.amounts)
 
 -- an amount of the part that comes first, and of the part that comes last
 early : (xs : List ℕ) (at k : ℕ) → at + k < length xs → get_or (drop at xs ++ take at xs) k 0 ≡ get_or xs (at + k) 0
 early xs at k l = get_or-append (drop at xs) (take at xs) 0 k (omega (arith, length-drop at xs)) ∙ get_or-drop at xs k 0
 
-late : (xs : List ℕ) (at k : ℕ) → at ≤ length xs → length xs ≤ at + k → k < length xs → get_or (drop at xs ++ take at xs) k 0 ≡ get_or xs (at + k - length xs) 0
+late : (xs : List ℕ) (at k : ℕ) → at ≤ length xs → length xs ≤ at + k → k < length xs →
+    get_or (drop at xs ++ take at xs) k 0 ≡ get_or xs (at + k - length xs) 0
 late xs at k h l u =
     get_or-append_right (drop at xs) (take at xs) (length xs - at) k 0 (length-drop at xs) (omega arith)
     ∙ (get_or-take at xs (k - (length xs - at)) 0 (omega arith)
@@ -35,7 +39,8 @@ late xs at k h l u =
 
 -- row i of a table of n columns, so many rows on, which is counted on from the first row past the last
 row_further : (xs : List ℕ) (rows n shift i column : ℕ) → length xs ≡ rows * n → shift ≤ rows → i < rows → column < n →
-    get_or (drop (shift * n) xs ++ take (shift * n) xs) (i * n + column) 0 ≡ get_or xs ((i + shift) % rows * n + column) 0
+    get_or (drop (shift * n) xs ++ take (shift * n) xs) (i * n + column) 0 ≡ get_or xs ((i + shift) % rows * n + column)
+    0
 row_further xs rows n shift i column count low inside col = elim (cases_lt (i + shift) rows) [
   | inl before ↦
       let most : (i + shift + 1) * n ≤ rows * n = mul-le-mul_right n (omega arith) in
@@ -54,7 +59,8 @@ row_further xs rows n shift i column count low inside col = elim (cases_lt (i + 
       let sum : i + shift ≡ rows + k = omega arith in
       let over : (i + shift) * n ≡ (rows + k) * n = ap (λ r. r * n) sum in
       late xs (shift * n) (i * n + column) (omega (arith, count)) (omega (arith, count)) (omega (arith, count))
-      ∙ (ap (λ j. get_or xs j 0) (let is : shift * n + (i * n + column) - length xs ≡ k * n + column = omega (arith, count) in is)
+      ∙ (ap (λ j. get_or xs j 0) (let is : shift * n + (i * n + column) - length xs ≡ k * n + column =
+      omega (arith, count) in is)
       ∙ ap (λ r. get_or xs (r * n + column) 0) (sym (wraps k sum)))
 ]
   where
@@ -67,16 +73,19 @@ row_further xs rows n shift i column count low inside col = elim (cases_lt (i + 
         ap (λ m. m % rows) sum ∙ (add-mod_left rows k ∙ mod-eq_of_lt less)
 
 -- what is begun later has the amounts of so many years later
-pub begun_is : (b : Basin) (series : Inflows) (years : ℕ) → IsSeriesOf b series → years < years_of b → IsBegunAfter b series years (begun_after series years)
+pub begun_is : (b : Basin) (series : Inflows) (years : ℕ) → IsSeriesOf b series → years < years_of b →
+    IsBegunAfter b series years (begun_after series years)
 begun_is b series years fits h = record {
   gauged = refl;
-  amount = λ i gauge l g. row_further series.amount b.months (length series.gauged) (12 * years) i gauge fits.amounts (omega arith) l g;
+  amount = λ i gauge l g. row_further series.amount b.months (length series.gauged) (12 * years) i gauge fits.amounts
+      (omega arith) l g;
   wanted = refl;
   want = refl;
 }
 
 -- and is a series of the basin
-pub begun_fits : (b : Basin) (series : Inflows) (years : ℕ) → IsSeriesOf b series → years < years_of b → IsSeriesOf b (begun_after series years)
+pub begun_fits : (b : Basin) (series : Inflows) (years : ℕ) → IsSeriesOf b series → years < years_of b →
+    IsSeriesOf b (begun_after series years)
 begun_fits b series years fits h = record {
   gauged = fits.gauged;
   amounts = parted series.amount (12 * years * length series.gauged) ∙ fits.amounts;
@@ -94,21 +103,35 @@ begun_fits b series years fits h = record {
 
 -- the same by the number of gauges
 pub begun_at_is : (series begun : Inflows) (years gauges : ℕ) → gauges ≡ length series.gauged →
-    begun ≡ (record series { amount = drop (12 * years * gauges) series.amount ++ take (12 * years * gauges) series.amount }) → begun ≡ begun_after series years
-begun_at_is series begun years gauges e is = is ∙ ap (λ n. record series { amount = drop (12 * years * n) series.amount ++ take (12 * years * n) series.amount }) e
+    begun ≡ (record series {
+      amount =
+          drop (12 * years * gauges) series.amount ++ take (12 * years * gauges) series.amount;
+    }) →
+    begun ≡ begun_after series years
+begun_at_is series begun years gauges e is =
+    is ∙ ap (λ n. record series { amount = drop (12 * years * n) series.amount ++ take (12 * years * n) series.amount })
+    e
 
 -- gauges are nodes, so the place is small
 filtered : (p : ℕ → Bool) (xs : List ℕ) → length (filter p xs) ≤ length xs
 filtered p [] = omega arith
 filtered p (x ∷ xs) = by_test (p x) (filtered p xs)
   where
-    by_test : (t : Bool) → length (filter p xs) ≤ length xs → length (cond t (x ∷ filter p xs) (filter p xs)) ≤ length (x ∷ xs)
+    by_test : (t : Bool) → length (filter p xs) ≤ length xs →
+        length (cond t (x ∷ filter p xs) (filter p xs)) ≤ length (x ∷ xs)
     by_test true h = omega arith
     by_test false h = omega arith
 
-pub small_place : (b : Basin) (series : Inflows) (years : ℕ) → IsValidBasin b → IsSeriesOf b series → years < years_of b → 12 * years * length series.gauged ≤ 1200 * 2000
+pub small_place : (b : Basin) (series : Inflows) (years : ℕ) → IsValidBasin b → IsSeriesOf b series →
+    years < years_of b → 12 * years * length series.gauged ≤ 1200 * 2000
 small_place b series years valid fits h =
     let gauges : length series.gauged ≤ 2000 =
-    omega (arith, ap length fits.gauged, filtered (λ n. is_gauged b n) (places_of b.nodes), length-numbers_from 0 (length b.nodes), valid.few.nodes) in
+    omega (
+      arith,
+      ap length fits.gauged,
+      filtered (λ n. is_gauged b n) (places_of b.nodes),
+      length-numbers_from 0 (length b.nodes),
+      valid.few.nodes,
+    ) in
     let shift : 12 * years ≤ 1200 = omega (arith, valid.run.months.1) in
     mul-le-mul shift gauges

@@ -1,5 +1,6 @@
 -- What is kept of the traces, in place of their months.
-use Rattle.std.specs.Prelude.{◌≡◌, ℕ, ◌+◌, ◌*◌, ◌<◌, List, [], ◌++◌, drop, map, length, sum_by, slice_index, slice_index_or, slice_get, Some}
+use Rattle.std.specs.Prelude.{◌≡◌, ℕ, ◌+◌, ◌*◌, ◌<◌, List, [], ◌++◌, drop, map, length, sum_by, slice_index}
+use Rattle.std.specs.Prelude.{slice_index_or, slice_get, Some}
 use Rattle.month_fold.specs.Runs.{RunSeen, StandsFor}
 use Rattle.water_model.specs.History.{IsHistory}
 use Rattle.water_model.specs.Places.{numbers_from}
@@ -9,22 +10,27 @@ use Rattle.water_model.specs.declared.types.MonthRecord.{MonthRecord}
 use Rattle.index_seq.specs.Traces.{begun_after, delivered_in_year, yearly_deliveries}
 
 -- by right, what it was delivered in the years of some traces, and in the first years of one more
-pub record AreSums (b : Basin) (traces : List (List MonthRecord)) (records : List MonthRecord) (years : ℕ) (sums : List (List ℕ)) : Type 0 where
+pub record AreSums (b : Basin) (traces : List (List MonthRecord)) (records : List MonthRecord) (years : ℕ)
+    (sums : List (List ℕ)) : Type 0 where
   pub count : length sums ≡ length b.rights
   pub each : (r : ℕ) → r < length b.rights →
-      slice_index_or sums r [] ≡ yearly_deliveries b traces r ++ map (delivered_in_year records r) (numbers_from 0 years)
+      slice_index_or sums r [] ≡ yearly_deliveries b traces r ++ map (delivered_in_year records r)
+      (numbers_from 0 years)
 
 -- by right, what it was delivered since so many years of a trace
 pub record IsYear (b : Basin) (records : List MonthRecord) (years : ℕ) (year : List ℕ) : Type 0 where
   pub count : length year ≡ length b.rights
-  pub each : (r : ℕ) → r < length b.rights → slice_index year r ≡ sum_by (λ m. slice_index m.delivered r) (drop (12 * years) records)
+  pub each : (r : ℕ) → r < length b.rights →
+      slice_index year r ≡ sum_by (λ m. slice_index m.delivered r) (drop (12 * years) records)
 
 -- the first traces of a record
 pub record AreFirst (b : Basin) (series : Inflows) (traces : List (List MonthRecord)) : Type 0 where
-  pub each : (y : ℕ) (records : List MonthRecord) → slice_get traces y ≡ Some records → IsHistory b (begun_after series y) records
+  pub each : (y : ℕ) (records : List MonthRecord) → slice_get traces y ≡ Some records →
+      IsHistory b (begun_after series y) records
 
 -- a trace is under way, after whole years and some months of one more; its number is that of the traces before it
-pub record IsUnderWay (b : Basin) (series : Inflows) (trace years months : ℕ) (run : RunSeen) (all : List (List ℕ)) (so_far : List ℕ) : Type 0 where
+pub record IsUnderWay (b : Basin) (series : Inflows) (trace years months : ℕ) (run : RunSeen) (all : List (List ℕ))
+    (so_far : List ℕ) : Type 0 where
   pub traces : List (List MonthRecord)
   pub number : length traces ≡ trace
   pub first : AreFirst b series traces

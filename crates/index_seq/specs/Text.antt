@@ -21,7 +21,8 @@ right_lines amounts right = line.Right right ∷ yearly_lines (amounts right)
 -- all lines, rights seniors first
 abbrev pub ensemble_lines : Basin → (ℕ → List ℕ) → List Entry
 ensemble_lines b amounts =
-    line.Ensemble b.first (years_of b) ∷ (flat_map (right_lines amounts) (seniors_first b) ++ line.Done (years_of b) ∷ [])
+    line.Ensemble b.first
+    (years_of b) ∷ (flat_map (right_lines amounts) (seniors_first b) ++ line.Done (years_of b) ∷ [])
 
 -- the text of some traces
 abbrev pub ensemble_text : Basin → List (List MonthRecord) → List ℕ

@@ -1,5 +1,6 @@
 -- The traces of a record: the series begun in each of its years, and a history of each.
-use Rattle.std.specs.Prelude.{◌≡◌, ℕ, ◌+◌, ◌*◌, ◌/◌, ◌%◌, ◌<◌, List, ◌++◌, drop, take, map, length, sum_by, slice_index, slice_get, Some}
+use Rattle.std.specs.Prelude.{◌≡◌, ℕ, ◌+◌, ◌*◌, ◌/◌, ◌%◌, ◌<◌, List, ◌++◌, drop, take, map, length, sum_by, slice_index}
+use Rattle.std.specs.Prelude.{slice_get, Some}
 use Rattle.std.specs.List.{flat_map}
 use Rattle.water_model.specs.History.{IsHistory}
 use Rattle.water_model.specs.Places.{numbers_from}
@@ -18,7 +19,8 @@ years_of b = b.months / 12
 abbrev pub begun_after : Inflows → ℕ → Inflows
 begun_after series years =
     record series {
-      amount = drop (12 * years * length series.gauged) series.amount ++ take (12 * years * length series.gauged) series.amount;
+      amount = drop (12 * years * length series.gauged) series.amount ++ take (12 * years * length series.gauged)
+          series.amount;
     }
 
 -- the amount of each gauge in a month is that of so many years later, counted on from the beginning past the end. The
@@ -34,7 +36,8 @@ pub record IsBegunAfter (b : Basin) (series : Inflows) (years : ℕ) (begun : In
 -- one history for each year of the record, of the series begun in that year
 pub record AreTraces (b : Basin) (series : Inflows) (traces : List (List MonthRecord)) : Type 0 where
   pub count : length traces ≡ years_of b
-  pub each : (y : ℕ) (records : List MonthRecord) → slice_get traces y ≡ Some records → IsHistory b (begun_after series y) records
+  pub each : (y : ℕ) (records : List MonthRecord) → slice_get traces y ≡ Some records →
+      IsHistory b (begun_after series y) records
 
 -- what a right is delivered in a year of a trace, which is twelve months, counted from its first
 abbrev pub delivered_in_year : List MonthRecord → ℕ → ℕ → ℕ
@@ -42,4 +45,5 @@ delivered_in_year records right year = sum_by (λ m. slice_index m.delivered rig
 
 -- and in each year of each trace
 abbrev pub yearly_deliveries : Basin → List (List MonthRecord) → ℕ → List ℕ
-yearly_deliveries b traces right = flat_map (λ records. map (delivered_in_year records right) (numbers_from 0 (years_of b))) traces
+yearly_deliveries b traces right =
+    flat_map (λ records. map (delivered_in_year records right) (numbers_from 0 (years_of b))) traces

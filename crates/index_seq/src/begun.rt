@@ -30,7 +30,8 @@ fn turned(alloc: Global, amounts: &[u64], at: usize) -> Result<Rows<u64>, AllocE
 /// The series with the gauges' amounts from a place on, and then those before it.
 fn begun_at(alloc: Global, series: &Inflows, at: usize) -> Result<Inflows, AllocError>
     requires { at ≤ length series.now.amount }
-    ensures { IfOk result (λ begun. begun ≡ (record series.now { amount = drop at series.now.amount ++ take at series.now.amount })) }
+    ensures { IfOk result
+        (λ begun. begun ≡ (record series.now { amount = drop at series.now.amount ++ take at series.now.amount })) }
 {
     Ok(Inflows {
         gauged: copied(alloc, series.gauged.as_slice())?,

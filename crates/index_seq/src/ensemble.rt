@@ -52,11 +52,11 @@ fn sorted_amounts<L: Ledger>(
     Ok(amounts)
 }
 
-/// Runs the record of a basin's gauges once from each of its years, and then puts how often each yearly delivery of each
-/// right came. Nothing is put before all traces are run.
+/// Runs the record of a basin's gauges once from each of its years, and then puts how often each yearly delivery of
+/// each right came. Nothing is put before all traces are run.
 ///
-/// A run and the yearly deliveries of all traces take memory. OutOfMemory comes where that is lacking, and nothing was put
-/// then; SinkFailed comes only where the sink counted a fault, and a front of the text stands.
+/// A run and the yearly deliveries of all traces take memory. OutOfMemory comes where that is lacking, and nothing was
+/// put then; SinkFailed comes only where the sink counted a fault, and a front of the text stands.
 pub fn ensemble_report<K: Sink, L: Ledger>(
     alloc: Global,
     basin: &Basin,

@@ -114,7 +114,8 @@ fn run_years<L: Ledger>(
     requires whole { HasWholeYears basin.now }
     requires first { run.old.done ≡ 0 }
     requires under_way { IsUnderWay basin.now series.now trace 0 0 run.old sums.old year.old }
-    ensures under_way { OnOk result (IsUnderWay basin.now series.now trace (years_of basin.now) 0 run.new sums.new year.new) }
+    ensures under_way { OnOk result
+        (IsUnderWay basin.now series.now trace (years_of basin.now) 0 run.new sums.new year.new) }
     ensures pushes { searches.new ≤ searches.old + run_pushes basin.now }
 {
     let count = basin.months / 12;

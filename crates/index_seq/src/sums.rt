@@ -1,5 +1,6 @@
 //! The sums that are kept of the traces.
-ghost use Rattle.std.specs.Prelude.{ℕ, ◌≡◌, ◌+◌, ◌<◌, ◌^◌, ◌++◌, ◌∷◌, [], All, length, slice_index, slice_index_or, IfOk, OnOk};
+ghost use Rattle.std.specs.Prelude.{ℕ, ◌≡◌, ◌+◌, ◌<◌, ◌^◌, ◌++◌, ◌∷◌, [], All, length, slice_index, slice_index_or};
+ghost use Rattle.std.specs.Prelude.{IfOk, OnOk};
 ghost use Rattle.std.specs.List.Sorted.{IsNonDecreasingBy, IsPermutation};
 
 use std::alloc::{AllocError, Global};
@@ -40,9 +41,11 @@ pub fn empty_sums(alloc: Global, count: usize, room: usize) -> Result<Rows<Rows<
 /// Adds what each right was delivered in a month to what it was delivered in the year so far.
 pub fn add_month(year: &mut [u64], month: &MonthRecord)
     requires count { length year.old ≡ length month.now.delivered }
-    requires room { (r : ℕ) → r < length year.old → slice_index year.old r + slice_index month.now.delivered r < 2 ^ 64 }
+    requires room { (r : ℕ) → r < length year.old →
+        slice_index year.old r + slice_index month.now.delivered r < 2 ^ 64 }
     ensures count { length year.new ≡ length year.old }
-    ensures each { (r : ℕ) → r < length year.old → slice_index year.new r ≡ slice_index year.old r + slice_index month.now.delivered r }
+    ensures each { (r : ℕ) → r < length year.old →
+        slice_index year.new r ≡ slice_index year.old r + slice_index month.now.delivered r }
 {
     for right in 0..year.len() {
         year[right] += month.delivered[right];
@@ -60,7 +63,8 @@ fn add_amount(amounts: &mut Rows<u64>, amount: u64) -> Result<(), AllocError>
 pub fn add_year(sums: &mut [Rows<u64>], year: &[u64]) -> Result<(), AllocError>
     requires count { length sums.old ≡ length year.now }
     ensures count { length sums.new ≡ length sums.old }
-    ensures each { OnOk result ((r : ℕ) → r < length sums.old → slice_index_or sums.new r [] ≡ slice_index_or sums.old r [] ++ slice_index year.now r ∷ []) }
+    ensures each { OnOk result ((r : ℕ) → r < length sums.old →
+        slice_index_or sums.new r [] ≡ slice_index_or sums.old r [] ++ slice_index year.now r ∷ []) }
 {
     for right in 0..sums.len() {
         add_amount(&mut sums[right], year[right])?;
@@ -80,7 +84,8 @@ fn clear_year(year: &mut [u64])
 pub fn end_year(sums: &mut [Rows<u64>], year: &mut [u64]) -> Result<(), AllocError>
     requires count { length sums.old ≡ length year.old }
     ensures count { length sums.new ≡ length sums.old }
-    ensures each { OnOk result ((r : ℕ) → r < length sums.old → slice_index_or sums.new r [] ≡ slice_index_or sums.old r [] ++ slice_index year.old r ∷ []) }
+    ensures each { OnOk result ((r : ℕ) → r < length sums.old →
+        slice_index_or sums.new r [] ≡ slice_index_or sums.old r [] ++ slice_index year.old r ∷ []) }
     ensures begun { length year.new ≡ length year.old }
     ensures zeros { OnOk result ((r : ℕ) → r < length year.old → slice_index year.new r ≡ 0) }
 {
@@ -111,7 +116,8 @@ fn sort_amounts(alloc: Global, amounts: &mut Rows<u64>) -> Result<(), AllocError
 /// Puts the amounts of each right in order. AllocError comes where memory is lacking.
 pub fn sort_sums(alloc: Global, sums: &mut [Rows<u64>]) -> Result<(), AllocError>
     ensures count { length sums.new ≡ length sums.old }
-    ensures permutation { OnOk result ((r : ℕ) → IsPermutation (slice_index_or sums.old r []) (slice_index_or sums.new r [])) }
+    ensures permutation { OnOk result ((r : ℕ) →
+        IsPermutation (slice_index_or sums.old r []) (slice_index_or sums.new r [])) }
     ensures sorted { OnOk result ((r : ℕ) → IsNonDecreasingBy (λ x. x) (slice_index_or sums.new r [])) }
 {
     for right in 0..sums.len() {

@@ -1,5 +1,6 @@
 //! The text of an ensemble, one `put` for each line.
-ghost use Rattle.std.specs.Prelude.{ℕ, ◌≡◌, ◌<◌, ◌≤◌, ◌∷◌, [], drop, length, slice_index, slice_index_or, slice_get, Some, ◌==◌, IsErr};
+ghost use Rattle.std.specs.Prelude.{ℕ, ◌≡◌, ◌<◌, ◌≤◌, ◌∷◌, [], drop, length, slice_index, slice_index_or, slice_get};
+ghost use Rattle.std.specs.Prelude.{Some, ◌==◌, IsErr};
 ghost use Rattle.std.specs.List.{flat_map, prefix_len};
 ghost use Rattle.std.specs.List.Sorted.{IsNonDecreasingBy};
 ghost use Rattle.water_edge.specs.Edge.{HasCause, Puts};
@@ -113,7 +114,8 @@ fn put_rights<K: Sink>(
     requires count { length amounts.now ≡ length basin.now.rights }
     requires sorted { (r : ℕ) → IsNonDecreasingBy (λ x. x) (slice_index_or amounts.now r []) }
     ensures text { Puts (K.taken sink.old) (K.taken sink.new) result
-        (flat_map (whole_line basin.now) (flat_map (right_lines (λ r. slice_index_or amounts.now r [])) (seniors_first basin.now))) }
+        (flat_map (whole_line basin.now)
+        (flat_map (right_lines (λ r. slice_index_or amounts.now r [])) (seniors_first basin.now))) }
     ensures cause { HasCause (K.faults sink.old) (K.faults sink.new) (IsErr result) }
 {
     let order = roll.by_seniority();

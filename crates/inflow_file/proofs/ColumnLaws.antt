@@ -1,5 +1,7 @@
 -- The places of columns, and which of them are gauges and wants.
-use Rattle.std.proofs.Common.{◌≡◌, ℕ, zero, suc, ◌+◌, ◌-◌, ◌<◌, ◌≤◌, Bool, true, false, refl, sym, ap, ◌∙◌, arith, List, [], ◌∷◌, ◌++◌, length, get_or, slice_index, filter, if◌then◌else◌, inl, inr, add-one, zero-add}
+use Rattle.std.proofs.Common.{◌≡◌, ℕ, zero, suc, ◌+◌, ◌-◌, ◌<◌, ◌≤◌, Bool, true, false, refl, sym, ap, ◌∙◌, arith, List}
+use Rattle.std.proofs.Common.{[], ◌∷◌, ◌++◌, length, get_or, slice_index, filter, if◌then◌else◌, inl, inr, add-one}
+use Rattle.std.proofs.Common.{zero-add}
 use Rattle.std.specs.Prelude.{◌==◌, nat_lt}
 use Rattle.std.proofs.lemmas.Bool.{cases_lt}
 use Rattle.std.proofs.lemmas.Bool.Decides.{nat_tests}
@@ -23,15 +25,19 @@ numbers_more from (suc count) =
 abbrev pub passed_below : (ℕ → Bool) → ℕ → ℕ
 passed_below p n = length (filter p (numbers_from 0 n))
 
-pub filter_next : (p : ℕ → Bool) (n : ℕ) → filter p (numbers_from 0 (n + 1)) ≡ filter p (numbers_from 0 n) ++ (if p n then n ∷ [] else [])
-filter_next p n = rw add-one (ap (filter p) (numbers_more 0 n) ∙ (filter-append p (numbers_from 0 n) ((0 + n) ∷ []) ∙ rw zero-add refl))
+pub filter_next : (p : ℕ → Bool) (n : ℕ) →
+    filter p (numbers_from 0 (n + 1)) ≡ filter p (numbers_from 0 n) ++ (if p n then n ∷ [] else [])
+filter_next p n =
+    rw add-one
+    (ap (filter p) (numbers_more 0 n) ∙ (filter-append p (numbers_from 0 n) ((0 + n) ∷ []) ∙ rw zero-add refl))
 
 pub passed_most : (p : ℕ → Bool) (n : ℕ) → passed_below p n ≤ n
 unfolding numbers_from
 passed_most p zero = omega arith
 passed_most p (suc n) =
     let next : passed_below p (suc n) ≡ passed_below p n + length (if p n then n ∷ [] else []) =
-    rw add-one at (ap length (filter_next p n) ∙ length-append (filter p (numbers_from 0 n)) (if p n then n ∷ [] else [])) in
+    rw add-one at
+    (ap length (filter_next p n) ∙ length-append (filter p (numbers_from 0 n)) (if p n then n ∷ [] else [])) in
     rw next (by_test (p n) (passed_most p n))
   where
     by_test : (t : Bool) → passed_below p n ≤ n → passed_below p n + length (if t then n ∷ [] else []) ≤ suc n
@@ -57,8 +63,10 @@ place_from p from (suc count) zero x l e h =
 place_from p from (suc count) (suc k) x l e h =
     by_test (p from) (other_test from x (omega arith)) (place_from p (suc from) count k x (omega arith) (omega arith) h)
   where
-    by_test : (t : Bool) → from == x ≡ false → place_in (filter p (numbers_from (suc from) count)) x ≡ length (filter p (numbers_from (suc from) k)) →
-        place_in (if t then from ∷ filter p (numbers_from (suc from) count) else filter p (numbers_from (suc from) count)) x
+    by_test : (t : Bool) → from == x ≡ false →
+        place_in (filter p (numbers_from (suc from) count)) x ≡ length (filter p (numbers_from (suc from) k)) →
+        place_in (if t then from ∷ filter p (numbers_from (suc from) count) else filter p
+        (numbers_from (suc from) count)) x
         ≡ length (if t then from ∷ filter p (numbers_from (suc from) k) else filter p (numbers_from (suc from) k))
     by_test true f h = rw f (omega arith)
     by_test false f h = h
@@ -75,28 +83,42 @@ place_holds p from (suc count) zero x l e h =
     let here : from == x ≡ true = same_test from x same in
     rw (passes, here) (omega arith, same)
 place_holds p from (suc count) (suc k) x l e h =
-    by_test (p from) (other_test from x (omega arith)) (place_holds p (suc from) count k x (omega arith) (omega arith) h)
+    by_test (p from) (other_test from x (omega arith))
+    (place_holds p (suc from) count k x (omega arith) (omega arith) h)
   where
     by_test : (t : Bool) → from == x ≡ false →
         (place_in (filter p (numbers_from (suc from) count)) x < length (filter p (numbers_from (suc from) count)))
-        × (get_or (filter p (numbers_from (suc from) count)) (place_in (filter p (numbers_from (suc from) count)) x) 0 ≡ x) →
-        (place_in (if t then from ∷ filter p (numbers_from (suc from) count) else filter p (numbers_from (suc from) count)) x
-        < length (if t then from ∷ filter p (numbers_from (suc from) count) else filter p (numbers_from (suc from) count)))
-        × (get_or (if t then from ∷ filter p (numbers_from (suc from) count) else filter p (numbers_from (suc from) count))
-        (place_in (if t then from ∷ filter p (numbers_from (suc from) count) else filter p (numbers_from (suc from) count)) x) 0 ≡ x)
+        × (get_or (filter p (numbers_from (suc from) count)) (place_in (filter p (numbers_from (suc from) count)) x)
+        0 ≡ x) →
+        (place_in
+        (if t then from ∷ filter p (numbers_from (suc from) count) else filter p (numbers_from (suc from) count)) x
+        < length (if t then from ∷ filter p (numbers_from (suc from) count) else filter p
+        (numbers_from (suc from) count)))
+        × (get_or
+        (if t then from ∷ filter p (numbers_from (suc from) count) else filter p (numbers_from (suc from) count))
+        (place_in
+        (if t then from ∷ filter p (numbers_from (suc from) count) else filter p (numbers_from (suc from) count)) x)
+        0 ≡ x)
     by_test true f h =
-        let next : 1 + place_in (filter p (numbers_from (suc from) count)) x ≡ suc (place_in (filter p (numbers_from (suc from) count)) x) = omega arith in
+        let next : 1 + place_in (filter p (numbers_from (suc from) count)) x ≡ suc
+        (place_in (filter p (numbers_from (suc from) count)) x) = omega arith in
         rw (f, next) (omega (arith, h.0), h.1)
     by_test false f h = h
 
-passing_from : (p : ℕ → Bool) (from count g : ℕ) → g < length (filter p (numbers_from from count)) → from ≤ get_or (filter p (numbers_from from count)) g 0
+passing_from : (p : ℕ → Bool) (from count g : ℕ) → g < length (filter p (numbers_from from count)) →
+    from ≤ get_or (filter p (numbers_from from count)) g 0
 unfolding numbers_from
 passing_from p from zero g l = absurd (omega arith)
 passing_from p from (suc count) g l = by_test (p from) g l (passing_from p (suc from) count)
   where
-    by_test : (t : Bool) (g : ℕ) → g < length (if t then from ∷ filter p (numbers_from (suc from) count) else filter p (numbers_from (suc from) count)) →
-        ((k : ℕ) → k < length (filter p (numbers_from (suc from) count)) → suc from ≤ get_or (filter p (numbers_from (suc from) count)) k 0) →
-        from ≤ get_or (if t then from ∷ filter p (numbers_from (suc from) count) else filter p (numbers_from (suc from) count)) g 0
+    by_test : (t : Bool) (g : ℕ) →
+        g < length
+        (if t then from ∷ filter p (numbers_from (suc from) count) else filter p (numbers_from (suc from) count)) →
+        ((k : ℕ) → k < length (filter p (numbers_from (suc from) count)) →
+        suc from ≤ get_or (filter p (numbers_from (suc from) count)) k 0) →
+        from ≤ get_or
+        (if t then from ∷ filter p (numbers_from (suc from) count) else filter p (numbers_from (suc from) count)) g
+        0
     by_test true zero l further = omega arith
     by_test true (suc g) l further = let h = further g (omega arith) in omega (arith, h)
     by_test false g l further = let h = further g l in omega (arith, h)
@@ -106,20 +128,30 @@ pub place_of_passing : (p : ℕ → Bool) (from count g : ℕ) → g < length (f
     place_in (filter p (numbers_from from count)) (get_or (filter p (numbers_from from count)) g 0) ≡ g
 unfolding numbers_from
 place_of_passing p from zero g l = absurd (omega arith)
-place_of_passing p from (suc count) g l = by_test (p from) g l (place_of_passing p (suc from) count) (passing_from p (suc from) count)
+place_of_passing p from (suc count) g l =
+    by_test (p from) g l (place_of_passing p (suc from) count) (passing_from p (suc from) count)
   where
-    by_test : (t : Bool) (g : ℕ) → g < length (if t then from ∷ filter p (numbers_from (suc from) count) else filter p (numbers_from (suc from) count)) →
-        ((k : ℕ) → k < length (filter p (numbers_from (suc from) count)) → place_in (filter p (numbers_from (suc from) count)) (get_or (filter p (numbers_from (suc from) count)) k 0) ≡ k) →
-        ((k : ℕ) → k < length (filter p (numbers_from (suc from) count)) → suc from ≤ get_or (filter p (numbers_from (suc from) count)) k 0) →
-        place_in (if t then from ∷ filter p (numbers_from (suc from) count) else filter p (numbers_from (suc from) count))
-        (get_or (if t then from ∷ filter p (numbers_from (suc from) count) else filter p (numbers_from (suc from) count)) g 0) ≡ g
+    by_test : (t : Bool) (g : ℕ) →
+        g < length
+        (if t then from ∷ filter p (numbers_from (suc from) count) else filter p (numbers_from (suc from) count)) →
+        ((k : ℕ) → k < length (filter p (numbers_from (suc from) count)) →
+        place_in (filter p (numbers_from (suc from) count))
+        (get_or (filter p (numbers_from (suc from) count)) k 0) ≡ k) →
+        ((k : ℕ) → k < length (filter p (numbers_from (suc from) count)) →
+        suc from ≤ get_or (filter p (numbers_from (suc from) count)) k 0) →
+        place_in (if t then from ∷ filter p (numbers_from (suc from) count) else filter p
+        (numbers_from (suc from) count))
+        (get_or (if t then from ∷ filter p (numbers_from (suc from) count) else filter p
+        (numbers_from (suc from) count)) g 0) ≡ g
     by_test true zero l further least = rw (same_test from from refl) refl
     by_test true (suc g) l further least =
         let h = least g (omega arith) in
-        rw (other_test from (get_or (filter p (numbers_from (suc from) count)) g 0) h, further g (omega arith)) (omega arith)
+        rw (other_test from (get_or (filter p (numbers_from (suc from) count)) g 0) h, further g (omega arith))
+        (omega arith)
     by_test false g l further least = further g l
 
-pub place_passed : (p : ℕ → Bool) (count x : ℕ) → x < count → p x ≡ true → place_in (filter p (numbers_from 0 count)) x ≡ passed_below p x
+pub place_passed : (p : ℕ → Bool) (count x : ℕ) → x < count → p x ≡ true →
+    place_in (filter p (numbers_from 0 count)) x ≡ passed_below p x
 place_passed p count x l h = place_from p 0 count x x l (omega arith) h
 
 pub none_below : (p : ℕ → Bool) → filter p (numbers_from 0 0) ≡ []
@@ -127,18 +159,22 @@ unfolding numbers_from
 none_below p = refl
 
 -- the places of one more number
-pub place_added : (p : ℕ → Bool) (places : List ℕ) (passing : List ℕ) (n k : ℕ) → length places ≡ n → passing ≡ filter p (numbers_from 0 n) →
-    ((m : ℕ) → m < n → slice_index places m ≡ passed_below p m) → k < n + 1 → slice_index (places ++ length passing ∷ []) k ≡ passed_below p k
+pub place_added : (p : ℕ → Bool) (places : List ℕ) (passing : List ℕ) (n k : ℕ) → length places ≡ n →
+    passing ≡ filter p (numbers_from 0 n) →
+    ((m : ℕ) → m < n → slice_index places m ≡ passed_below p m) → k < n + 1 →
+    slice_index (places ++ length passing ∷ []) k ≡ passed_below p k
 place_added p places passing n k count is each l =
     elim (cases_lt k n) [
       | inl below ↦ get_or_append_left places (length passing ∷ []) 0 k (omega arith) ∙ each k below
-      | inr past ↦ let same : k ≡ n = omega arith in rw same (get_or_push places (length passing) 0 n count ∙ ap length is)
+      | inr past ↦ let same : k ≡ n = omega arith in
+          rw same (get_or_push places (length passing) 0 n count ∙ ap length is)
     ]
 
 -- Gauges come first among the columns, and wants behind them.
 
 pub gauge_column : (b : Basin) (node : ℕ) → node < length b.nodes → is_column b node ≡ is_gauged b node
-gauge_column b node l = let below : nat_lt node (length b.nodes) ≡ true = is_below node (length b.nodes) l in rw below refl
+gauge_column b node l = let below : nat_lt node (length b.nodes) ≡ true = is_below node (length b.nodes) l in
+    rw below refl
   where
     is_below : (m n : ℕ) → m < n → nat_lt m n ≡ true
     is_below m n h = grind (arith, nat_tests)
@@ -155,7 +191,8 @@ want_column b right =
 pub is_gauge : (b : Basin) (node : ℕ) → node < length b.nodes → is_gauged b node ≡ true → IsColumn b node
 is_gauge b node l h = record { within = omega arith; due = gauge_column b node l ∙ h }
 
-pub is_want : (b : Basin) (right : ℕ) → right < length b.rights → is_in_series b right ≡ true → IsColumn b (right_number b right)
+pub is_want : (b : Basin) (right : ℕ) → right < length b.rights → is_in_series b right ≡ true →
+    IsColumn b (right_number b right)
 is_want b right l h = record { within = omega arith; due = want_column b right ∙ h }
 
 -- tests that agree pass the same numbers
@@ -164,7 +201,8 @@ same_passed : (p q : ℕ → Bool) (from count : ℕ) → ((k : ℕ) → k < fro
 unfolding numbers_from
 same_passed p q from zero h = refl
 same_passed p q from (suc count) h =
-    ap (λ t. if t then from ∷ filter p (numbers_from (suc from) count) else filter p (numbers_from (suc from) count)) (h from (omega arith))
+    ap (λ t. if t then from ∷ filter p (numbers_from (suc from) count) else filter p (numbers_from (suc from) count))
+    (h from (omega arith))
     ∙ ap (λ ns. if q from then from ∷ ns else ns) (same_passed p q (suc from) count (λ k l. h k (omega arith)))
 
 -- as many pass a test that is moved on
@@ -174,9 +212,12 @@ unfolding numbers_from
 moved_on p q n from zero h = refl
 moved_on p q n from (suc count) h =
     let next : suc (n + from) ≡ n + suc from = omega arith in
-    by_test (p (n + from)) (q from) (filter p (numbers_from (suc (n + from)) count)) (filter q (numbers_from (suc from) count)) (h from) (ap (λ k. length (filter p (numbers_from k count))) next ∙ moved_on p q n (suc from) count h)
+    by_test (p (n + from)) (q from) (filter p (numbers_from (suc (n + from)) count))
+    (filter q (numbers_from (suc from) count)) (h from) (ap (λ k. length (filter p (numbers_from k count))) next
+    ∙ moved_on p q n (suc from) count h)
   where
-    by_test : (s t : Bool) (xs ys : List ℕ) → s ≡ t → length xs ≡ length ys → length (if s then (n + from) ∷ xs else xs) ≡ length (if t then from ∷ ys else ys)
+    by_test : (s t : Bool) (xs ys : List ℕ) → s ≡ t → length xs ≡ length ys →
+        length (if s then (n + from) ∷ xs else xs) ≡ length (if t then from ∷ ys else ys)
     by_test true true xs ys e f = ap suc f
     by_test false false xs ys e f = f
     by_test true false xs ys e f = cc
@@ -184,11 +225,13 @@ moved_on p q n from (suc count) h =
 
 numbers_parted : (from a c : ℕ) → numbers_from from (a + c) ≡ numbers_from from a ++ numbers_from (from + a) c
 unfolding numbers_from
-numbers_parted from zero c = let start : from ≡ from + zero = omega arith in rw zero-add (ap (λ k. numbers_from k c) start)
+numbers_parted from zero c = let start : from ≡ from + zero = omega arith in
+    rw zero-add (ap (λ k. numbers_from k c) start)
 numbers_parted from (suc a) c =
     let more : suc a + c ≡ suc (a + c) = omega arith in
     let on : suc from + a ≡ from + suc a = omega arith in
-    rw more (ap (λ ns. from ∷ ns) (numbers_parted (suc from) a c ∙ ap (λ k. numbers_from (suc from) a ++ numbers_from k c) on))
+    rw more (ap (λ ns. from ∷ ns)
+    (numbers_parted (suc from) a c ∙ ap (λ k. numbers_from (suc from) a ++ numbers_from k c) on))
 
 -- the columns below the number of a right: all gauges, and the wants before it
 below_right : (b : Basin) (right : ℕ) →
@@ -196,14 +239,20 @@ below_right : (b : Basin) (right : ℕ) →
     ≡ length (gauged_nodes b) + length (filter (λ r. is_in_series b r) (numbers_from 0 right))
 below_right b right =
     let parted : filter (λ n. is_column b n) (numbers_from 0 (length b.nodes + right))
-    ≡ filter (λ n. is_column b n) (numbers_from 0 (length b.nodes)) ++ filter (λ n. is_column b n) (numbers_from (length b.nodes + 0) right) =
-    ap (filter (λ n. is_column b n)) (numbers_parted 0 (length b.nodes) right ∙ ap (λ k. numbers_from 0 (length b.nodes) ++ numbers_from k right) start)
+    ≡ filter (λ n. is_column b n) (numbers_from 0 (length b.nodes)) ++ filter (λ n. is_column b n)
+    (numbers_from (length b.nodes + 0) right) =
+    ap (filter (λ n. is_column b n))
+    (numbers_parted 0 (length b.nodes) right
+    ∙ ap (λ k. numbers_from 0 (length b.nodes) ++ numbers_from k right) start)
     ∙ filter-append (λ n. is_column b n) (numbers_from 0 (length b.nodes)) (numbers_from (length b.nodes + 0) right) in
     omega (
       arith,
       ap length parted,
-      length-append (filter (λ n. is_column b n) (numbers_from 0 (length b.nodes))) (filter (λ n. is_column b n) (numbers_from (length b.nodes + 0) right)),
-      ap length (same_passed (λ n. is_column b n) (λ n. is_gauged b n) 0 (length b.nodes) (λ k l. gauge_column b k (omega arith))),
+      length-append (filter (λ n. is_column b n) (numbers_from 0 (length b.nodes)))
+          (filter (λ n. is_column b n) (numbers_from (length b.nodes + 0) right)),
+      ap length
+          (same_passed (λ n. is_column b n) (λ n. is_gauged b n) 0 (length b.nodes)
+          (λ k l. gauge_column b k (omega arith))),
       moved_on (λ n. is_column b n) (λ r. is_in_series b r) (length b.nodes) 0 right (λ k. want_column b k),
     )
   where
@@ -214,7 +263,8 @@ pub count_of_columns : (b : Basin) → length (column_numbers b) ≡ length (gau
 count_of_columns b = below_right b (length b.rights)
 
 -- a gauge has its place among the gauges, and a right its place among the wants, behind all gauges
-pub place_of_gauge : (b : Basin) (node : ℕ) → node < length b.nodes → is_gauged b node ≡ true → place_in (column_numbers b) node ≡ place_in (gauged_nodes b) node
+pub place_of_gauge : (b : Basin) (node : ℕ) → node < length b.nodes → is_gauged b node ≡ true →
+    place_in (column_numbers b) node ≡ place_in (gauged_nodes b) node
 place_of_gauge b node l h =
     place_passed (λ n. is_column b n) (count_of_both b) node (omega arith) (gauge_column b node l ∙ h)
     ∙ (ap length (same_passed (λ n. is_column b n) (λ n. is_gauged b n) 0 node (λ k m. gauge_column b k (omega arith)))
@@ -224,4 +274,6 @@ pub place_of_want : (b : Basin) (right : ℕ) → right < length b.rights → is
     place_in (column_numbers b) (right_number b right) ≡ length (gauged_nodes b) + place_in (rights_in_series b) right
 place_of_want b right l h =
     place_passed (λ n. is_column b n) (count_of_both b) (right_number b right) (omega arith) (want_column b right ∙ h)
-    ∙ (below_right b right ∙ ap (λ k. length (gauged_nodes b) + k) (sym (place_passed (λ r. is_in_series b r) (length b.rights) right l h)))
+    ∙ (below_right b right
+    ∙ ap (λ k. length (gauged_nodes b) + k)
+    (sym (place_passed (λ r. is_in_series b r) (length b.rights) right l h)))

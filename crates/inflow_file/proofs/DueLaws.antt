@@ -1,10 +1,13 @@
 -- What is due, and the amounts that are given for it.
-use Rattle.std.proofs.Common.{◌≡◌, ◌≢◌, ◌⊎◌, ℕ, zero, suc, ◌+◌, ◌*◌, ◌/◌, ◌%◌, ◌<◌, ◌≤◌, Bool, true, false, refl, sym, ap, ◌∙◌, arith, List, [], ◌∷◌, ◌++◌, length, get_or, set, map, replicate, inl, inr, Option, Some, None, if◌then◌else◌, is_some, option_map}
+use Rattle.std.proofs.Common.{◌≡◌, ◌≢◌, ◌⊎◌, ℕ, zero, suc, ◌+◌, ◌*◌, ◌/◌, ◌%◌, ◌<◌, ◌≤◌, Bool, true, false, refl, sym}
+use Rattle.std.proofs.Common.{ap, ◌∙◌, arith, List, [], ◌∷◌, ◌++◌, length, get_or, set, map, replicate, inl, inr}
+use Rattle.std.proofs.Common.{Option, Some, None, if◌then◌else◌, is_some, option_map}
 use Rattle.std.specs.Prelude.{◌==◌, ◌&&◌}
 use Rattle.std.specs.List.{find, flat_map}
 use Rattle.std.specs.Option.{option_or}
 use Rattle.std.proofs.lemmas.Bool.{cases_Bool, cases_eq, false≢true}
-use Rattle.std.proofs.lemmas.List.{ext_get_or, length-map, length-append, length-set, get_or_append_left, get_or-append-add, get_or-map, get_or-set_same, get_or-set_other}
+use Rattle.std.proofs.lemmas.List.{ext_get_or, length-map, length-append, length-set, get_or_append_left}
+use Rattle.std.proofs.lemmas.List.{get_or-append-add, get_or-map, get_or-set_same, get_or-set_other}
 use Rattle.std.proofs.lemmas.Nat.{div-add-mod', div_below, mod_below, mul-le}
 use Rattle.water_text.specs.Months.{IsMonth}
 use Rattle.water_text.specs.declared.month.Month.{Month}
@@ -18,7 +21,8 @@ use Rattle.inflow_file.specs.Given.{given}
 use Rattle.inflow_file.specs.SeriesFaults.{amount_for, due, is_same_month, months_of, repeats, is_in_run}
 use Rattle.inflow_file.specs.declared.entry.Entry.{Entry}
 use Rattle.inflow_file.proofs.ColumnLaws.{passed_most, place_holds, place_of_passing}
-use Rattle.inflow_file.proofs.RunLaws.{both, same_number, same_itself, length-months, month_there, month_in_run, same_index, same_month_is, same_month_itself}
+use Rattle.inflow_file.proofs.RunLaws.{both, same_number, same_itself, length-months, month_there, month_in_run}
+use Rattle.inflow_file.proofs.RunLaws.{same_index, same_month_is, same_month_itself}
 
 or_none : {X : Type 0} (r : Option X) → option_or r None ≡ r
 or_none None = refl
@@ -35,7 +39,8 @@ length-row : (nodes : List ℕ) (m : Month) → length (row_of nodes m) ≡ leng
 length-row [] m = refl
 length-row (n ∷ nodes) m = ap suc (length-row nodes m)
 
-row_at : (nodes : List ℕ) (m other : Month) (g n : ℕ) → g < length nodes → get_or (row_of nodes m) g (other, n) ≡ (m, get_or nodes g n)
+row_at : (nodes : List ℕ) (m other : Month) (g n : ℕ) → g < length nodes →
+    get_or (row_of nodes m) g (other, n) ≡ (m, get_or nodes g n)
 row_at [] m other g n l = absurd (omega arith)
 row_at (x ∷ nodes) m other zero n l = refl
 row_at (x ∷ nodes) m other (suc g) n l = row_at nodes m other g n (omega arith)
@@ -104,7 +109,12 @@ pub record IsSplit (b : Basin) (k : ℕ) : Type 0 where
 pub split : (b : Basin) (k : ℕ) → k < b.months * width b → IsSplit b k
 split b k l =
     let some : 0 < width b = some_gauge b.months (width b) l in
-    record { row = div_below k (width b) b.months some l; gauge = mod_below k (width b) some; place = div-add-mod' k (width b) }
+    record {
+      row = div_below k (width b) b.months some l;
+      gauge = mod_below k (width b) some;
+      place =
+          div-add-mod' k (width b);
+    }
   where
     some_gauge : (m g : ℕ) → k < m * g → 0 < g
     some_gauge m zero h = absurd (omega arith)
@@ -127,50 +137,65 @@ abbrev is_for : Month → ℕ → Entry → Bool
 is_for month node e = is_same_month month e.month && e.column == node
 
 pub one_entry_more : (entries : List Entry) (e : Entry) (month : Month) (node : ℕ) →
-    amount_for (entries ++ e ∷ []) month node ≡ option_or (amount_for entries month node) (if is_for month node e then Some e.amount else None)
+    amount_for (entries ++ e ∷ []) month node ≡ option_or (amount_for entries month node)
+    (if is_for month node e then Some e.amount else None)
 one_entry_more [] e month node = by_test (is_for month node e)
   where
-    by_test : (t : Bool) → option_map (λ (x : Entry). x.amount) (if t then Some e else None) ≡ (if t then Some e.amount else None)
+    by_test : (t : Bool) →
+        option_map (λ (x : Entry). x.amount) (if t then Some e else None) ≡ (if t then Some e.amount else None)
     by_test true = refl
     by_test false = refl
 one_entry_more (x ∷ entries) e month node = by_test (is_for month node x) (one_entry_more entries e month node)
   where
-    by_test : (t : Bool) → amount_for (entries ++ e ∷ []) month node ≡ option_or (amount_for entries month node) (if is_for month node e then Some e.amount else None) →
+    by_test : (t : Bool) →
+        amount_for (entries ++ e ∷ []) month node ≡ option_or (amount_for entries month node)
+        (if is_for month node e then Some e.amount else None) →
         option_map (λ (y : Entry). y.amount) (if t then Some x else find (is_for month node) (entries ++ e ∷ []))
-        ≡ option_or (option_map (λ (y : Entry). y.amount) (if t then Some x else find (is_for month node) entries)) (if is_for month node e then Some e.amount else None)
+        ≡ option_or (option_map (λ (y : Entry). y.amount) (if t then Some x else find (is_for month node) entries))
+        (if is_for month node e then Some e.amount else None)
     by_test true h = refl
     by_test false h = h
 
 -- each column has its own place
-pub own_gauge : (b : Basin) (g node : ℕ) → g < width b → get_or (column_numbers b) g 0 ≡ node → place_in (column_numbers b) node ≡ g
-own_gauge b g node l e = ap (place_in (column_numbers b)) (sym e) ∙ place_of_passing (λ n. is_column b n) 0 (count_of_both b) g l
+pub own_gauge : (b : Basin) (g node : ℕ) → g < width b → get_or (column_numbers b) g 0 ≡ node →
+    place_in (column_numbers b) node ≡ g
+own_gauge b g node l e =
+    ap (place_in (column_numbers b)) (sym e) ∙ place_of_passing (λ n. is_column b n) 0 (count_of_both b) g l
 
 abbrev pub place_for : Basin → ℕ → ℕ → ℕ
 place_for b i node = i * width b + place_in (column_numbers b) node
 
 -- an entry that is for a place of the table has this place
-same_place : (b : Basin) (e : Entry) (i k g : ℕ) → IsMonth b.first → k < b.months → g < width b → e.month ≡ run_month b i →
+same_place : (b : Basin) (e : Entry) (i k g : ℕ) → IsMonth b.first → k < b.months → g < width b →
+    e.month ≡ run_month b i →
     is_for (run_month b k) (get_or (column_numbers b) g 0) e ≡ true → k * width b + g ≡ place_for b i e.column
 same_place b e i k g first l m month h =
     let tests = both (is_same_month (run_month b k) e.month) (e.column == get_or (column_numbers b) g 0) h in
     let index : k ≡ i = same_index b k i first (same_month_is (run_month b k) e.month tests.0 ∙ month) in
-    let gauge : place_in (column_numbers b) e.column ≡ g = own_gauge b g e.column m (sym (same_number e.column (get_or (column_numbers b) g 0) tests.1)) in
+    let gauge : place_in (column_numbers b) e.column ≡ g =
+    own_gauge b g e.column m (sym (same_number e.column (get_or (column_numbers b) g 0) tests.1)) in
     rw (index, gauge) refl
 
 -- an entry for a month of the run adds its amount, where there was none
-added_here : (b : Basin) (earlier : List Entry) (e : Entry) (i : ℕ) → IsEntry b e → i < b.months → e.month ≡ run_month b i →
-    amount_for earlier (run_month b i) e.column ≡ None → get_or (given b (earlier ++ e ∷ [])) (place_for b i e.column) None ≡ Some e.amount
+added_here : (b : Basin) (earlier : List Entry) (e : Entry) (i : ℕ) → IsEntry b e → i < b.months →
+    e.month ≡ run_month b i →
+    amount_for earlier (run_month b i) e.column ≡ None →
+    get_or (given b (earlier ++ e ∷ [])) (place_for b i e.column) None ≡ Some e.amount
 added_here b earlier e i entry l month absent =
     let there = column_there b e.column entry.column in
-    let for_it : is_for (run_month b i) e.column e ≡ true = rw (month, same_month_itself (run_month b i), same_itself e.column) refl in
+    let for_it : is_for (run_month b i) e.column e ≡ true =
+    rw (month, same_month_itself (run_month b i), same_itself e.column) refl in
     given_at b (earlier ++ e ∷ []) i (place_in (column_numbers b) e.column) l there.0
     ∙ (ap (amount_for (earlier ++ e ∷ []) (run_month b i)) there.1
     ∙ (one_entry_more earlier e (run_month b i) e.column ∙ rw (absent, for_it) refl))
 
-kept_elsewhere : (b : Basin) (earlier : List Entry) (e : Entry) (i k n g : ℕ) → IsMonth b.first → e.month ≡ run_month b i →
-    n < b.months → g < width b → n * width b + g ≡ k → k ≢ place_for b i e.column → get_or (given b (earlier ++ e ∷ [])) k None ≡ get_or (given b earlier) k None
+kept_elsewhere : (b : Basin) (earlier : List Entry) (e : Entry) (i k n g : ℕ) → IsMonth b.first →
+    e.month ≡ run_month b i →
+    n < b.months → g < width b → n * width b + g ≡ k → k ≢ place_for b i e.column →
+    get_or (given b (earlier ++ e ∷ [])) k None ≡ get_or (given b earlier) k None
 kept_elsewhere b earlier e i k n g first month row gauge place other =
-    let apart : is_for (run_month b n) (get_or (column_numbers b) g 0) e ≡ false = elim (cases_Bool (is_for (run_month b n) (get_or (column_numbers b) g 0) e)) [
+    let apart : is_for (run_month b n) (get_or (column_numbers b) g 0) e ≡ false =
+    elim (cases_Bool (is_for (run_month b n) (get_or (column_numbers b) g 0) e)) [
       | inl here ↦ absurd (other (sym place ∙ same_place b e i n g first row gauge month here))
       | inr off ↦ off
     ] in
@@ -179,18 +204,25 @@ kept_elsewhere b earlier e i k n g first month row gauge place other =
     ∙ (rw apart (or_none (amount_for earlier (run_month b n) (get_or (column_numbers b) g 0)))
     ∙ sym (given_at b earlier n g row gauge))))
 
-pub enters : (b : Basin) (earlier : List Entry) (e : Entry) (i : ℕ) → IsMonth b.first → IsEntry b e → i < b.months → e.month ≡ run_month b i →
-    amount_for earlier (run_month b i) e.column ≡ None → given b (earlier ++ e ∷ []) ≡ set (given b earlier) (place_for b i e.column) (Some e.amount)
+pub enters : (b : Basin) (earlier : List Entry) (e : Entry) (i : ℕ) → IsMonth b.first → IsEntry b e → i < b.months →
+    e.month ≡ run_month b i →
+    amount_for earlier (run_month b i) e.column ≡ None →
+    given b (earlier ++ e ∷ []) ≡ set (given b earlier) (place_for b i e.column) (Some e.amount)
 enters b earlier e i first entry l month absent =
     ext_get_or None (given b (earlier ++ e ∷ [])) (set (given b earlier) (place_for b i e.column) (Some e.amount))
-    (length-given b (earlier ++ e ∷ []) ∙ sym (length-set (given b earlier) (place_for b i e.column) (Some e.amount) ∙ length-given b earlier))
-    (λ k below. at k (split b k (omega (arith, length-given b (earlier ++ e ∷ [])))) (cases_eq k (place_for b i e.column)))
+    (length-given b (earlier ++ e ∷ [])
+    ∙ sym (length-set (given b earlier) (place_for b i e.column) (Some e.amount) ∙ length-given b earlier))
+    (λ k below. at k (split b k (omega (arith, length-given b (earlier ++ e ∷ []))))
+    (cases_eq k (place_for b i e.column)))
   where
     within : place_for b i e.column < length (given b earlier)
-    within = rw (length-given b earlier) (cell_within i b.months (width b) (place_in (column_numbers b) e.column) l (column_there b e.column entry.column).0)
+    within = rw (length-given b earlier)
+        (cell_within i b.months (width b) (place_in (column_numbers b) e.column) l
+        (column_there b e.column entry.column).0)
 
     at : (k : ℕ) → IsSplit b k → (k ≡ place_for b i e.column) ⊎ (k ≡ place_for b i e.column → ⊥) →
-        get_or (given b (earlier ++ e ∷ [])) k None ≡ get_or (set (given b earlier) (place_for b i e.column) (Some e.amount)) k None
+        get_or (given b (earlier ++ e ∷ [])) k None ≡ get_or
+        (set (given b earlier) (place_for b i e.column) (Some e.amount)) k None
     at k s (inl here) =
         ap (λ j. get_or (given b (earlier ++ e ∷ [])) j None) here
         ∙ (added_here b earlier e i entry l month absent
@@ -201,14 +233,18 @@ enters b earlier e i first entry l month absent =
         ∙ sym (get_or-set_other (given b earlier) (place_for b i e.column) k (Some e.amount) None other)
 
 -- an entry for a month outside the run adds nothing
-pub passes_by : (b : Basin) (earlier : List Entry) (e : Entry) → is_in_run b e.month ≡ false → given b (earlier ++ e ∷ []) ≡ given b earlier
+pub passes_by : (b : Basin) (earlier : List Entry) (e : Entry) → is_in_run b e.month ≡ false →
+    given b (earlier ++ e ∷ []) ≡ given b earlier
 passes_by b earlier e outside =
-    ext_get_or None (given b (earlier ++ e ∷ [])) (given b earlier) (length-given b (earlier ++ e ∷ []) ∙ sym (length-given b earlier))
+    ext_get_or None (given b (earlier ++ e ∷ [])) (given b earlier)
+    (length-given b (earlier ++ e ∷ []) ∙ sym (length-given b earlier))
     (λ k below. at k (split b k (omega (arith, length-given b (earlier ++ e ∷ [])))))
   where
     never : (n g : ℕ) → n < b.months → is_for (run_month b n) g e ≡ false
     never n g row = elim (cases_Bool (is_for (run_month b n) g e)) [
-      | inl here ↦ (let same : run_month b n ≡ e.month = same_month_is (run_month b n) e.month (both (is_same_month (run_month b n) e.month) (e.column == g) here).0 in
+      | inl here ↦
+          (let same : run_month b n ≡ e.month =
+          same_month_is (run_month b n) e.month (both (is_same_month (run_month b n) e.month) (e.column == g) here).0 in
           let inside : is_in_run b e.month ≡ true = ap (is_in_run b) (sym same) ∙ month_in_run b n row in
           absurd (false≢true (sym outside ∙ inside)))
       | inr off ↦ off
@@ -218,16 +254,19 @@ passes_by b earlier e outside =
     at k s =
         rw (← s.place) (given_at b (earlier ++ e ∷ []) (k / width b) (k % width b) s.row s.gauge
         ∙ (one_entry_more earlier e (run_month b (k / width b)) (get_or (column_numbers b) (k % width b) 0)
-        ∙ (rw (never (k / width b) (get_or (column_numbers b) (k % width b) 0) s.row) (or_none (amount_for earlier (run_month b (k / width b)) (get_or (column_numbers b) (k % width b) 0)))
+        ∙ (rw (never (k / width b) (get_or (column_numbers b) (k % width b) 0) s.row)
+        (or_none (amount_for earlier (run_month b (k / width b)) (get_or (column_numbers b) (k % width b) 0)))
         ∙ sym (given_at b earlier (k / width b) (k % width b) s.row s.gauge))))
 
 -- what entering an entry does, where its month is outside the run
-pub outside_is : (b : Basin) (earlier : List Entry) (e : Entry) (amounts : List (Option ℕ)) → is_in_run b e.month ≡ false → amounts ≡ given b earlier →
+pub outside_is : (b : Basin) (earlier : List Entry) (e : Entry) (amounts : List (Option ℕ)) →
+    is_in_run b e.month ≡ false → amounts ≡ given b earlier →
     (repeats b earlier e ≡ false) × (amounts ≡ given b (earlier ++ e ∷ []))
 outside_is b earlier e amounts outside is = (rw outside refl, is ∙ sym (passes_by b earlier e outside))
 
 -- where it has a place in the table, what stands there
-pub stands_there : (b : Basin) (earlier : List Entry) (e : Entry) (i : ℕ) (amounts : List (Option ℕ)) → IsEntry b e → i < b.months → e.month ≡ run_month b i → amounts ≡ given b earlier →
+pub stands_there : (b : Basin) (earlier : List Entry) (e : Entry) (i : ℕ) (amounts : List (Option ℕ)) → IsEntry b e →
+    i < b.months → e.month ≡ run_month b i → amounts ≡ given b earlier →
     get_or amounts (place_for b i e.column) None ≡ amount_for earlier e.month e.column
 stands_there b earlier e i amounts entry l month is =
     let there = column_there b e.column entry.column in
@@ -235,20 +274,24 @@ stands_there b earlier e i amounts entry l month is =
     ∙ (given_at b earlier i (place_in (column_numbers b) e.column) l there.0
     ∙ (ap (amount_for earlier (run_month b i)) there.1 ∙ ap (λ m. amount_for earlier m e.column) (sym month)))
 
-pub repeated_is : (b : Basin) (earlier : List Entry) (e : Entry) (i : ℕ) (amounts : List (Option ℕ)) → IsEntry b e → i < b.months → e.month ≡ run_month b i → amounts ≡ given b earlier →
+pub repeated_is : (b : Basin) (earlier : List Entry) (e : Entry) (i : ℕ) (amounts : List (Option ℕ)) → IsEntry b e →
+    i < b.months → e.month ≡ run_month b i → amounts ≡ given b earlier →
     is_some (get_or amounts (place_for b i e.column) None) ≡ repeats b earlier e
 repeated_is b earlier e i amounts entry l month is =
     let inside : is_in_run b e.month ≡ true = ap (is_in_run b) month ∙ month_in_run b i l in
     rw (inside, stands_there b earlier e i amounts entry l month is) refl
 
-pub entered_is : (b : Basin) (earlier : List Entry) (e : Entry) (i : ℕ) (amounts : List (Option ℕ)) → IsMonth b.first → IsEntry b e → i < b.months → e.month ≡ run_month b i →
+pub entered_is : (b : Basin) (earlier : List Entry) (e : Entry) (i : ℕ) (amounts : List (Option ℕ)) → IsMonth b.first →
+    IsEntry b e → i < b.months → e.month ≡ run_month b i →
     amounts ≡ given b earlier → is_some (get_or amounts (place_for b i e.column) None) ≡ false →
     (repeats b earlier e ≡ false) × (set amounts (place_for b i e.column) (Some e.amount) ≡ given b (earlier ++ e ∷ []))
 entered_is b earlier e i amounts first entry l month is free =
     let absent : amount_for earlier (run_month b i) e.column ≡ None =
-    ap (λ m. amount_for earlier m e.column) (sym month) ∙ (sym (stands_there b earlier e i amounts entry l month is) ∙ none_there _ free) in (
+    ap (λ m. amount_for earlier m e.column) (sym month)
+    ∙ (sym (stands_there b earlier e i amounts entry l month is) ∙ none_there _ free) in (
       sym (repeated_is b earlier e i amounts entry l month is) ∙ free,
-      ap (λ xs. set xs (place_for b i e.column) (Some e.amount)) is ∙ sym (enters b earlier e i first entry l month absent),
+      ap (λ xs. set xs (place_for b i e.column) (Some e.amount)) is
+          ∙ sym (enters b earlier e i first entry l month absent),
     )
   where
     none_there : (r : Option ℕ) → is_some r ≡ false → r ≡ None

@@ -14,7 +14,8 @@ has_field [] i e l = omega arith
 has_field (field ∷ row) zero e l = cc
 has_field (field ∷ row) (suc i) e l = has_field row i e (omega arith)
 
-pub three_are : (row : List (List ℕ)) (a b c : List ℕ) → length row ≡ 3 → Some a ≡ field_at row 0 → Some b ≡ field_at row 1 → Some c ≡ field_at row 2 →
+pub three_are : (row : List (List ℕ)) (a b c : List ℕ) → length row ≡ 3 → Some a ≡ field_at row 0 →
+    Some b ≡ field_at row 1 → Some c ≡ field_at row 2 →
     row ≡ a ∷ b ∷ c ∷ []
 unfolding field_at
 three_are [] a b c l ea eb ec = absurd (omega arith)
@@ -23,7 +24,8 @@ three_are (x ∷ y ∷ []) a b c l ea eb ec = absurd (omega arith)
 three_are (x ∷ y ∷ z ∷ []) a b c l ea eb ec = cc
 three_are (x ∷ y ∷ z ∷ w ∷ row) a b c l ea eb ec = absurd (omega arith)
 
-pub four_are : (row : List (List ℕ)) (a b c d : List ℕ) → length row ≡ 4 → Some a ≡ field_at row 0 → Some b ≡ field_at row 1 → Some c ≡ field_at row 2 →
+pub four_are : (row : List (List ℕ)) (a b c d : List ℕ) → length row ≡ 4 → Some a ≡ field_at row 0 →
+    Some b ≡ field_at row 1 → Some c ≡ field_at row 2 →
     Some d ≡ field_at row 3 → row ≡ a ∷ b ∷ c ∷ d ∷ []
 unfolding field_at
 four_are [] a b c d l ea eb ec ed = absurd (omega arith)

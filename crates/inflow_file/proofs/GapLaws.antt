@@ -1,5 +1,7 @@
 -- The first amount that is missing, and the series where none is.
-use Rattle.std.proofs.Common.{◌≡◌, ℕ, zero, suc, ◌+◌, ◌*◌, ◌/◌, ◌%◌, ◌^◌, ◌<◌, ◌≤◌, Bool, true, false, refl, sym, ap, ◌∙◌, arith, List, [], ◌∷◌, ◌++◌, length, get_or, map, Option, Some, None, if◌then◌else◌, is_some, option_map, unwrap_or, slice_get, All, Ok, Err, Result, inl, inr, subst}
+use Rattle.std.proofs.Common.{◌≡◌, ℕ, zero, suc, ◌+◌, ◌*◌, ◌/◌, ◌%◌, ◌^◌, ◌<◌, ◌≤◌, Bool, true, false, refl, sym, ap}
+use Rattle.std.proofs.Common.{◌∙◌, arith, List, [], ◌∷◌, ◌++◌, length, get_or, map, Option, Some, None, if◌then◌else◌}
+use Rattle.std.proofs.Common.{is_some, option_map, unwrap_or, slice_get, All, Ok, Err, Result, inl, inr, subst}
 use Rattle.std.specs.Prelude.{◌==◌, ◌&&◌, not, IfOk, IfErr, OnOk}
 use Rattle.std.specs.List.{find, cons_option}
 use Rattle.std.specs.Result.{result_ok}
@@ -25,23 +27,28 @@ use Rattle.inflow_file.specs.Columns.{IsColumn, column_numbers, right_number}
 use Rattle.inflow_file.specs.Entries.{column_of, go_on, need, read_record}
 use Rattle.inflow_file.specs.CsvRecords.{records_of}
 use Rattle.inflow_file.specs.Given.{Completes, TookTable, given, given_by}
-use Rattle.inflow_file.specs.SeriesFaults.{IsRefusalOf, IsSeriesRefusal, SpellsAmounts, SpellsSeries, amount_for, body_of, series_fault, due, entries_of, is_same_month, missing, missing_of}
+use Rattle.inflow_file.specs.SeriesFaults.{IsRefusalOf, IsSeriesRefusal, SpellsAmounts, SpellsSeries, amount_for}
+use Rattle.inflow_file.specs.SeriesFaults.{body_of, series_fault, due, entries_of, is_same_month, missing, missing_of}
 use Rattle.inflow_file.specs.declared.entry.Entry.{Entry}
 use Rattle.inflow_file.specs.declared.refused.SeriesFault.{SeriesFault}
 use Rattle.inflow_file.specs.declared.refused.SeriesFault.TheVariants as fault
 use Rattle.inflow_file.specs.declared.refused.SeriesRefused.{SeriesRefused}
 use Rattle.inflow_file.specs.declared.refused.SeriesRefused.TheVariants as refused
-use Rattle.inflow_file.proofs.ColumnLaws.{count_of_columns, is_gauge, is_want, place_holds, place_of_gauge, place_of_want}
+use Rattle.inflow_file.proofs.ColumnLaws.{count_of_columns, is_gauge, is_want, place_holds, place_of_gauge}
+use Rattle.inflow_file.proofs.ColumnLaws.{place_of_want}
 use Rattle.inflow_file.proofs.DueLaws.{IsSplit, column_there, due_at, given_at, length-due, length-given, split, width}
 
 -- the first element that passes a test, by its place
-find_first : {X : Type 0} (p : X → Bool) (xs : List X) (k : ℕ) (d : X) → k < length xs → ((j : ℕ) → j < k → p (get_or xs j d) ≡ false) →
+find_first : {X : Type 0} (p : X → Bool) (xs : List X) (k : ℕ) (d : X) → k < length xs →
+    ((j : ℕ) → j < k → p (get_or xs j d) ≡ false) →
     p (get_or xs k d) ≡ true → find p xs ≡ Some (get_or xs k d)
 find_first p [] k d l before here = absurd (omega arith)
 find_first p (x ∷ xs) zero d l before here = rw here refl
-find_first p (x ∷ xs) (suc k) d l before here = rw (before 0 (omega arith)) (find_first p xs k d (omega arith) (λ j m. before (suc j) (omega arith)) here)
+find_first p (x ∷ xs) (suc k) d l before here =
+    rw (before 0 (omega arith)) (find_first p xs k d (omega arith) (λ j m. before (suc j) (omega arith)) here)
 
-find_none : {X : Type 0} (p : X → Bool) (xs : List X) (d : X) → ((j : ℕ) → j < length xs → p (get_or xs j d) ≡ false) → find p xs ≡ None
+find_none : {X : Type 0} (p : X → Bool) (xs : List X) (d : X) → ((j : ℕ) → j < length xs → p (get_or xs j d) ≡ false) →
+    find p xs ≡ None
 find_none p [] d none = refl
 find_none p (x ∷ xs) d none = rw (none 0 (omega arith)) (find_none p xs d (λ j m. none (suc j) (omega arith)))
 
@@ -56,19 +63,22 @@ pub none_missing : (b : Basin) (entries : List Entry) (amounts : List (Option �
     ((k : ℕ) → k < length amounts → is_some (get_or amounts k None) ≡ true) → missing b entries ≡ None
 none_missing b entries amounts is all =
     ap (option_map (λ (d : Month × ℕ). missing_of b d.0 d.1))
-    (find_none (λ d. not (is_some (amount_for entries d.0 d.1))) (due b) (b.first, 0) (λ k l. there k l (all k (rw is (rw (length-given b entries) (rw (← length-due b) l))))))
+    (find_none (λ d. not (is_some (amount_for entries d.0 d.1))) (due b) (b.first, 0)
+    (λ k l. there k l (all k (rw is (rw (length-given b entries) (rw (← length-due b) l))))))
   where
     there : (k : ℕ) → k < length (due b) → is_some (get_or amounts k None) ≡ true →
         not (is_some (amount_for entries (get_or (due b) k (b.first, 0)).0 (get_or (due b) k (b.first, 0)).1)) ≡ false
     there k l h = rw (← given_there b entries k (b.first, 0) l, ← is, h) refl
 
 -- the first that isn't
-pub first_missing : (b : Basin) (entries : List Entry) (amounts : List (Option ℕ)) (k : ℕ) → amounts ≡ given b entries → k < length amounts →
+pub first_missing : (b : Basin) (entries : List Entry) (amounts : List (Option ℕ)) (k : ℕ) → amounts ≡ given b entries →
+    k < length amounts →
     ((j : ℕ) → j < k → is_some (get_or amounts j None) ≡ true) → is_some (get_or amounts k None) ≡ false →
     missing b entries ≡ Some (missing_of b (run_month b (k / width b)) (get_or (column_numbers b) (k % width b) 0))
 first_missing b entries amounts k is l before here =
     ap (option_map (λ (d : Month × ℕ). missing_of b d.0 d.1))
-    (find_first (λ d. not (is_some (amount_for entries d.0 d.1))) (due b) k (b.first, 0) within (λ j m. tested j (omega (arith, within)) true (before j m)) (tested k within false here)
+    (find_first (λ d. not (is_some (amount_for entries d.0 d.1))) (due b) k (b.first, 0) within
+    (λ j m. tested j (omega (arith, within)) true (before j m)) (tested k within false here)
     ∙ ap (λ d. Some d) (pair (split b k (rw (← length-due b) within))))
   where
     within : k < length (due b)
@@ -78,8 +88,10 @@ first_missing b entries amounts k is l before here =
         not (is_some (amount_for entries (get_or (due b) j (b.first, 0)).0 (get_or (due b) j (b.first, 0)).1)) ≡ not t
     tested j m t h = rw (← given_there b entries j (b.first, 0) m, ← is, h) refl
 
-    pair : IsSplit b k → get_or (due b) k (b.first, 0) ≡ (run_month b (k / width b), get_or (column_numbers b) (k % width b) 0)
-    pair s = ap (λ j. get_or (due b) j (b.first, 0)) (sym s.place) ∙ due_at b (k / width b) (k % width b) b.first s.row s.gauge
+    pair : IsSplit b k →
+        get_or (due b) k (b.first, 0) ≡ (run_month b (k / width b), get_or (column_numbers b) (k % width b) 0)
+    pair s = ap (λ j. get_or (due b) j (b.first, 0)) (sym s.place)
+        ∙ due_at b (k / width b) (k % width b) b.first s.row s.gauge
 
 abbrev AreSmall : List Entry → Type 0
 AreSmall [] = Unit {0}
@@ -91,7 +103,8 @@ record IsNeeded {X Y : Type 0} (o : Option X) (next : X → Result Y SeriesFault
   there : o ≡ Some value
   gave : next value ≡ Ok y
 
-needed : {X Y : Type 0} (f : SeriesFault) (o : Option X) (next : X → Result Y SeriesFault) (y : Y) → need f o next ≡ Ok y → IsNeeded o next y
+needed : {X Y : Type 0} (f : SeriesFault) (o : Option X) (next : X → Result Y SeriesFault) (y : Y) →
+    need f o next ≡ Ok y → IsNeeded o next y
 needed f None next y e = cc
 needed f (Some x) next y e = record { value = x; there = refl; gave = e }
 
@@ -103,18 +116,22 @@ record IsGoneOn {X Y : Type 0} (r : Result X SeriesFault) (next : X → Result Y
   value : X
   gave : next value ≡ Ok y
 
-gone_on : {X Y : Type 0} (r : Result X SeriesFault) (next : X → Result Y SeriesFault) (y : Y) → go_on r next ≡ Ok y → IsGoneOn r next y
+gone_on : {X Y : Type 0} (r : Result X SeriesFault) (next : X → Result Y SeriesFault) (y : Y) → go_on r next ≡ Ok y →
+    IsGoneOn r next y
 gone_on (Err f) next y e = cc
 gone_on (Ok x) next y e = record { value = x; gave = e }
 
 -- the last steps of reading a record
 abbrev amount_in : List ℕ → Month → ℕ → Result Entry SeriesFault
-amount_in amount m n = need fault.BadAmount (read_amount amount (10 ^ 9)) (λ a. Ok (record { month = m; column = n; amount = a }))
+amount_in amount m n =
+    need fault.BadAmount (read_amount amount (10 ^ 9)) (λ a. Ok (record { month = m; column = n; amount = a }))
 
 small_in : (amount : List ℕ) (m : Month) (n : ℕ) (e : Entry) → amount_in amount m n ≡ Ok e → e.amount ≤ 10 ^ 9
 small_in amount m n e h =
-    let a = needed fault.BadAmount (read_amount amount (10 ^ 9)) (λ a. Ok (record { month = m; column = n; amount = a })) e h in
-    let same : record { month = m; column = n; amount = a.value } ≡ e = same_ok (record { month = m; column = n; amount = a.value }) e a.gave in
+    let a = needed fault.BadAmount (read_amount amount (10 ^ 9))
+    (λ a. Ok (record { month = m; column = n; amount = a })) e h in
+    let same : record { month = m; column = n; amount = a.value } ≡ e =
+    same_ok (record { month = m; column = n; amount = a.value }) e a.gave in
     rw (← ap (λ (x : Entry). x.amount) same) (amount_is_read amount (10 ^ 9) a.value a.there).within
 
 small_record : (b : Basin) (row : List (List ℕ)) (e : Entry) → read_record b row ≡ Ok e → e.amount ≤ 10 ^ 9
@@ -125,7 +142,8 @@ small_record b (month ∷ kind ∷ []) e h = cc
 small_record b (month ∷ kind ∷ name ∷ []) e h = cc
 small_record b (month ∷ kind ∷ name ∷ amount ∷ other ∷ row) e h = cc
 small_record b (month ∷ kind ∷ name ∷ amount ∷ []) e h =
-    let m = needed fault.BadMonth (read_month month) (λ m. go_on (column_of b kind name) (λ n. amount_in amount m n)) e h in
+    let m = needed fault.BadMonth (read_month month) (λ m. go_on (column_of b kind name) (λ n. amount_in amount m n)) e
+    h in
     let n = gone_on (column_of b kind name) (λ n. amount_in amount m.value n) e m.gave in
     small_in amount m.value n.value e n.gave
 
@@ -138,25 +156,32 @@ small_entries b (row ∷ rows) = by_read (read_record b row) refl (small_entries
     by_read (Ok e) h further = (small_record b row e h, further)
     by_read (Err f) h further = further
 
-small_given : (entries : List Entry) (month : Month) (n a : ℕ) → AreSmall entries → amount_for entries month n ≡ Some a → a ≤ 10 ^ 9
+small_given : (entries : List Entry) (month : Month) (n a : ℕ) → AreSmall entries →
+    amount_for entries month n ≡ Some a → a ≤ 10 ^ 9
 small_given [] month n a small e = cc
-small_given (x ∷ entries) month n a small e = by_test (is_same_month month x.month && x.column == n) e (small_given entries month n a small.1)
+small_given (x ∷ entries) month n a small e =
+    by_test (is_same_month month x.month && x.column == n) e (small_given entries month n a small.1)
   where
-    by_test : (t : Bool) → option_map (λ (y : Entry). y.amount) (if t then Some x else find (λ y. is_same_month month y.month && y.column == n) entries) ≡ Some a →
+    by_test : (t : Bool) →
+        option_map (λ (y : Entry). y.amount)
+        (if t then Some x else find (λ y. is_same_month month y.month && y.column == n) entries) ≡ Some a →
         (amount_for entries month n ≡ Some a → a ≤ 10 ^ 9) → a ≤ 10 ^ 9
     by_test true h further = rw (← same_Some x.amount a h) small.0
     by_test false h further = further h
 
 -- the inflow of a gauged node
-pub inflow_gauged : (b : Basin) (series : Inflows) (node i : ℕ) → is_gauged b node ≡ true → inflow_at b series node i ≡ table_at series.gauged series.amount i node
+pub inflow_gauged : (b : Basin) (series : Inflows) (node i : ℕ) → is_gauged b node ≡ true →
+    inflow_at b series node i ≡ table_at series.gauged series.amount i node
 inflow_gauged b series node i h = by_entry (slice_get b.nodes node) h
   where
     by_entry : (o : Option Node) → unwrap_or (option_map (λ n. is_gauged_kind n.inflow) o) false ≡ true →
-        unwrap_or (option_map (λ n. inflow_of_kind b series node i n.inflow) o) 0 ≡ table_at series.gauged series.amount i node
+        unwrap_or (option_map (λ n. inflow_of_kind b series node i n.inflow) o) 0 ≡ table_at series.gauged series.amount
+        i node
     by_entry None e = absurd (false≢true e)
     by_entry (Some n) e = by_kind n.inflow e
       where
-        by_kind : (k : Inflow) → is_gauged_kind k ≡ true → inflow_of_kind b series node i k ≡ table_at series.gauged series.amount i node
+        by_kind : (k : Inflow) → is_gauged_kind k ≡ true →
+            inflow_of_kind b series node i k ≡ table_at series.gauged series.amount i node
         by_kind (Monthly amounts) f = absurd (false≢true f)
         by_kind Gauged f = refl
 
@@ -169,7 +194,8 @@ some_is None h = absurd (false≢true h)
 some_is (Some n) h = refl
 
 -- one amount more
-pub part_more : (f : ℕ → ℕ) (part : List ℕ) (n k x : ℕ) → length part ≡ n → ((m : ℕ) → m < n → get_or part m 0 ≡ f m) → x ≡ f n → k < n + 1 →
+pub part_more : (f : ℕ → ℕ) (part : List ℕ) (n k x : ℕ) → length part ≡ n → ((m : ℕ) → m < n → get_or part m 0 ≡ f m) →
+    x ≡ f n → k < n + 1 →
     get_or (part ++ x ∷ []) k 0 ≡ f k
 part_more f part n k x count each is l =
     elim (cases_lt k n) [
@@ -183,7 +209,8 @@ some_column k m zero h = absurd (omega arith)
 some_column k m (suc g) h = omega arith
 
 -- where the amount at a place of a part stands among all
-pub cell_below : (k all from months count : ℕ) → from + count ≤ all → k < months * count → k / count * all + from + k % count < months * all
+pub cell_below : (k all from months count : ℕ) → from + count ≤ all → k < months * count →
+    k / count * all + from + k % count < months * all
 cell_below k all from months count h l =
     let some : 0 < count = some_column k months count l in
     let row = div_below k count months some l in
@@ -191,14 +218,18 @@ cell_below k all from months count h l =
     let cell = cell_within (k / count) months all (from + k % count) row (omega arith) in
     omega (arith, cell)
 
-part_at : (amounts : List (Option ℕ)) (w from months count : ℕ) (part : List ℕ) (k : ℕ) → AreThere amounts → length amounts ≡ months * w → from + count ≤ w →
-    IsPart amounts w from months count part → k < months * count → get_or amounts (k / count * w + from + k % count) None ≡ Some (get_or part k 0)
+part_at : (amounts : List (Option ℕ)) (w from months count : ℕ) (part : List ℕ) (k : ℕ) → AreThere amounts →
+    length amounts ≡ months * w → from + count ≤ w →
+    IsPart amounts w from months count part → k < months * count →
+    get_or amounts (k / count * w + from + k % count) None ≡ Some (get_or part k 0)
 part_at amounts w from months count part k all cells fits h l =
     let below = cell_below k w from months count fits l in
-    some_is (get_or amounts (k / count * w + from + k % count) None) (all (k / count * w + from + k % count) (omega (arith, below, cells)))
+    some_is (get_or amounts (k / count * w + from + k % count) None)
+    (all (k / count * w + from + k % count) (omega (arith, below, cells)))
     ∙ ap (λ n. Some n) (sym (h.each k l))
 
-small_part : (b : Basin) (rows : List (List (List ℕ))) (amounts : List (Option ℕ)) (from count : ℕ) (part : List ℕ) → amounts ≡ given_by b rows → AreThere amounts →
+small_part : (b : Basin) (rows : List (List (List ℕ))) (amounts : List (Option ℕ)) (from count : ℕ) (part : List ℕ) →
+    amounts ≡ given_by b rows → AreThere amounts →
     from + count ≤ width b → IsPart amounts (width b) from b.months count part → All (λ n. n ≤ 10 ^ 9) part
 small_part b rows amounts from count part is all fits h =
     All-from_get_or (λ n. n ≤ 10 ^ 9) part 0 (λ k l. small k (rw h.count_is at l))
@@ -208,24 +239,30 @@ small_part b rows amounts from count part is all fits h =
         let cell : ℕ = k / count * width b + from + k % count in
         let below : cell < b.months * width b = cell_below k (width b) from b.months count fits l in
         let within : cell < length (due b) = omega (arith, length-due b) in
-        small_given (entries_of b rows) (get_or (due b) cell (b.first, 0)).0 (get_or (due b) cell (b.first, 0)).1 (get_or part k 0) (small_entries b rows)
+        small_given (entries_of b rows) (get_or (due b) cell (b.first, 0)).0 (get_or (due b) cell (b.first, 0)).1
+        (get_or part k 0) (small_entries b rows)
         (sym (given_there b (entries_of b rows) cell (b.first, 0) within) ∙ (ap (λ xs. get_or xs cell None) (sym is)
-        ∙ part_at amounts (width b) from b.months count part k all (ap length is ∙ length-given b (entries_of b rows)) fits h l))
+        ∙ part_at amounts (width b) from b.months count part k all (ap length is ∙ length-given b (entries_of b rows))
+        fits h l))
 
 -- what a part says of a column is what the entries say
-part_says : (b : Basin) (rows : List (List (List ℕ))) (amounts : List (Option ℕ)) (from count : ℕ) (part : List ℕ) (i g n : ℕ) → amounts ≡ given_by b rows → AreThere amounts →
-    from + count ≤ width b → IsPart amounts (width b) from b.months count part → i < b.months → g < count → IsColumn b n → place_in (column_numbers b) n ≡ from + g →
+part_says : (b : Basin) (rows : List (List (List ℕ))) (amounts : List (Option ℕ)) (from count : ℕ) (part : List ℕ)
+    (i g n : ℕ) → amounts ≡ given_by b rows → AreThere amounts →
+    from + count ≤ width b → IsPart amounts (width b) from b.months count part → i < b.months → g < count →
+    IsColumn b n → place_in (column_numbers b) n ≡ from + g →
     amount_for (entries_of b rows) (run_month b i) n ≡ Some (get_or part (i * count + g) 0)
 part_says b rows amounts from count part i g n is all fits h l k column place =
     let there = column_there b n column in
     let within : i * count + g < b.months * count = cell_within i b.months count g l k in
-    let at : (i * count + g) / count * width b + from + (i * count + g) % count ≡ i * width b + place_in (column_numbers b) n =
+    let at : (i * count + g) / count * width b + from + (i * count + g) % count ≡ i * width b + place_in
+    (column_numbers b) n =
     rw (div-mul-add i count g k, mod-mul-add i count g k, place) (omega arith) in
     ap (amount_for (entries_of b rows) (run_month b i)) (sym there.1)
     ∙ (sym (given_at b (entries_of b rows) i (place_in (column_numbers b) n) l there.0)
     ∙ (ap (λ xs. get_or xs (i * width b + place_in (column_numbers b) n) None) (sym is)
     ∙ (ap (λ j. get_or amounts j None) (sym at)
-    ∙ part_at amounts (width b) from b.months count part (i * count + g) all (ap length is ∙ length-given b (entries_of b rows)) fits h within)))
+    ∙ part_at amounts (width b) from b.months count part (i * count + g) all
+    (ap length is ∙ length-given b (entries_of b rows)) fits h within)))
 
 -- a table of all amounts is the series of a faultless one
 pub record AreParts (b : Basin) (amounts : List (Option ℕ)) (series : Inflows) : Type 0 where
@@ -235,25 +272,33 @@ pub record AreParts (b : Basin) (amounts : List (Option ℕ)) (series : Inflows)
   pub amount : IsPart amounts (width b) 0 b.months (length (gauged_nodes b)) series.amount
   pub want : IsPart amounts (width b) (length (gauged_nodes b)) b.months (length (rights_in_series b)) series.want
 
-pub complete_series : (b : Basin) (rows : List (List (List ℕ))) (amounts : List (Option ℕ)) (series : Inflows) → amounts ≡ given_by b rows →
-    AreParts b amounts series → (missing b (entries_of b rows) ≡ None) × IsSeriesOf b series × SpellsAmounts b rows series
+pub complete_series : (b : Basin) (rows : List (List (List ℕ))) (amounts : List (Option ℕ)) (series : Inflows) →
+    amounts ≡ given_by b rows →
+    AreParts b amounts series → (missing b (entries_of b rows) ≡ None) × IsSeriesOf b series ×
+    SpellsAmounts b rows series
 complete_series b rows amounts series is parts = (
   none_missing b (entries_of b rows) amounts is parts.there,
   record {
     gauged = parts.gauged;
     amounts = parts.amount.count_is ∙ ap (λ xs. b.months * length xs) (sym parts.gauged);
-    small_amounts = small_part b rows amounts 0 (length (gauged_nodes b)) series.amount is parts.there gauges_fit parts.amount;
+    small_amounts =
+        small_part b rows amounts 0 (length (gauged_nodes b)) series.amount is parts.there gauges_fit parts.amount;
     wanted = parts.wanted;
     wants = parts.want.count_is ∙ ap (λ xs. b.months * length xs) (sym parts.wanted);
-    small_wants = small_part b rows amounts (length (gauged_nodes b)) (length (rights_in_series b)) series.want is parts.there wants_fit parts.want;
+    small_wants =
+        small_part b rows amounts (length (gauged_nodes b)) (length (rights_in_series b)) series.want is parts.there
+        wants_fit parts.want;
   },
   record {
     each = λ node i l g m.
-        part_says b rows amounts 0 (length (gauged_nodes b)) series.amount i (place_in (gauged_nodes b) node) node is parts.there gauges_fit parts.amount m (gauge_there node l g) (is_gauge b node l g)
+        part_says b rows amounts 0 (length (gauged_nodes b)) series.amount i (place_in (gauged_nodes b) node) node is
+        parts.there gauges_fit parts.amount m (gauge_there node l g) (is_gauge b node l g)
         (omega (arith, place_of_gauge b node l g))
-        ∙ ap (λ n. Some n) (sym (inflow_gauged b series node i g ∙ ap (λ xs. table_at xs series.amount i node) parts.gauged));
+        ∙ ap (λ n. Some n)
+        (sym (inflow_gauged b series node i g ∙ ap (λ xs. table_at xs series.amount i node) parts.gauged));
     wants = λ right i l w m.
-        part_says b rows amounts (length (gauged_nodes b)) (length (rights_in_series b)) series.want i (place_in (rights_in_series b) right) (right_number b right) is parts.there wants_fit parts.want m
+        part_says b rows amounts (length (gauged_nodes b)) (length (rights_in_series b)) series.want i
+        (place_in (rights_in_series b) right) (right_number b right) is parts.there wants_fit parts.want m
         (want_within right l w) (is_want b right l w) (place_of_want b right l w)
         ∙ ap (λ n. Some n) (sym (ap (λ xs. table_at xs series.want i right) parts.wanted));
   },
@@ -265,19 +310,27 @@ complete_series b rows amounts series is parts = (
     wants_fit : length (gauged_nodes b) + length (rights_in_series b) ≤ width b
     wants_fit = omega (arith, count_of_columns b)
 
-    gauge_there : (node : ℕ) → node < length b.nodes → is_gauged b node ≡ true → place_in (gauged_nodes b) node < length (gauged_nodes b)
+    gauge_there : (node : ℕ) → node < length b.nodes → is_gauged b node ≡ true →
+        place_in (gauged_nodes b) node < length (gauged_nodes b)
     gauge_there node l g = (place_holds (λ n. is_gauged b n) 0 (length b.nodes) node node l (omega arith) g).0
 
-    want_within : (right : ℕ) → right < length b.rights → is_in_series b right ≡ true → place_in (rights_in_series b) right < length (rights_in_series b)
+    want_within : (right : ℕ) → right < length b.rights → is_in_series b right ≡ true →
+        place_in (rights_in_series b) right < length (rights_in_series b)
     want_within right l w = (place_holds (λ r. is_in_series b r) 0 (length b.rights) right right l (omega arith) w).0
 
-pub missing_told : (b : Basin) (rows : List (List (List ℕ))) (amounts : List (Option ℕ)) (k : ℕ) (e : SeriesRefused) → amounts ≡ given_by b rows → k < length amounts →
+pub missing_told : (b : Basin) (rows : List (List (List ℕ))) (amounts : List (Option ℕ)) (k : ℕ) (e : SeriesRefused) →
+    amounts ≡ given_by b rows → k < length amounts →
     ((j : ℕ) → j < k → is_some (get_or amounts j None) ≡ true) → is_some (get_or amounts k None) ≡ false →
-    e ≡ missing_of b (run_month b (k / width b)) (get_or (column_numbers b) (k % width b) 0) → IsRefusalOf (missing b (entries_of b rows)) e
-missing_told b rows amounts k e is l before here told = by_kind e (told ∙ refl) (first_missing b (entries_of b rows) amounts k is l before here)
+    e ≡ missing_of b (run_month b (k / width b)) (get_or (column_numbers b) (k % width b) 0) →
+    IsRefusalOf (missing b (entries_of b rows)) e
+missing_told b rows amounts k e is l before here told =
+    by_kind e (told ∙ refl) (first_missing b (entries_of b rows) amounts k is l before here)
   where
-    by_kind : (e : SeriesRefused) → e ≡ missing_of b (run_month b (k / width b)) (get_or (column_numbers b) (k % width b) 0) →
-        missing b (entries_of b rows) ≡ Some (missing_of b (run_month b (k / width b)) (get_or (column_numbers b) (k % width b) 0)) → IsRefusalOf (missing b (entries_of b rows)) e
+    by_kind : (e : SeriesRefused) →
+        e ≡ missing_of b (run_month b (k / width b)) (get_or (column_numbers b) (k % width b) 0) →
+        missing b (entries_of b rows) ≡ Some
+        (missing_of b (run_month b (k / width b)) (get_or (column_numbers b) (k % width b) 0)) →
+        IsRefusalOf (missing b (entries_of b rows)) e
     by_kind refused.OutOfMemory same first = tt
     by_kind (refused.Record f n) same first = first ∙ ap (λ x. Some x) (sym same)
     by_kind (refused.Missing m n) same first = first ∙ ap (λ x. Some x) (sym same)
@@ -290,10 +343,18 @@ pub record IsRead (b : Basin) (text : List ℕ) (r : Result Inflows SeriesRefuse
   pub faultless : OnOk r (series_fault b text ≡ None)
   pub refused : IfErr r (λ e. IsSeriesRefusal e b text)
 
-pub series_read : (b c : Basin) (text : List ℕ) (amounts : List (Option ℕ)) (r : Result Inflows SeriesRefused) → c ≡ b → TookTable c (records_of text) amounts →
+pub series_read : (b c : Basin) (text : List ℕ) (amounts : List (Option ℕ)) (r : Result Inflows SeriesRefused) → c ≡ b →
+    TookTable c (records_of text) amounts →
     Completes c (body_of c (records_of text)) r → IsRead b text r
 series_read b c text amounts r same took done = subst (λ (x : Basin). IsRead x text r) same (by r done)
   where
     by : (r : Result Inflows SeriesRefused) → Completes c (body_of c (records_of text)) r → IsRead c text r
     by (Ok series) h = record { spelled = h.2; valid = h.1; faultless = took.fault ∙ h.0; refused = tt }
-    by (Err e) h = record { spelled = tt; valid = tt; faultless = tt; refused = subst (λ (o : Option SeriesRefused). IsRefusalOf o e) (sym took.fault) h }
+    by (Err e) h =
+        record {
+          spelled = tt;
+          valid = tt;
+          faultless = tt;
+          refused =
+              subst (λ (o : Option SeriesRefused). IsRefusalOf o e) (sym took.fault) h;
+        }

@@ -1,5 +1,6 @@
 -- The months of a run.
-use Rattle.std.proofs.Common.{◌≡◌, ℕ, zero, suc, ◌+◌, ◌*◌, ◌<◌, ◌≤◌, Bool, true, false, refl, sym, ap, ◌∙◌, arith, length, get_or, map, inl, inr}
+use Rattle.std.proofs.Common.{◌≡◌, ℕ, zero, suc, ◌+◌, ◌*◌, ◌<◌, ◌≤◌, Bool, true, false, refl, sym, ap, ◌∙◌, arith}
+use Rattle.std.proofs.Common.{length, get_or, map, inl, inr}
 use Rattle.std.specs.Prelude.{◌==◌, ◌&&◌, ◌||◌}
 use Rattle.std.specs.List.{list_any, range_with_len}
 use Rattle.std.proofs.lemmas.Bool.{cases_Bool}
@@ -34,17 +35,20 @@ pub same_month_itself : (m : Month) → is_same_month m m ≡ true
 same_month_itself m = rw (same_itself m.year, same_itself m.month) refl
 
 -- a month by how many months it is behind another
-pub month_behind : (first m : Month) (i : ℕ) → IsMonth first → IsMonth m → 12 * m.year + m.month ≡ 12 * first.year + first.month + i → m ≡ month_after first i
+pub month_behind : (first m : Month) (i : ℕ) → IsMonth first → IsMonth m →
+    12 * m.year + m.month ≡ 12 * first.year + first.month + i → m ≡ month_after first i
 month_behind first m i h k e =
     same_parts m (month_after first i) (omega (arith, h.month, k.month)) (omega (arith, h.month, k.month))
 
-pub number_after : (first : Month) (i : ℕ) → IsMonth first → 12 * (month_after first i).year + (month_after first i).month ≡ 12 * first.year + first.month + i
+pub number_after : (first : Month) (i : ℕ) → IsMonth first →
+    12 * (month_after first i).year + (month_after first i).month ≡ 12 * first.year + first.month + i
 number_after first i h = omega (arith, h.month)
 
 -- the months of a run differ
 pub same_index : (b : Basin) (i k : ℕ) → IsMonth b.first → run_month b i ≡ run_month b k → i ≡ k
 same_index b i k h e =
-    let numbers : 12 * (run_month b i).year + (run_month b i).month ≡ 12 * (run_month b k).year + (run_month b k).month = ap (λ (m : Month). 12 * m.year + m.month) e in
+    let numbers : 12 * (run_month b i).year + (run_month b i).month ≡ 12 * (run_month b k).year + (run_month b k).month
+    = ap (λ (m : Month). 12 * m.year + m.month) e in
     omega (arith, number_after b.first i h, number_after b.first k h, numbers)
 
 length-range : (from n : ℕ) → length (range_with_len from n) ≡ n
@@ -54,7 +58,8 @@ length-range from (suc n) = ap suc (length-range (from + 1) n)
 pub length-months : (b : Basin) → length (months_of b) ≡ b.months
 length-months b = length-map (range_with_len 0 b.months) (λ i. run_month b i) ∙ length-range 0 b.months
 
-month_from : (b : Basin) (from n i : ℕ) (d : Month) → i < n → get_or (map (λ k. run_month b k) (range_with_len from n)) i d ≡ run_month b (from + i)
+month_from : (b : Basin) (from n i : ℕ) (d : Month) → i < n →
+    get_or (map (λ k. run_month b k) (range_with_len from n)) i d ≡ run_month b (from + i)
 month_from b from zero i d l = absurd (omega arith)
 month_from b from (suc n) zero d l = let same : from ≡ from + 0 = omega arith in ap (λ k. run_month b k) same
 month_from b from (suc n) (suc i) d l =
@@ -64,20 +69,24 @@ month_from b from (suc n) (suc i) d l =
 pub month_there : (b : Basin) (i : ℕ) (d : Month) → i < b.months → get_or (months_of b) i d ≡ run_month b i
 month_there b i d l = let same : 0 + i ≡ i = omega arith in month_from b 0 b.months i d l ∙ ap (λ k. run_month b k) same
 
-none_from : (b : Basin) (m : Month) (from n : ℕ) → ((i : ℕ) → from ≤ i → i < from + n → is_same_month m (run_month b i) ≡ false) →
+none_from : (b : Basin) (m : Month) (from n : ℕ) →
+    ((i : ℕ) → from ≤ i → i < from + n → is_same_month m (run_month b i) ≡ false) →
     list_any (λ other. is_same_month m other) (map (λ k. run_month b k) (range_with_len from n)) ≡ false
 none_from b m from zero h = refl
-none_from b m from (suc n) h = rw (h from (omega arith) (omega arith)) (none_from b m (from + 1) n (λ i l k. h i (omega arith) (omega arith)))
+none_from b m from (suc n) h =
+    rw (h from (omega arith) (omega arith)) (none_from b m (from + 1) n (λ i l k. h i (omega arith) (omega arith)))
 
 some_from : (b : Basin) (m : Month) (from n i : ℕ) → i < n → is_same_month m (run_month b (from + i)) ≡ true →
     list_any (λ other. is_same_month m other) (map (λ k. run_month b k) (range_with_len from n)) ≡ true
 some_from b m from zero i l h = absurd (omega arith)
 some_from b m from (suc n) zero l h =
-    let here : is_same_month m (run_month b from) ≡ true = let same : from ≡ from + 0 = omega arith in ap (λ k. is_same_month m (run_month b k)) same ∙ h in
+    let here : is_same_month m (run_month b from) ≡ true = let same : from ≡ from + 0 = omega arith in
+    ap (λ k. is_same_month m (run_month b k)) same ∙ h in
     rw here refl
 some_from b m from (suc n) (suc i) l h =
     let same : from + 1 + i ≡ from + suc i = omega arith in
-    or_true (is_same_month m (run_month b from)) (some_from b m (from + 1) n i (omega arith) (ap (λ k. is_same_month m (run_month b k)) same ∙ h))
+    or_true (is_same_month m (run_month b from))
+    (some_from b m (from + 1) n i (omega arith) (ap (λ k. is_same_month m (run_month b k)) same ∙ h))
   where
     or_true : (a : Bool) {c : Bool} → c ≡ true → a || c ≡ true
     or_true true h = refl
@@ -87,14 +96,19 @@ some_from b m from (suc n) (suc i) l h =
 pub month_in_run : (b : Basin) (i : ℕ) → i < b.months → is_in_run b (run_month b i) ≡ true
 month_in_run b i l =
     let same : i ≡ 0 + i = omega arith in
-    some_from b (run_month b i) 0 b.months i l (sym (ap (λ k. is_same_month (run_month b i) (run_month b k)) same) ∙ same_month_itself (run_month b i))
+    some_from b (run_month b i) 0 b.months i l (sym (ap (λ k. is_same_month (run_month b i) (run_month b k)) same)
+    ∙ same_month_itself (run_month b i))
 
 -- a month before the run or behind it
-pub month_outside : (b : Basin) (m : Month) → IsMonth b.first → ((i : ℕ) → i < b.months → 12 * m.year + m.month ≡ 12 * b.first.year + b.first.month + i → ⊥) → is_in_run b m ≡ false
+pub month_outside : (b : Basin) (m : Month) → IsMonth b.first →
+    ((i : ℕ) → i < b.months → 12 * m.year + m.month ≡ 12 * b.first.year + b.first.month + i → ⊥) → is_in_run b m ≡ false
 month_outside b m h outside = none_from b m 0 b.months (λ i l k. differs i (outside i (omega arith)))
   where
-    differs : (i : ℕ) → (12 * m.year + m.month ≡ 12 * b.first.year + b.first.month + i → ⊥) → is_same_month m (run_month b i) ≡ false
+    differs : (i : ℕ) → (12 * m.year + m.month ≡ 12 * b.first.year + b.first.month + i → ⊥) →
+        is_same_month m (run_month b i) ≡ false
     differs i other_number = elim (cases_Bool (is_same_month m (run_month b i))) [
-      | inl same ↦ absurd (other_number (ap (λ (n : Month). 12 * n.year + n.month) (same_month_is m (run_month b i) same) ∙ number_after b.first i h))
+      | inl same ↦
+          absurd (other_number (ap (λ (n : Month). 12 * n.year + n.month) (same_month_is m (run_month b i) same)
+          ∙ number_after b.first i h))
       | inr other ↦ other
     ]

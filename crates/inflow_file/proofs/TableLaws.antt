@@ -1,5 +1,6 @@
 -- The records of a table, from the first to the last.
-use Rattle.std.proofs.Common.{◌≡◌, ℕ, ◌+◌, Bool, true, false, map, refl, sym, ap, ◌∙◌, List, [], ◌∷◌, ◌++◌, append_assoc, Option, Some, None, Result, Ok, Err, MatchResult}
+use Rattle.std.proofs.Common.{◌≡◌, ℕ, ◌+◌, Bool, true, false, map, refl, sym, ap, ◌∙◌, List, [], ◌∷◌, ◌++◌}
+use Rattle.std.proofs.Common.{append_assoc, Option, Some, None, Result, Ok, Err, MatchResult}
 use Rattle.std.specs.Prelude.{◌||◌}
 use Rattle.std.specs.Result.{result_ok}
 use Rattle.std.proofs.lemmas.List.{append-nil}
@@ -8,7 +9,8 @@ use Rattle.water_model.specs.declared.types.Basin.{Basin}
 use Rattle.inflow_file.specs.CsvRecords.{is_header, with_kind}
 use Rattle.inflow_file.specs.Entries.{read_record}
 use Rattle.inflow_file.specs.Given.{given, Takes, TakesAll, TakesTable}
-use Rattle.inflow_file.specs.SeriesFaults.{IsRefusalOf, entries_of, first_fault, record_fault, repeats, table_fault, tells_kinds}
+use Rattle.inflow_file.specs.SeriesFaults.{IsRefusalOf, entries_of, first_fault, record_fault, repeats, table_fault}
+use Rattle.inflow_file.specs.SeriesFaults.{tells_kinds}
 use Rattle.inflow_file.specs.declared.entry.Entry.{Entry}
 use Rattle.inflow_file.specs.declared.refused.SeriesFault.{SeriesFault}
 use Rattle.inflow_file.specs.declared.refused.SeriesFault.TheVariants as fault
@@ -16,13 +18,15 @@ use Rattle.inflow_file.specs.declared.refused.SeriesRefused.{SeriesRefused}
 use Rattle.inflow_file.specs.declared.refused.SeriesRefused.TheVariants as refused
 
 -- the entries of one record more
-entries_more : (b : Basin) (before : List (List (List ℕ))) (row : List (List ℕ)) (e : Entry) → Ok e ≡ read_record b row →
+entries_more : (b : Basin) (before : List (List (List ℕ))) (row : List (List ℕ)) (e : Entry) →
+    Ok e ≡ read_record b row →
     entries_of b (before ++ row ∷ []) ≡ entries_of b before ++ e ∷ []
 entries_more b before row e reads =
     filter_map-append (λ r. result_ok (read_record b r)) before (row ∷ []) ∙ rw (← reads) refl
 
 -- an entry that is entered or refused is a record that is taken or refused
-pub entry_taken : (b : Basin) (before : List (List (List ℕ))) (row : List (List ℕ)) (e : Entry) (old new : List (Option ℕ)) (result : Result (Unit {0}) SeriesFault) →
+pub entry_taken : (b : Basin) (before : List (List (List ℕ))) (row : List (List ℕ)) (e : Entry)
+    (old new : List (Option ℕ)) (result : Result (Unit {0}) SeriesFault) →
     Ok e ≡ read_record b row →
     (old ≡ given b (entries_of b before) → MatchResult result
     (λ _. (repeats b (entries_of b before) e ≡ false) × (new ≡ given b (entries_of b before ++ e ∷ [])))
@@ -36,40 +40,50 @@ entry_taken b before row e old new (Err f) reads enters is =
     rw (← reads, h.1) (ap (λ x. Some x) (sym h.0))
 
 -- a record at fault, a record without a fault, and no record
-pub fault_here : (b : Basin) (before : List (List (List ℕ))) (number : ℕ) (row : List (List ℕ)) (rows left : List (List (List ℕ))) (f : SeriesFault) →
-    left ≡ row ∷ rows → record_fault b before row ≡ Some f → first_fault b before number left ≡ Some (refused.Record f number)
+pub fault_here : (b : Basin) (before : List (List (List ℕ))) (number : ℕ) (row : List (List ℕ))
+    (rows left : List (List (List ℕ))) (f : SeriesFault) →
+    left ≡ row ∷ rows → record_fault b before row ≡ Some f →
+    first_fault b before number left ≡ Some (refused.Record f number)
 unfolding first_fault
 fault_here b before number row rows left f is at = rw (is, at) refl
 
-pub fault_later : (b : Basin) (before : List (List (List ℕ))) (number : ℕ) (row : List (List ℕ)) (rows left : List (List (List ℕ))) →
-    left ≡ row ∷ rows → record_fault b before row ≡ None → first_fault b before number left ≡ first_fault b (before ++ row ∷ []) (number + 1) rows
+pub fault_later : (b : Basin) (before : List (List (List ℕ))) (number : ℕ) (row : List (List ℕ))
+    (rows left : List (List (List ℕ))) →
+    left ≡ row ∷ rows → record_fault b before row ≡ None →
+    first_fault b before number left ≡ first_fault b (before ++ row ∷ []) (number + 1) rows
 unfolding first_fault
 fault_later b before number row rows left is at = rw (is, at) refl
 
-pub no_fault_left : (b : Basin) (before : List (List (List ℕ))) (number : ℕ) (left : List (List (List ℕ))) → left ≡ [] → first_fault b before number left ≡ None
+pub no_fault_left : (b : Basin) (before : List (List (List ℕ))) (number : ℕ) (left : List (List (List ℕ))) → left ≡ [] →
+    first_fault b before number left ≡ None
 unfolding first_fault
 no_fault_left b before number left is = rw is refl
 
 -- the records before and behind, one further
-pub one_further : {X : Type 0} (before left rows all : List X) (row : X) → left ≡ row ∷ rows → before ++ left ≡ all → (before ++ row ∷ []) ++ rows ≡ all
+pub one_further : {X : Type 0} (before left rows all : List X) (row : X) → left ≡ row ∷ rows → before ++ left ≡ all →
+    (before ++ row ∷ []) ++ rows ≡ all
 one_further before left rows all row is h = append_assoc before (row ∷ []) rows ∙ (ap (λ xs. before ++ xs) (sym is) ∙ h)
 
 pub none_further : {X : Type 0} (before left all : List X) → left ≡ [] → before ++ left ≡ all → before ≡ all
 none_further before left all is h = sym (append-nil before) ∙ (ap (λ xs. before ++ xs) (sym is) ∙ h)
 
 -- the records of a table whose header is one are all taken, or refused
-pub table_taken : (b : Basin) (header : List (List ℕ)) (rows table : List (List (List ℕ))) (kinds : Bool) (new : List (Option ℕ)) (result : Result (Unit {0}) SeriesRefused) →
-    table ≡ header ∷ rows → kinds ≡ tells_kinds b header → (is_header header || kinds) ≡ true → TakesAll b (map (with_kind kinds) rows) new result → TakesTable b table new result
+pub table_taken : (b : Basin) (header : List (List ℕ)) (rows table : List (List (List ℕ))) (kinds : Bool)
+    (new : List (Option ℕ)) (result : Result (Unit {0}) SeriesRefused) →
+    table ≡ header ∷ rows → kinds ≡ tells_kinds b header → (is_header header || kinds) ≡ true →
+    TakesAll b (map (with_kind kinds) rows) new result → TakesTable b table new result
 table_taken b header rows table kinds new (Ok done) is tells good took = record {
   fault = rw (is, ← tells, good, took.0) refl;
   given = rw (is, ← tells) took.1;
 }
 table_taken b header rows table kinds new (Err e) is tells good took = by_kind e took
   where
-    first : (e : SeriesRefused) → first_fault b [] 2 (map (with_kind kinds) rows) ≡ Some e → table_fault b table ≡ Some e
+    first : (e : SeriesRefused) → first_fault b [] 2 (map (with_kind kinds) rows) ≡ Some e →
+        table_fault b table ≡ Some e
     first e h = rw (is, ← tells, good, h) refl
 
-    by_kind : (e : SeriesRefused) → IsRefusalOf (first_fault b [] 2 (map (with_kind kinds) rows)) e → IsRefusalOf (table_fault b table) e
+    by_kind : (e : SeriesRefused) → IsRefusalOf (first_fault b [] 2 (map (with_kind kinds) rows)) e →
+        IsRefusalOf (table_fault b table) e
     by_kind refused.OutOfMemory h = tt
     by_kind (refused.Record f n) h = first (refused.Record f n) h
     by_kind (refused.Missing m n) h = first (refused.Missing m n) h
@@ -77,5 +91,6 @@ table_taken b header rows table kinds new (Err e) is tells good took = by_kind e
 
 -- and one without a header is refused
 pub no_header : (b : Basin) (header : List (List ℕ)) (rows table : List (List (List ℕ))) (kinds : Bool) →
-    table ≡ header ∷ rows → kinds ≡ tells_kinds b header → (is_header header || kinds) ≡ false → table_fault b table ≡ Some (refused.Record fault.Header 1)
+    table ≡ header ∷ rows → kinds ≡ tells_kinds b header → (is_header header || kinds) ≡ false →
+    table_fault b table ≡ Some (refused.Record fault.Header 1)
 no_header b header rows table kinds is tells bad = rw (is, ← tells, bad) refl

@@ -1,5 +1,6 @@
 -- The amounts of some columns out of those of all.
-use Rattle.std.specs.Prelude.{◌≡◌, ℕ, ◌+◌, ◌*◌, ◌/◌, ◌%◌, ◌<◌, List, length, Option, None, slice_index, slice_index_or, unwrap_or}
+use Rattle.std.specs.Prelude.{◌≡◌, ℕ, ◌+◌, ◌*◌, ◌/◌, ◌%◌, ◌<◌, List, length, Option, None, slice_index, slice_index_or}
+use Rattle.std.specs.Prelude.{unwrap_or}
 
 -- number k of the amounts of so many columns from one on, where all columns have `width` in each month
 abbrev pub cell_in : List (Option ℕ) → ℕ → ℕ → ℕ → ℕ → ℕ

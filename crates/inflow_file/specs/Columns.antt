@@ -1,5 +1,6 @@
 -- The columns of a series: for what it has an amount in each month.
-use Rattle.std.specs.Prelude.{◌≡◌, ℕ, ◌+◌, ◌-◌, ◌<◌, List, length, slice_index, filter, nat_lt, Bool, true, if◌then◌else◌}
+use Rattle.std.specs.Prelude.{◌≡◌, ℕ, ◌+◌, ◌-◌, ◌<◌, List, length, slice_index, filter, nat_lt, Bool, true}
+use Rattle.std.specs.Prelude.{if◌then◌else◌}
 use Rattle.water_model.specs.Hydrology.{place_in}
 use Rattle.water_model.specs.Places.{numbers_from}
 use Rattle.water_model.specs.Valid.{is_gauged, is_in_series}

@@ -18,7 +18,8 @@ is_header _ = false
 -- the record has exactly the fields `month`, `kind`, `name` and `amount`
 abbrev pub is_kind_header : List (List ℕ) → Bool
 is_kind_header (month ∷ kind ∷ name ∷ amount ∷ []) =
-    (bytes_eq month (codes "month") && bytes_eq kind (codes "kind")) && (bytes_eq name (codes "name") && bytes_eq amount (codes "amount"))
+    (bytes_eq month (codes "month") && bytes_eq kind (codes "kind")) && (bytes_eq name (codes "name") && bytes_eq amount
+    (codes "amount"))
 is_kind_header _ = false
 
 -- a record behind the header of three fields is an inflow

@@ -3,7 +3,8 @@ use Rattle.std.specs.Prelude.{◌≡◌, ℕ, ◌++◌, ◌∷◌, [], List, map
 use Rattle.water_model.specs.Valid.{IsSeriesOf}
 use Rattle.water_model.specs.declared.types.Basin.{Basin}
 use Rattle.water_model.specs.declared.types.Inflows.{Inflows}
-use Rattle.inflow_file.specs.SeriesFaults.{IsRefusalOf, SpellsAmounts, amount_for, body_of, due, entries_of, first_fault, missing, record_fault, table_fault}
+use Rattle.inflow_file.specs.SeriesFaults.{IsRefusalOf, SpellsAmounts, amount_for, body_of, due, entries_of}
+use Rattle.inflow_file.specs.SeriesFaults.{first_fault, missing, record_fault, table_fault}
 use Rattle.inflow_file.specs.declared.entry.Entry.{Entry}
 use Rattle.inflow_file.specs.declared.refused.SeriesFault.{SeriesFault}
 use Rattle.inflow_file.specs.declared.refused.SeriesRefused.{SeriesRefused}
@@ -17,7 +18,8 @@ abbrev pub given_by : Basin → List (List (List ℕ)) → List (Option ℕ)
 given_by b rows = given b (entries_of b rows)
 
 -- a record after some others is taken, or refused by its first fault
-abbrev pub Takes : Basin → List (List (List ℕ)) → List (List ℕ) → List (Option ℕ) → List (Option ℕ) → Result (Unit {0}) SeriesFault → Type 0
+abbrev pub Takes : Basin → List (List (List ℕ)) → List (List ℕ) → List (Option ℕ) → List (Option ℕ) →
+    Result (Unit {0}) SeriesFault → Type 0
 Takes b before row old new result = old ≡ given_by b before → MatchResult result
     (λ _. (record_fault b before row ≡ None) × (new ≡ given_by b (before ++ row ∷ [])))
     (λ fault. record_fault b before row ≡ Some fault)
@@ -39,5 +41,6 @@ TakesTable b table new (Err e) = IsRefusalOf (table_fault b table) e
 
 -- the series of the records behind the header is complete, or an amount is missing
 abbrev pub Completes : Basin → List (List (List ℕ)) → Result Inflows SeriesRefused → Type 0
-Completes b rows (Ok series) = (missing b (entries_of b rows) ≡ None) × IsSeriesOf b series × SpellsAmounts b rows series
+Completes b rows (Ok series) = (missing b (entries_of b rows) ≡ None) × IsSeriesOf b series ×
+    SpellsAmounts b rows series
 Completes b rows (Err e) = IsRefusalOf (missing b (entries_of b rows)) e

@@ -1,5 +1,6 @@
 -- The faults of a series, and what a series without a fault spells.
-use Rattle.std.specs.Prelude.{◌≡◌, ℕ, ◌+◌, ◌-◌, ◌<◌, ◌==◌, nat_lt, ◌&&◌, ◌||◌, not, List, [], ◌∷◌, ◌++◌, length, map, Bool, true, Option, Some, None, is_some, option_map, Result, Ok, Err, if◌then◌else◌, ⊤}
+use Rattle.std.specs.Prelude.{◌≡◌, ℕ, ◌+◌, ◌-◌, ◌<◌, ◌==◌, nat_lt, ◌&&◌, ◌||◌, not, List, [], ◌∷◌, ◌++◌, length, map}
+use Rattle.std.specs.Prelude.{Bool, true, Option, Some, None, is_some, option_map, Result, Ok, Err, if◌then◌else◌, ⊤}
 use Rattle.std.specs.List.{find, filter_map, flat_map, list_any, range_with_len}
 use Rattle.std.specs.Option.{option_or}
 use Rattle.std.specs.Result.{result_ok}
@@ -85,7 +86,8 @@ abbrev pub table_fault : Basin → List (List (List ℕ)) → Option SeriesRefus
 table_fault b [] = Some (refused.Record fault.Header 1)
 table_fault b (header ∷ rows) =
     if is_header header || tells_kinds b header
-    then option_or (first_fault b [] 2 (body_of b (header ∷ rows))) (missing b (entries_of b (body_of b (header ∷ rows))))
+    then option_or (first_fault b [] 2 (body_of b (header ∷ rows)))
+    (missing b (entries_of b (body_of b (header ∷ rows))))
     else Some (refused.Record fault.Header 1)
 
 -- the first fault of bytes, as the series of a basin
@@ -106,7 +108,8 @@ pub record SpellsAmounts (b : Basin) (rows : List (List (List ℕ))) (series : I
   pub each : (node i : ℕ) → node < length b.nodes → is_gauged b node ≡ true → i < b.months →
       amount_for (entries_of b rows) (run_month b i) node ≡ Some (inflow_at b series node i)
   pub wants : (right i : ℕ) → right < length b.rights → is_in_series b right ≡ true → i < b.months →
-      amount_for (entries_of b rows) (run_month b i) (right_number b right) ≡ Some (table_at series.wanted series.want i right)
+      amount_for (entries_of b rows) (run_month b i) (right_number b right) ≡ Some
+      (table_at series.wanted series.want i right)
 
 abbrev pub SpellsSeries : Basin → List ℕ → Inflows → Type 0
 SpellsSeries b text series = SpellsAmounts b (body_of b (records_of text)) series

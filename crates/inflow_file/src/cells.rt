@@ -1,5 +1,7 @@
 //! The amounts that records give, column by column in each month of the run.
-ghost use Rattle.std.specs.Prelude.{◌≡◌, ◌++◌, ◌∷◌, [], ◌<◌, ◌≤◌, ◌+◌, ◌*◌, ◌/◌, ◌%◌, List, ℕ, length, map, slice_index, slice_index_or, is_some, unwrap_or, Some, None, MatchOption, MatchResult, IfOk, true, false};
+ghost use Rattle.std.specs.Prelude.{◌≡◌, ◌++◌, ◌∷◌, [], ◌<◌, ◌≤◌, ◌+◌, ◌*◌, ◌/◌, ◌%◌, List, ℕ, length, map};
+ghost use Rattle.std.specs.Prelude.{slice_index, slice_index_or, is_some, unwrap_or, Some, None, MatchOption};
+ghost use Rattle.std.specs.Prelude.{MatchResult, IfOk, true, false};
 ghost use Rattle.water_text.specs.Months.{IsMonth};
 ghost use Rattle.water_model.specs.Hydrology.{run_month, place_in};
 ghost use Rattle.water_model.specs.Valid.{IsValidBasin};
@@ -23,7 +25,8 @@ use water_text::month::Month;
 fn index_in_run(basin: &Basin, month: Month) -> Option<u32>
     requires basin { IsValidBasin basin.now }
     requires month { IsMonth month }
-    ensures { MatchOption result (is_in_run basin.now month ≡ false) (λ i. (i < basin.now.months) × (month ≡ run_month basin.now i)) }
+    ensures { MatchOption result (is_in_run basin.now month ≡ false) (λ i. (i < basin.now.months) ×
+        (month ≡ run_month basin.now i)) }
 {
     let first = 12 * u32::from(basin.first.year) + u32::from(basin.first.month);
     let number = 12 * u32::from(month.year) + u32::from(month.month);
@@ -41,14 +44,15 @@ fn place_of(columns: &Columns, index: u32, number: u32) -> usize
     requires basin { IsValidBasin columns.now.basin.now }
     requires index { index < columns.now.basin.now.months }
     requires column { IsColumn columns.now.basin.now number }
-    ensures place { result ≡ index * length (column_numbers columns.now.basin.now) + place_in (column_numbers columns.now.basin.now) number }
+    ensures place { result ≡ index * length (column_numbers columns.now.basin.now) + place_in
+        (column_numbers columns.now.basin.now) number }
     ensures within { result < columns.now.basin.now.months * length (column_numbers columns.now.basin.now) }
 {
     index as usize * columns.count() + columns.place_of(number) as usize
 }
 
-/// Enters the amount of an entry, or refuses the entry where an earlier one has its month and column. An entry for a month
-/// outside the run changes nothing.
+/// Enters the amount of an entry, or refuses the entry where an earlier one has its month and column. An entry for a
+/// month outside the run changes nothing.
 pub(crate) fn enter(
     columns: &Columns,
     amounts: &mut [Option<u64>],
@@ -58,7 +62,8 @@ pub(crate) fn enter(
     requires entry { IsEntry columns.now.basin.now entry.now }
     requires count { length amounts.old ≡ columns.now.basin.now.months * length (column_numbers columns.now.basin.now) }
     ensures { (earlier : List Entry) → amounts.old ≡ given columns.now.basin.now earlier → MatchResult result
-        (λ _. (repeats columns.now.basin.now earlier entry.now ≡ false) × (amounts.new ≡ given columns.now.basin.now (earlier ++ entry.now ∷ [])))
+        (λ _. (repeats columns.now.basin.now earlier entry.now ≡ false) ×
+        (amounts.new ≡ given columns.now.basin.now (earlier ++ entry.now ∷ [])))
         (λ fault. (fault ≡ SeriesFault.Repeated) × (repeats columns.now.basin.now earlier entry.now ≡ true)) }
 {
     let Some(index) = index_in_run(columns.basin, entry.month) else {
@@ -109,7 +114,8 @@ fn missing_of(basin: &Basin, month: Month, number: u32) -> SeriesRefused
 fn missing_at(columns: &Columns, place: usize) -> SeriesRefused
     requires basin { IsValidBasin columns.now.basin.now }
     requires place { place < columns.now.basin.now.months * length (column_numbers columns.now.basin.now) }
-    ensures { result ≡ missing_of columns.now.basin.now (run_month columns.now.basin.now (place / length (column_numbers columns.now.basin.now)))
+    ensures { result ≡ missing_of columns.now.basin.now
+        (run_month columns.now.basin.now (place / length (column_numbers columns.now.basin.now)))
         (slice_index (column_numbers columns.now.basin.now) (place % length (column_numbers columns.now.basin.now))) }
 {
     let count = columns.count();
@@ -142,7 +148,9 @@ fn part_of(
     requires basin { IsValidBasin columns.now.basin.now }
     requires columns { from + count ≤ length (column_numbers columns.now.basin.now) }
     requires cells { length cells.now ≡ columns.now.basin.now.months * length (column_numbers columns.now.basin.now) }
-    ensures { IfOk result (λ part. IsPart cells.now (length (column_numbers columns.now.basin.now)) from columns.now.basin.now.months count part.items) }
+    ensures { IfOk result
+        (λ part. IsPart cells.now (length (column_numbers columns.now.basin.now)) from columns.now.basin.now.months
+        count part.items) }
 {
     let width = columns.count();
     let end = columns.basin.months as usize * count;
@@ -161,7 +169,8 @@ pub(crate) fn complete(
 ) -> Result<Inflows, SeriesRefused>
     requires basin { IsValidBasin columns.now.basin.now }
     requires count { length amounts.now ≡ columns.now.basin.now.months * length (column_numbers columns.now.basin.now) }
-    ensures { (rows : List (List (List ℕ))) → amounts.now ≡ given_by columns.now.basin.now rows → Completes columns.now.basin.now rows result }
+    ensures { (rows : List (List (List ℕ))) → amounts.now ≡ given_by columns.now.basin.now rows →
+        Completes columns.now.basin.now rows result }
 {
     let gap = first_gap(amounts);
     if gap < amounts.len() {

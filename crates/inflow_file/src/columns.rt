@@ -1,5 +1,6 @@
 //! The columns of a series: the gauged nodes of a basin, and its rights whose wants stand in the series.
-ghost use Rattle.std.specs.Prelude.{◌≡◌, ℕ, ◌+◌, ◌<◌, ◌≤◌, ◌++◌, ◌∷◌, [], length, slice_index, filter, true, false, codes, if◌then◌else◌, IfOk, IfSome, OnOk};
+ghost use Rattle.std.specs.Prelude.{◌≡◌, ℕ, ◌+◌, ◌<◌, ◌≤◌, ◌++◌, ◌∷◌, [], length, slice_index, filter, true, false};
+ghost use Rattle.std.specs.Prelude.{codes, if◌then◌else◌, IfOk, IfSome, OnOk};
 ghost use Rattle.basin_names.specs.Named.{node_named, right_named};
 ghost use Rattle.csv.specs.Records.{fields_of};
 ghost use Rattle.water_model.specs.Hydrology.{place_in};
@@ -26,8 +27,8 @@ struct Places {
     of_number: Vec<u32>,
 }
 
-/// A basin with its names, the columns of a series of it, and for each number how many columns stand before it. Nodes are
-/// numbered from 0, and rights go on behind them.
+/// A basin with its names, the columns of a series of it, and for each number how many columns stand before it. Nodes
+/// are numbered from 0, and rights go on behind them.
 #[derive(Drop)]
 pub(crate) struct Columns<'a> {
     pub basin: &'a Basin,
@@ -40,7 +41,8 @@ pub(crate) struct Columns<'a> {
     ghost right_names: { rights.basin.now ≡ basin.now },
     ghost columns_are: { numbers.items ≡ column_numbers basin.now },
     ghost count: { length places.items ≡ count_of_both basin.now },
-    ghost placed: { (n : ℕ) → n < count_of_both basin.now → is_column basin.now n ≡ true → slice_index places.items n ≡ place_in numbers.items n },
+    ghost placed: { (n : ℕ) → n < count_of_both basin.now → is_column basin.now n ≡ true →
+        slice_index places.items n ≡ place_in numbers.items n },
 }
 
 /// Whether a node is gauged.
@@ -78,7 +80,8 @@ fn is_column(basin: &Basin, number: u32) -> bool
 fn add_column(numbers: &mut Vec<u32>, basin: &Basin, number: u32) -> Result<(), AllocError>
     requires basin { IsValidBasin basin.now }
     requires number { number < count_of_both basin.now }
-    ensures { OnOk result (numbers.new.items ≡ numbers.old.items ++ (if is_column basin.now number then number ∷ [] else [])) }
+    ensures { OnOk result
+        (numbers.new.items ≡ numbers.old.items ++ (if is_column basin.now number then number ∷ [] else [])) }
 {
     if is_column(basin, number) {
         numbers.push(number)?;
@@ -110,7 +113,8 @@ fn places_of(alloc: Global, basin: &Basin) -> Result<Places, AllocError>
 
 fn add_gauge(gauged: &mut Vec<u32>, basin: &Basin, node: u32) -> Result<(), AllocError>
     requires { node < length basin.now.nodes }
-    ensures { OnOk result (gauged.new.items ≡ gauged.old.items ++ (if is_gauged basin.now node then node ∷ [] else [])) }
+    ensures { OnOk result
+        (gauged.new.items ≡ gauged.old.items ++ (if is_gauged basin.now node then node ∷ [] else [])) }
 {
     if is_gauged(basin, node) {
         gauged.push(node)?;
@@ -132,7 +136,8 @@ pub(crate) fn gauged_of(alloc: Global, basin: &Basin) -> Result<Vec<u32>, AllocE
 
 fn add_wanted(wanted: &mut Vec<u32>, basin: &Basin, right: u32) -> Result<(), AllocError>
     requires { right < length basin.now.rights }
-    ensures { OnOk result (wanted.new.items ≡ wanted.old.items ++ (if is_in_series basin.now right then right ∷ [] else [])) }
+    ensures { OnOk result
+        (wanted.new.items ≡ wanted.old.items ++ (if is_in_series basin.now right then right ∷ [] else [])) }
 {
     if is_in_series(basin, right) {
         wanted.push(right)?;

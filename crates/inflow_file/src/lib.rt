@@ -1,4 +1,5 @@
-//! Reads the table of gauged inflows and of wants by month: the series of a basin that the bytes spell, or the first fault in them.
+//! Reads the table of gauged inflows and of wants by month: the series of a basin that the bytes spell, or the first
+//! fault in them.
 #![tactic(auto)]
 
 mod cells;

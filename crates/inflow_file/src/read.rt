@@ -1,5 +1,6 @@
 //! Reads a series.
-ghost use Rattle.std.specs.Prelude.{◌≡◌, ◌++◌, ◌∷◌, [], ◌||◌, ◌<◌, ◌≤◌, ◌+◌, ◌*◌, ◌^◌, List, ℕ, length, map, None, Some, MatchResult, IfOk, IfErr, OnOk};
+ghost use Rattle.std.specs.Prelude.{◌≡◌, ◌++◌, ◌∷◌, [], ◌||◌, ◌<◌, ◌≤◌, ◌+◌, ◌*◌, ◌^◌, List, ℕ, length, map, None};
+ghost use Rattle.std.specs.Prelude.{Some, MatchResult, IfOk, IfErr, OnOk};
 ghost use Rattle.csv.specs.Records.{fields_of};
 ghost use Rattle.water_model.specs.Valid.{IsValidBasin, IsSeriesOf};
 ghost use Rattle.inflow_file.specs.Columns.{column_numbers};
@@ -25,7 +26,8 @@ fn take(
 ) -> Result<(), SeriesFault>
     requires basin { IsValidBasin columns.now.basin.now }
     requires count { length amounts.old ≡ columns.now.basin.now.months * length (column_numbers columns.now.basin.now) }
-    ensures { (before : List (List (List ℕ))) → Takes columns.now.basin.now before (with_kind kinds (fields_of row.now)) amounts.old amounts.new result }
+    ensures { (before : List (List (List ℕ))) →
+        Takes columns.now.basin.now before (with_kind kinds (fields_of row.now)) amounts.old amounts.new result }
 {
     let entry = match columns.read_record(kinds, row) {
         Ok(entry) => entry,
@@ -132,11 +134,12 @@ fn read_amounts(
 /// The bytes of a table of the header alone: the series of a basin without gauges and without wants in the series.
 pub const HEADER: &[u8] = b"month,node,amount\n";
 
-/// The series of a basin that a table spells: for each month of the run an inflow of each gauged node, and a want of each
-/// right whose wants stand in the series, in units of 1,000 cubic metres. Where the table is at fault, the first fault is told, and want of memory may come at any point.
+/// The series of a basin that a table spells: for each month of the run an inflow of each gauged node, and a want of
+/// each right whose wants stand in the series, in units of 1,000 cubic metres. Where the table is at fault, the first
+/// fault is told, and want of memory may come at any point.
 ///
-/// A record takes the time of a look-up by name. The memory is that of the series and of a mark for each of its amounts:
-/// records aren't kept.
+/// A record takes the time of a look-up by name. The memory is that of the series and of a mark for each of its
+/// amounts: records aren't kept.
 pub fn read_inflows(alloc: Global, basin: &Basin, text: &[u8]) -> Result<Inflows, SeriesRefused>
     requires { IsValidBasin basin.now }
     ensures spelled { IfOk result (SpellsSeries basin.now text.now) }

@@ -18,12 +18,13 @@ pub(crate) fn reader_of(alloc: Global, text: &[u8]) -> Reader<&[u8]>
         .from_reader(alloc, text)
 }
 
-/// Reads the next record into `row`, and says whether there was one. It takes an error of the reader underneath for want of memory:
-/// one over bytes in memory has no other.
+/// Reads the next record into `row`, and says whether there was one. It takes an error of the reader underneath for
+/// want of memory: one over bytes in memory has no other.
 pub(crate) fn read_row(reader: &mut Reader<&[u8]>, row: &mut ByteRecord) -> Result<bool, AllocError>
     requires { IsReading reader.old }
     ensures reading { IfOk result (λ found. found ≡ true → IsReading reader.new) }
-    ensures takes { IfOk result (λ found. TakesFirst found (fields_of row.new) (records_left reader.old) (records_left reader.new)) }
+    ensures takes { IfOk result
+        (λ found. TakesFirst found (fields_of row.new) (records_left reader.old) (records_left reader.new)) }
 {
     let Ok(found) = reader.read_byte_record(row) else {
         return Err(AllocError);

@@ -59,8 +59,8 @@ impl SeriesFault {
 pub enum SeriesRefused {
     /// A record is at fault. Records count from 1, and the header is one of them.
     Record { fault: SeriesFault, number: u64 },
-    /// No record is at fault, and none gives this gauged node an inflow in this month: the first month of the run in which
-    /// something is missing, and in it the first such node. Nodes are numbered from 0.
+    /// No record is at fault, and none gives this gauged node an inflow in this month: the first month of the run in
+    /// which something is missing, and in it the first such node. Nodes are numbered from 0.
     Missing { month: Month, node: u32 },
     /// The same of a want of this right, where no inflow of the month is missing. Rights are numbered from 0.
     MissingWant { month: Month, right: u32 },

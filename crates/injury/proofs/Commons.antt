@@ -1,10 +1,12 @@
 -- The pairs of common rights are those of one name.
-use Rattle.std.proofs.Common.{◌≡◌, ℕ, zero, suc, ◌<◌, Bool, true, cond, refl, sym, ◌∙◌, ap, subst, arith, List, [], ◌∷◌, length, get_or, inl, inr}
+use Rattle.std.proofs.Common.{◌≡◌, ℕ, zero, suc, ◌<◌, Bool, true, cond, refl, sym, ◌∙◌, ap, subst, arith, List, [], ◌∷◌}
+use Rattle.std.proofs.Common.{length, get_or, inl, inr}
 use Rattle.std.proofs.lemmas.Bool.{cases_order}
 use Rattle.std.proofs.lemmas.Bool.Decides.{nat_tests}
 use Rattle.std.proofs.lemmas.Option.{get_or_from_slice_get, slice_get_within}
 use Rattle.std.specs.List.{cons_option, position_or_len}
-use Rattle.std.specs.Prelude.{slice_get, nat_lt, Option, Some, None, unwrap_or, option_map, position, filter_map, bytes_eq, Contains}
+use Rattle.std.specs.Prelude.{slice_get, nat_lt, Option, Some, None, unwrap_or, option_map, position, filter_map}
+use Rattle.std.specs.Prelude.{bytes_eq, Contains}
 use Rattle.water_model.specs.Basin.{right_name}
 use Rattle.water_model.specs.Places.{seniors_first}
 use Rattle.water_model.specs.Valid.{IsValidBasin}
@@ -20,23 +22,30 @@ use Rattle.injury.specs.declared.pair.Pair.{Pair}
 use Rattle.injury.proofs.Pairs.{Each, IsPair, named, common_have_one_name}
 
 -- what holds of each element holds of one
-each_at : {X : Type 0} (P : X → Type 0) (xs : List X) (x : X) (k : ℕ) → Each P xs → k < length xs → get_or xs k x ≡ x → P x
+each_at : {X : Type 0} (P : X → Type 0) (xs : List X) (x : X) (k : ℕ) → Each P xs → k < length xs → get_or xs k x ≡ x →
+    P x
 each_at P [] x k h l e = absurd (omega arith)
 each_at P (y ∷ ys) x zero h l e = subst P e h.0
 each_at P (y ∷ ys) x (suc k) h l e = each_at P ys x k h.1 (omega arith) e
 
-found_at : {X : Type 0} (p : X → Bool) (xs : List X) (k : ℕ) (x : X) → slice_get xs k ≡ Some x → p x ≡ true → (i : ℕ) × (position p xs ≡ Some i)
+found_at : {X : Type 0} (p : X → Bool) (xs : List X) (k : ℕ) (x : X) → slice_get xs k ≡ Some x → p x ≡ true → (i : ℕ) ×
+    (position p xs ≡ Some i)
 found_at p xs k x at h =
-    let most = position_or_len-at_most p xs k x (slice_get_within xs k x at) (ap p (get_or_from_slice_get xs k x x at) ∙ h) in
-    let within = slice_get_within xs k x at in
-    (position_or_len p xs, ap (λ t. cond t (Some (position_or_len p xs)) None) (less (position_or_len p xs) (length xs) (omega arith)))
+    let most =
+    position_or_len-at_most p xs k x (slice_get_within xs k x at) (ap p (get_or_from_slice_get xs k x x at) ∙ h) in
+    let within = slice_get_within xs k x at in (
+      position_or_len p xs,
+      ap (λ t. cond t (Some (position_or_len p xs)) None)
+          (less (position_or_len p xs) (length xs) (omega arith)),
+    )
   where
     less : (i n : ℕ) → i < n → nat_lt i n ≡ true
     less i n l = grind (arith, nat_tests)
 
 module _ (first second : Basin) where
   -- by its name the right of the second basin is found
-  the_right : (r s : ℕ) → IsValidBasin second → HaveOneName first second r s → right_named second (right_name first r) ≡ Some s
+  the_right : (r s : ℕ) → IsValidBasin second → HaveOneName first second r s →
+      right_named second (right_name first r) ≡ Some s
   the_right r s valid one = by_entry (entry_at second.rights s one.in_second)
     where
       only : (i : ℕ) → right_named second (right_name first r) ≡ Some i → i ≡ s
@@ -63,8 +72,10 @@ module _ (first second : Basin) where
   among [] r s e h = absurd h
   among (x ∷ xs) r s e (inl here) =
       let p : Pair = record { first = r; second = s } in
-      let pair : pair_of first second x ≡ Some p = ap (pair_of first second) (sym here) ∙ ap (λ o. option_map (λ s. record { first = r; second = s }) o) e in
-      subst (λ (o : Option Pair). Contains (cons_option o (filter_map (pair_of first second) xs)) p) (sym pair) (0, omega arith, refl)
+      let pair : pair_of first second x ≡ Some p =
+      ap (pair_of first second) (sym here) ∙ ap (λ o. option_map (λ s. record { first = r; second = s }) o) e in
+      subst (λ (o : Option Pair). Contains (cons_option o (filter_map (pair_of first second) xs)) p) (sym pair)
+      (0, omega arith, refl)
   among (x ∷ xs) r s e (inr further) = behind (pair_of first second x) (among xs r s e further)
     where
       behind : (o : Option Pair) → Contains (filter_map (pair_of first second) xs) (record { first = r; second = s }) →
@@ -72,12 +83,15 @@ module _ (first second : Basin) where
       behind None c = c
       behind (Some q) c = (suc c.0, (let l = c.1 in omega arith), c.2)
 
-  among_common : (r s : ℕ) → IsValidBasin second → HaveOneName first second r s → Contains (common_rights first second) (record { first = r; second = s })
+  among_common : (r s : ℕ) → IsValidBasin second → HaveOneName first second r s →
+      Contains (common_rights first second) (record { first = r; second = s })
   unfolding common_rights
-  among_common r s valid one = among (seniors_first first) r s (the_right r s valid one) (seniors_have first.rights r one.in_first)
+  among_common r s valid one =
+      among (seniors_first first) r s (the_right r s valid one) (seniors_have first.rights r one.in_first)
 
 pub common_rights_have_one_name : CommonRightsHaveOneName
 common_rights_have_one_name first second r s valid = (
   (λ one. among_common first second r s valid one),
-  λ c. each_at (IsPair first second) (common_rights first second) (record { first = r; second = s }) c.0 (common_have_one_name first second) c.1 c.2,
+  λ c. each_at (IsPair first second) (common_rights first second) (record { first = r; second = s }) c.0
+      (common_have_one_name first second) c.1 c.2,
 )

@@ -75,13 +75,15 @@ abbrev fish : Right
 fish = right (codes "fish") 1880 (Instream 0) 30
 
 -- where the right at the top is senior, the other gets what it leaves
-one_injured : comparison_text (basin (old ∷ new 1920 ∷ [])) (basin (old ∷ new 1880 ∷ [])) (delivers (60 ∷ 20 ∷ []) ∷ []) (delivers (30 ∷ 50 ∷ []) ∷ [])
+one_injured : comparison_text (basin (old ∷ new 1920 ∷ [])) (basin (old ∷ new 1880 ∷ [])) (delivers (60 ∷ 20 ∷ []) ∷ [])
+    (delivers (30 ∷ 50 ∷ []) ∷ [])
     ≡ codes "injured 1900-01 old 60 30\ncompared 2 1\n"
 unfolding common_rights injuries row comparison_text by_seniority numbers_from digits
 one_injured = refl
 
 -- one more right that is junior to all injures nobody
-none_injured : comparison_text (basin (old ∷ [])) (basin (old ∷ new 1920 ∷ [])) (delivers (60 ∷ []) ∷ []) (delivers (60 ∷ 20 ∷ []) ∷ [])
+none_injured : comparison_text (basin (old ∷ [])) (basin (old ∷ new 1920 ∷ [])) (delivers (60 ∷ []) ∷ [])
+    (delivers (60 ∷ 20 ∷ []) ∷ [])
     ≡ codes "compared 1 0\n"
 unfolding common_rights injuries row comparison_text by_seniority numbers_from digits
 none_injured = refl
@@ -97,4 +99,5 @@ junior (suc zero) d l = refl
 junior (suc (suc k)) d l = absurd (omega arith)
 
 one_more : HasOneMore (basin (old ∷ fish ∷ [])) (basin (old ∷ new 1920 ∷ fish ∷ [])) 1 (new 1920)
-one_more = record { basin = refl; place = omega arith; no_zone = omega arith; last_of_kind = last; most_junior = junior }
+one_more =
+    record { basin = refl; place = omega arith; no_zone = omega arith; last_of_kind = last; most_junior = junior }

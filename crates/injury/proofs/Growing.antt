@@ -1,5 +1,6 @@
 -- What a comparison needs that goes on month by month.
-use Rattle.std.proofs.Common.{◌≡◌, ℕ, zero, suc, ◌+◌, ◌*◌, ◌<◌, ◌≤◌, sym, ◌∙◌, ap, arith, List, [], ◌∷◌, ◌++◌, length, append-nil, append_assoc, length-append}
+use Rattle.std.proofs.Common.{◌≡◌, ℕ, zero, suc, ◌+◌, ◌*◌, ◌<◌, ◌≤◌, sym, ◌∙◌, ap, arith, List, [], ◌∷◌, ◌++◌, length}
+use Rattle.std.proofs.Common.{append-nil, append_assoc, length-append}
 use Rattle.std.specs.Prelude.{All}
 use Rattle.water_model.specs.History.{FitsBasin}
 use Rattle.water_model.specs.Places.{seniors_first}
@@ -21,7 +22,8 @@ each_all P Q (x ∷ xs) f h (suc k) d l = each_all P Q xs f h.1 k d (omega arith
 pub common_deliver : (first second : Basin) (m n : MonthRecord) → FitsBasin first m → FitsBasin second n →
     HaveDeliveries (common_rights first second) m n
 common_deliver first second m n f g =
-    each_all (IsPair first second) (λ p. (p.first < length m.delivered) × (p.second < length n.delivered)) (common_rights first second) (λ p one. (
+    each_all (IsPair first second) (λ p. (p.first < length m.delivered) × (p.second < length n.delivered))
+    (common_rights first second) (λ p one. (
       (let l = one.in_first in let e = f.delivered in omega arith),
       (let l = one.in_second in let e = g.delivered in omega arith),
     )) (common_have_one_name first second)
@@ -33,7 +35,8 @@ common_few first second valid =
     omega (arith, pairs_few first second (seniors_first first), length-by_seniority first.rights)
 
 -- one month more
-pub injuries_more : (first second : Basin) (records others : List MonthRecord) (m n : MonthRecord) → length records ≡ length others →
+pub injuries_more : (first second : Basin) (records others : List MonthRecord) (m n : MonthRecord) →
+    length records ≡ length others →
     injuries first second (records ++ m ∷ []) (others ++ n ∷ [])
     ≡ injuries first second records others ++ injuries_of (common_rights first second) m n
 unfolding injuries
@@ -42,7 +45,8 @@ injuries_more first second [] (y ∷ ys) m n e = absurd (omega arith)
 injuries_more first second (x ∷ xs) [] m n e = absurd (omega arith)
 injuries_more first second (x ∷ xs) (y ∷ ys) m n e =
     ap (λ t. injuries_of (common_rights first second) x y ++ t) (injuries_more first second xs ys m n (omega arith))
-    ∙ sym (append_assoc (injuries_of (common_rights first second) x y) (injuries first second xs ys) (injuries_of (common_rights first second) m n))
+    ∙ sym (append_assoc (injuries_of (common_rights first second) x y) (injuries first second xs ys)
+    (injuries_of (common_rights first second) m n))
 
 -- in each month there are at most as many injuries as common rights
 pub injuries_few : (first second : Basin) (records others : List MonthRecord) →

@@ -1,10 +1,12 @@
 -- What a basin with one more right keeps of the first.
-use Rattle.std.proofs.Common.{◌≡◌, ℕ, zero, suc, ◌<◌, ◌≤◌, Bool, true, false, refl, sym, ◌∙◌, ap, ap₂, arith, List, [], ◌∷◌, length, inl, inr}
+use Rattle.std.proofs.Common.{◌≡◌, ℕ, zero, suc, ◌<◌, ◌≤◌, Bool, true, false, refl, sym, ◌∙◌, ap, ap₂, arith, List, []}
+use Rattle.std.proofs.Common.{◌∷◌, length, inl, inr}
 use Rattle.std.proofs.lemmas.Bool.{cases_lt}
 use Rattle.std.specs.Prelude.{slice_get, drop, Option, Some, None, unwrap_or, option_map, All}
 use Rattle.water_model.specs.Lookups.{of_entry}
 use Rattle.water_model.specs.Rights.{is_lower, priority}
-use Rattle.water_model.specs.Basin.{taking_node, taking_node_of_kind, instream_link, link_of_kind, is_senior, priority_of}
+use Rattle.water_model.specs.Basin.{taking_node, taking_node_of_kind, instream_link, link_of_kind, is_senior}
+use Rattle.water_model.specs.Basin.{priority_of}
 use Rattle.water_model.specs.History.{is_zone_of, is_zone_of_kind}
 use Rattle.water_model.specs.Valid.{is_diversion, is_diversion_kind, rank_of_kind}
 use Rattle.water_model.specs.declared.types.Basin.{Basin}
@@ -31,7 +33,8 @@ module _ (b : Basin) (at : ℕ) (x : Right) where
 
   -- where the rights of the first basin take, and what they are on
   pub moved_node : (r : ℕ) → at ≤ length b.rights → taking_node (with_right b at x) (moved at r) ≡ taking_node b r
-  moved_node r l = of_moved (λ y. taking_node_of_kind (with_right b at x) y.kind) None r l ∙ of_get (slice_get b.rights r)
+  moved_node r l =
+      of_moved (λ y. taking_node_of_kind (with_right b at x) y.kind) None r l ∙ of_get (slice_get b.rights r)
     where
       of_kind : (k : RightKind) → taking_node_of_kind (with_right b at x) k ≡ taking_node_of_kind b k
       of_kind (Diversion node) = refl
@@ -47,7 +50,8 @@ module _ (b : Basin) (at : ℕ) (x : Right) where
   pub moved_link : (r : ℕ) → at ≤ length b.rights → instream_link (with_right b at x) (moved at r) ≡ instream_link b r
   moved_link r l = of_moved (λ y. link_of_kind y.kind) None r l
 
-  pub moved_senior : (r s : ℕ) → at ≤ length b.rights → is_senior (with_right b at x) (moved at r) (moved at s) ≡ is_senior b r s
+  pub moved_senior : (r s : ℕ) → at ≤ length b.rights →
+      is_senior (with_right b at x) (moved at r) (moved at s) ≡ is_senior b r s
   moved_senior r s l = ap₂ is_lower (of_moved priority [] r l) (of_moved priority [] s l)
 
   -- the new right is junior to each
@@ -81,7 +85,8 @@ module _ (b : Basin) (at : ℕ) (x : Right) where
         no_rank_0 (Instream link) l = refl
         no_rank_0 (Zone reservoir level) l = refl
 
-        dropped : (xs : List Right) (n r : ℕ) → n ≤ r → All (λ y. rank_of_kind x.kind < rank_of_kind y.kind) (drop n xs) →
+        dropped : (xs : List Right) (n r : ℕ) → n ≤ r →
+            All (λ y. rank_of_kind x.kind < rank_of_kind y.kind) (drop n xs) →
             unwrap_or (option_map (λ y. is_diversion_kind y.kind) (slice_get xs r)) false ≡ false
         dropped [] n r l all = refl
         dropped (y ∷ ys) zero zero l all = no_rank_0 y.kind (all 0 y (omega arith))

@@ -1,5 +1,6 @@
 -- The list of injuries has each of them, and nothing else.
-use Rattle.std.proofs.Common.{◌≡◌, ℕ, zero, suc, ◌<◌, Bool, true, false, refl, sym, ◌∙◌, ap, subst, arith, List, [], ◌∷◌, ◌++◌, length, map, inl, inr, ◌⊎◌, if◌then◌else◌}
+use Rattle.std.proofs.Common.{◌≡◌, ℕ, zero, suc, ◌<◌, Bool, true, false, refl, sym, ◌∙◌, ap, subst, arith, List, []}
+use Rattle.std.proofs.Common.{◌∷◌, ◌++◌, length, map, inl, inr, ◌⊎◌, if◌then◌else◌}
 use Rattle.std.proofs.lemmas.Bool.Decides.{nat_tests}
 use Rattle.std.proofs.lemmas.List.Elements.{Contains-append_left, Contains-append_right, Contains-append_cases}
 use Rattle.std.specs.Prelude.{slice_get, slice_index, Some, filter, nat_lt, Contains}
@@ -15,14 +16,16 @@ use Rattle.injury.specs.declared.pair.Pair.{Pair}
 use Rattle.injury.proofs.Commons.{common_rights_have_one_name}
 
 -- what passes a test stands, as it is mapped, among what does
-kept : {X Y : Type 0} (f : X → Y) (p : X → Bool) (xs : List X) (x : X) → Contains xs x → p x ≡ true → Contains (map f (filter p xs)) (f x)
+kept : {X Y : Type 0} (f : X → Y) (p : X → Bool) (xs : List X) (x : X) → Contains xs x → p x ≡ true →
+    Contains (map f (filter p xs)) (f x)
 kept f p [] x c h = absurd (let l = c.1 in omega arith)
 kept {X} {Y} f p (y ∷ ys) x (zero, l, e) h =
     let passes : p y ≡ true = ap p e ∙ h in
     rw passes (0, omega arith, ap f e)
 kept {X} {Y} f p (y ∷ ys) x (suc k, l, e) h = by_test (p y) (kept f p ys x (k, omega arith, e) h)
   where
-    by_test : (t : Bool) → Contains (map f (filter p ys)) (f x) → Contains (map f (if t then y ∷ filter p ys else filter p ys)) (f x)
+    by_test : (t : Bool) → Contains (map f (filter p ys)) (f x) →
+        Contains (map f (if t then y ∷ filter p ys else filter p ys)) (f x)
     by_test true c = (suc c.0, (let m = c.1 in omega arith), c.2)
     by_test false c = c
 
@@ -33,12 +36,20 @@ pub record ComesFrom {X Y : Type 0} (f : X → Y) (p : X → Bool) (xs : List X)
   pub passes : p source ≡ true
   pub is : f source ≡ y
 
-further : {X Y : Type 0} (f : X → Y) (p : X → Bool) (x : X) (xs : List X) (y : Y) → ComesFrom f p xs y → ComesFrom f p (x ∷ xs) y
+further : {X Y : Type 0} (f : X → Y) (p : X → Bool) (x : X) (xs : List X) (y : Y) → ComesFrom f p xs y →
+    ComesFrom f p (x ∷ xs) y
 further f p x xs y c =
     let there = c.there in
-    record { source = c.source; there = (suc there.0, (let l = there.1 in omega arith), there.2); passes = c.passes; is = c.is }
+    record {
+      source = c.source;
+      there = (suc there.0, (let l = there.1 in omega arith), there.2);
+      passes =
+          c.passes;
+      is = c.is;
+    }
 
-comes : {X Y : Type 0} (f : X → Y) (p : X → Bool) (xs : List X) (y : Y) → Contains (map f (filter p xs)) y → ComesFrom f p xs y
+comes : {X Y : Type 0} (f : X → Y) (p : X → Bool) (xs : List X) (y : Y) → Contains (map f (filter p xs)) y →
+    ComesFrom f p xs y
 comes f p [] y c = absurd (let l = c.1 in omega arith)
 comes {X} {Y} f p (x ∷ xs) y c = by_test (p x) refl (comes f p xs y) c
   where
@@ -50,23 +61,28 @@ comes {X} {Y} f p (x ∷ xs) y c = by_test (p x) refl (comes f p xs y) c
 
 module _ (first second : Basin) (valid : IsValidBasin second) where
   -- an injury in one month
-  in_month : (m n : MonthRecord) (injury : Injury) (s : ℕ) → HaveOneName first second injury.right s → injury.month ≡ m.month →
-      injury.first ≡ slice_index m.delivered injury.right → injury.second ≡ slice_index n.delivered s → injury.second < injury.first →
+  in_month : (m n : MonthRecord) (injury : Injury) (s : ℕ) → HaveOneName first second injury.right s →
+      injury.month ≡ m.month →
+      injury.first ≡ slice_index m.delivered injury.right → injury.second ≡ slice_index n.delivered s →
+      injury.second < injury.first →
       Contains (injuries_of (common_rights first second) m n) injury
   in_month m n injury s common month delivered left less =
       let p : Pair = record { first = injury.right; second = s } in
       let same : injury_of m n p ≡ injury = rw (← month, ← delivered, ← left) refl in
       subst (λ (i : Injury). Contains (injuries_of (common_rights first second) m n) i) same
-      (kept (injury_of m n) (is_injured m n) (common_rights first second) p ((common_rights_have_one_name first second injury.right s valid).0 common)
+      (kept (injury_of m n) (is_injured m n) (common_rights first second) p
+      ((common_rights_have_one_name first second injury.right s valid).0 common)
       (test (slice_index n.delivered s) (slice_index m.delivered injury.right) (omega (arith, delivered, left, less))))
     where
       test : (y z : ℕ) → y < z → nat_lt y z ≡ true
       test y z l = grind (arith, nat_tests)
 
-  of_month : (m n : MonthRecord) (records others : List MonthRecord) (injury : Injury) → Contains (injuries_of (common_rights first second) m n) injury →
+  of_month : (m n : MonthRecord) (records others : List MonthRecord) (injury : Injury) →
+      Contains (injuries_of (common_rights first second) m n) injury →
       IsInjury first second (m ∷ records) (n ∷ others) injury
   of_month m n records others injury c =
-      let from : ComesFrom (injury_of m n) (is_injured m n) (common_rights first second) injury = comes (injury_of m n) (is_injured m n) (common_rights first second) injury c in
+      let from : ComesFrom (injury_of m n) (is_injured m n) (common_rights first second) injury =
+      comes (injury_of m n) (is_injured m n) (common_rights first second) injury c in
       subst (λ (i : Injury). IsInjury first second (m ∷ records) (n ∷ others) i) from.is
       (record {
         index = 0;
@@ -79,13 +95,15 @@ module _ (first second : Basin) (valid : IsValidBasin second) where
         month = refl;
         delivered = refl;
         left = refl;
-        less = less (slice_index n.delivered from.source.second) (slice_index m.delivered from.source.first) from.passes;
+        less = less (slice_index n.delivered from.source.second) (slice_index m.delivered from.source.first)
+            from.passes;
       })
     where
       less : (y z : ℕ) → nat_lt y z ≡ true → y < z
       less y z l = grind (arith, nat_tests)
 
-  next : (m n : MonthRecord) (records others : List MonthRecord) (injury : Injury) → IsInjury first second records others injury →
+  next : (m n : MonthRecord) (records others : List MonthRecord) (injury : Injury) →
+      IsInjury first second records others injury →
       IsInjury first second (m ∷ records) (n ∷ others) injury
   next m n records others injury is = record {
     index = suc is.index;
@@ -101,9 +119,12 @@ module _ (first second : Basin) (valid : IsValidBasin second) where
     less = is.less;
   }
 
-  listed : (records others : List MonthRecord) (i : ℕ) (m n : MonthRecord) (injury : Injury) (s : ℕ) → slice_get records i ≡ Some m → slice_get others i ≡ Some n →
-      HaveOneName first second injury.right s → injury.month ≡ m.month → injury.first ≡ slice_index m.delivered injury.right →
-      injury.second ≡ slice_index n.delivered s → injury.second < injury.first → Contains (injuries first second records others) injury
+  listed : (records others : List MonthRecord) (i : ℕ) (m n : MonthRecord) (injury : Injury) (s : ℕ) →
+      slice_get records i ≡ Some m → slice_get others i ≡ Some n →
+      HaveOneName first second injury.right s → injury.month ≡ m.month →
+      injury.first ≡ slice_index m.delivered injury.right →
+      injury.second ≡ slice_index n.delivered s → injury.second < injury.first →
+      Contains (injuries first second records others) injury
   unfolding injuries
   listed [] others i m n injury s here there common month delivered left less = cc
   listed (x ∷ xs) [] i m n injury s here there common month delivered left less = cc
@@ -116,7 +137,8 @@ module _ (first second : Basin) (valid : IsValidBasin second) where
       Contains-append_right (injuries_of (common_rights first second) x y) (injuries first second xs ys) injury
       (listed xs ys i m n injury s here there common month delivered left less)
 
-  is_injury : (records others : List MonthRecord) (injury : Injury) → Contains (injuries first second records others) injury →
+  is_injury : (records others : List MonthRecord) (injury : Injury) →
+      Contains (injuries first second records others) injury →
       IsInjury first second records others injury
   unfolding injuries
   is_injury [] others injury c = absurd (let l = c.1 in omega arith)
@@ -129,6 +151,7 @@ module _ (first second : Basin) (valid : IsValidBasin second) where
 
 pub injuries_are_all_listed : InjuriesAreAllListed
 injuries_are_all_listed first second records others injury valid = (
-  (λ is. listed first second valid records others is.index is.before is.after injury is.counterpart is.in_first is.in_second is.common is.month is.delivered is.left is.less),
+  (λ is. listed first second valid records others is.index is.before is.after injury is.counterpart is.in_first
+      is.in_second is.common is.month is.delivered is.left is.less),
   λ c. is_injury first second valid records others injury c,
 )

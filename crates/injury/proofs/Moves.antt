@@ -1,5 +1,6 @@
 -- Places behind an inserted one move on: what that does to lists and sums.
-use Rattle.std.proofs.Common.{◌≡◌, ℕ, zero, suc, ◌+◌, ◌<◌, ◌≤◌, Bool, true, false, refl, sym, ◌∙◌, ap, ap₂, arith, List, [], ◌∷◌, length, inl, inr}
+use Rattle.std.proofs.Common.{◌≡◌, ℕ, zero, suc, ◌+◌, ◌<◌, ◌≤◌, Bool, true, false, refl, sym, ◌∙◌, ap, ap₂, arith, List}
+use Rattle.std.proofs.Common.{[], ◌∷◌, length, inl, inr}
 use Rattle.std.proofs.lemmas.Bool.{cases_lt, cases_order}
 use Rattle.std.proofs.lemmas.Bool.Decides.{nat_tests}
 use Rattle.std.proofs.lemmas.List.Edits.{length-insert}
@@ -68,7 +69,8 @@ entry_at_new xs zero x l = refl
 entry_at_new [] (suc at) x l = absurd (omega arith)
 entry_at_new (y ∷ ys) (suc at) x l = entry_at_new ys at x (omega arith)
 
-pub one_longer : {X : Type 0} (xs : List X) (at : ℕ) (x : X) → at ≤ length xs → length (insert xs at x) ≡ suc (length xs)
+pub one_longer : {X : Type 0} (xs : List X) (at : ℕ) (x : X) → at ≤ length xs →
+    length (insert xs at x) ≡ suc (length xs)
 one_longer xs at x l = omega (arith, length-insert xs at x l)
 
 -- a sum over all places is that over the old ones and the new term
@@ -144,7 +146,8 @@ greatest_where_moved m n at p q f g len l none tests terms =
     ∙ greatest_same n p (λ r. q (moved at r)) f (λ r. g (moved at r)) tests terms)
 
 -- and numbers by their places
-pub number_at_moved : (xs : List ℕ) (at x r : ℕ) → at ≤ length xs → slice_index (insert xs at x) (moved at r) ≡ slice_index xs r
+pub number_at_moved : (xs : List ℕ) (at x r : ℕ) → at ≤ length xs →
+    slice_index (insert xs at x) (moved at r) ≡ slice_index xs r
 number_at_moved xs at x r l =
     sym (unwrap_or-slice_get (insert xs at x) (moved at r) 0)
     ∙ (ap (λ o. unwrap_or o 0) (entry_at_moved xs at x r l) ∙ unwrap_or-slice_get xs r 0)

@@ -15,13 +15,16 @@ use Rattle.injury.specs.declared.pair.Pair.{Pair}
 
 -- two lists of records with one outcome
 abbrev AreAlike : List MonthRecord → List MonthRecord → Type 0
-AreAlike records others = (i : ℕ) (m n : MonthRecord) → slice_get records i ≡ Some m → slice_get others i ≡ Some n → HaveSameOutcome m n
+AreAlike records others = (i : ℕ) (m n : MonthRecord) → slice_get records i ≡ Some m → slice_get others i ≡ Some n →
+    HaveSameOutcome m n
 
-month_injuries : (pairs : List Pair) (m m' n n' : MonthRecord) → HaveSameOutcome m m' → HaveSameOutcome n n' → injuries_of pairs m n ≡ injuries_of pairs m' n'
+month_injuries : (pairs : List Pair) (m m' n n' : MonthRecord) → HaveSameOutcome m m' → HaveSameOutcome n n' →
+    injuries_of pairs m n ≡ injuries_of pairs m' n'
 month_injuries pairs m m' n n' e f = rw (e.month, e.delivered, f.delivered) refl
 
 same_injuries : (first second : Basin) (records records' others others' : List MonthRecord) →
-    length records ≡ length records' → length others ≡ length others' → AreAlike records records' → AreAlike others others' →
+    length records ≡ length records' → length others ≡ length others' → AreAlike records records' →
+    AreAlike others others' →
     injuries first second records others ≡ injuries first second records' others'
 unfolding injuries
 same_injuries first second [] [] others others' e f h k = refl
@@ -31,12 +34,15 @@ same_injuries first second (m ∷ ms) (m' ∷ ms') [] [] e f h k = refl
 same_injuries first second (m ∷ ms) (m' ∷ ms') [] (n' ∷ ns') e f h k = absurd (omega arith)
 same_injuries first second (m ∷ ms) (m' ∷ ms') (n ∷ ns) [] e f h k = absurd (omega arith)
 same_injuries first second (m ∷ ms) (m' ∷ ms') (n ∷ ns) (n' ∷ ns') e f h k =
-    ap₂ (λ x y. x ++ y) (month_injuries (common_rights first second) m m' n n' (h 0 m m' refl refl) (k 0 n n' refl refl))
+    ap₂ (λ x y. x ++ y)
+    (month_injuries (common_rights first second) m m' n n' (h 0 m m' refl refl) (k 0 n n' refl refl))
     (same_injuries first second ms ms' ns ns' (omega arith) (omega arith) (λ i. h (suc i)) (λ i. k (suc i)))
 
 -- two runs of two basins have one list of injuries
-pub one_list : (first second : Basin) (series other : Inflows) (records records' others others' : List MonthRecord) → IsValidBasin first → IsValidBasin second →
-    IsHistory first series records → IsHistory first series records' → IsHistory second other others → IsHistory second other others' →
+pub one_list : (first second : Basin) (series other : Inflows) (records records' others others' : List MonthRecord) →
+    IsValidBasin first → IsValidBasin second →
+    IsHistory first series records → IsHistory first series records' → IsHistory second other others →
+    IsHistory second other others' →
     injuries first second records others ≡ injuries first second records' others'
 one_list first second series other records records' others others' valid valid' f f' g g' =
     same_injuries first second records records' others others' (f.whole ∙ sym f'.whole) (g.whole ∙ sym g'.whole)

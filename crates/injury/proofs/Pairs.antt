@@ -1,12 +1,14 @@
 -- The pairs of common rights.
-use Rattle.std.proofs.Common.{◌≡◌, ℕ, suc, ◌+◌, ◌<◌, ◌≤◌, Bool, true, false, refl, sym, ◌∙◌, ap, arith, List, [], ◌∷◌, ◌++◌, length, map, inl, inr, take, get_or}
+use Rattle.std.proofs.Common.{◌≡◌, ℕ, suc, ◌+◌, ◌<◌, ◌≤◌, Bool, true, false, refl, sym, ◌∙◌, ap, arith, List, [], ◌∷◌}
+use Rattle.std.proofs.Common.{◌++◌, length, map, inl, inr, take, get_or}
 use Rattle.std.proofs.lemmas.List.{take_all, take_more}
 use Rattle.std.proofs.lemmas.List.Elements.{filter_map-append}
 use Rattle.std.proofs.lemmas.Bool.Decides.{nat_tests}
 use Rattle.std.proofs.lemmas.List.Quantifiers.{position-Some}
 use Rattle.std.proofs.lemmas.Option.{get_or_from_slice_get}
 use Rattle.std.specs.List.{cons_option}
-use Rattle.std.specs.Prelude.{slice_index, slice_get, option_to_list, Option, Some, None, unwrap_or, position, filter, filter_map, option_map, bytes_eq, nat_lt}
+use Rattle.std.specs.Prelude.{slice_index, slice_get, option_to_list, Option, Some, None, unwrap_or, position, filter}
+use Rattle.std.specs.Prelude.{filter_map, option_map, bytes_eq, nat_lt}
 use Rattle.water_model.specs.Basin.{right_name}
 use Rattle.water_model.specs.Places.{seniors_first}
 use Rattle.water_model.specs.declared.types.Basin.{Basin}
@@ -26,7 +28,8 @@ position-within : {X : Type 0} (p : X → Bool) (xs : List X) (i : ℕ) → posi
 position-within p [] i h = cc
 position-within p (x ∷ xs) i h = (position-Some p (x ∷ xs) i x h).0
 
-position-passes : {X : Type 0} (p : X → Bool) (xs : List X) (i : ℕ) (x : X) → position p xs ≡ Some i → slice_get xs i ≡ Some x → p x ≡ true
+position-passes : {X : Type 0} (p : X → Bool) (xs : List X) (i : ℕ) (x : X) → position p xs ≡ Some i →
+    slice_get xs i ≡ Some x → p x ≡ true
 position-passes p xs i x h at = ap p (sym (get_or_from_slice_get xs i x x at)) ∙ (position-Some p xs i x h).1
 
 -- what holds of each element
@@ -35,7 +38,8 @@ Each P [] = Unit {0}
 Each P (x ∷ xs) = P x × Each P xs
 
 -- a right that was found by a name has it
-pub named : (b : Basin) (name : List ℕ) (s : ℕ) → right_named b name ≡ Some s → (right_name b s ≡ name) × (s < length b.rights)
+pub named : (b : Basin) (name : List ℕ) (s : ℕ) → right_named b name ≡ Some s → (right_name b s ≡ name) ×
+    (s < length b.rights)
 named b name s h = found (entry_at b.rights s within)
   where
     within : s < length b.rights
@@ -50,12 +54,14 @@ module _ (first second : Basin) where
   abbrev pub IsPair : Pair → Type 0
   IsPair p = HaveOneName first second p.first p.second
 
-  pairs_of : (xs : List ℕ) → ((r : ℕ) → Has xs r → r < length first.rights) → Each IsPair (filter_map (pair_of first second) xs)
+  pairs_of : (xs : List ℕ) → ((r : ℕ) → Has xs r → r < length first.rights) →
+      Each IsPair (filter_map (pair_of first second) xs)
   pairs_of [] within = tt
   pairs_of (r ∷ xs) within =
       one (right_named second (right_name first r)) refl (pairs_of xs (λ s h. within s (inr h)))
     where
-      one : (o : Option ℕ) → right_named second (right_name first r) ≡ o → Each IsPair (filter_map (pair_of first second) xs) →
+      one : (o : Option ℕ) → right_named second (right_name first r) ≡ o →
+          Each IsPair (filter_map (pair_of first second) xs) →
           Each IsPair (filter_map (pair_of first second) (r ∷ xs))
       one None e rest = rw e rest
       one (Some s) e rest =
@@ -80,7 +86,8 @@ each_then P Q (x ∷ xs) f h = (f x h.0, each_then P Q xs f h.1)
 
 -- a month in which each pair is delivered the same has no injury
 no_injury_in : (first second : Basin) (m n : MonthRecord) →
-    ((r s : ℕ) → HaveOneName first second r s → slice_index m.delivered r ≡ slice_index n.delivered s) → injuries_of (common_rights first second) m n ≡ []
+    ((r s : ℕ) → HaveOneName first second r s → slice_index m.delivered r ≡ slice_index n.delivered s) →
+    injuries_of (common_rights first second) m n ≡ []
 no_injury_in first second m n same =
     ap (map (injury_of m n)) (filter_none (is_injured m n) (common_rights first second)
     (each_then (IsPair first second) (λ p. is_injured m n p ≡ false) (common_rights first second)
@@ -91,7 +98,8 @@ no_injury_in first second m n same =
     not_less y z e = grind (arith, nat_tests)
 
 no_injury : (first second : Basin) (records others : List MonthRecord) →
-    ((i : ℕ) (m n : MonthRecord) → slice_get records i ≡ Some m → slice_get others i ≡ Some n → injuries_of (common_rights first second) m n ≡ []) →
+    ((i : ℕ) (m n : MonthRecord) → slice_get records i ≡ Some m → slice_get others i ≡ Some n →
+    injuries_of (common_rights first second) m n ≡ []) →
     injuries first second records others ≡ []
 unfolding injuries
 no_injury first second [] others none = refl
@@ -123,7 +131,8 @@ unfolding common_rights
 pairs_all first second order i l same = ap (filter_map (pair_of first second)) (take_all i order l ∙ same)
 
 -- there are no more pairs than rights
-pub pairs_few : (first second : Basin) (order : List ℕ) → length (filter_map (pair_of first second) order) ≤ length order
+pub pairs_few : (first second : Basin) (order : List ℕ) →
+    length (filter_map (pair_of first second) order) ≤ length order
 pairs_few first second [] = omega arith
 pairs_few first second (r ∷ order) = one (pair_of first second r) (pairs_few first second order)
   where

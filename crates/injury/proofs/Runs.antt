@@ -1,5 +1,6 @@
 -- Month by month: with one more right, and that a most junior one, the others are delivered the same.
-use Rattle.std.proofs.Common.{◌≡◌, ℕ, zero, suc, ◌+◌, ◌-◌, ◌*◌, ◌/◌, ◌<◌, ◌≤◌, Bool, true, false, refl, sym, ◌∙◌, ap, ap₂, subst, arith, List, [], ◌∷◌, length, map, inl, inr, take}
+use Rattle.std.proofs.Common.{◌≡◌, ℕ, zero, suc, ◌+◌, ◌-◌, ◌*◌, ◌/◌, ◌<◌, ◌≤◌, Bool, true, false, refl, sym, ◌∙◌, ap}
+use Rattle.std.proofs.Common.{ap₂, subst, arith, List, [], ◌∷◌, length, map, inl, inr, take}
 use Rattle.std.proofs.Common.{length-take}
 use Rattle.std.proofs.lemmas.Bool.{cases_lt, cases_order}
 use Rattle.std.proofs.lemmas.Grind.{same_number_lists}
@@ -11,7 +12,10 @@ use Rattle.water_model.specs.Lookups.{of_entry}
 use Rattle.water_model.specs.Basin.{instream_link, link_of_kind, right_name}
 use Rattle.water_model.specs.Plans.{IsGreatest, delivery}
 use Rattle.water_model.specs.Laws.{IsMetOrCut}
-use Rattle.water_model.specs.Hydrology.{run_month, in_year, inflow_at, inflow_of_kind, stored_at, evaporation, delivered_in, delivered_before, returned_by, returned_at, table_at, number_of, cap_by_link, target_of, water_year, used_in_year, used_by_volume, used_of, want_by_volume, want_of}
+use Rattle.water_model.specs.Hydrology.{run_month, in_year, inflow_at, inflow_of_kind, stored_at, evaporation}
+use Rattle.water_model.specs.Hydrology.{delivered_in, delivered_before, returned_by, returned_at, table_at, number_of}
+use Rattle.water_model.specs.Hydrology.{cap_by_link, target_of, water_year, used_in_year, used_by_volume, used_of}
+use Rattle.water_model.specs.Hydrology.{want_by_volume, want_of}
 use Rattle.water_model.specs.History.{IsPartialHistory, Follows, is_zone_of, is_zone_of_kind, opening_after}
 use Rattle.water_model.specs.Valid.{IsValidBasin, IsValidReturn, IsValidRight, is_gauged, is_gauged_kind}
 use Rattle.water_model.specs.declared.types.Basin.{Basin}
@@ -60,8 +64,12 @@ met_or_cut b series before m follows r l = elim (cases_lt (slice_index m.deliver
 -- what was delivered to a right in the months so far
 delivered_more : (records others : List MonthRecord) (i : ℕ) (m n : MonthRecord) (r s : ℕ) →
     slice_get records i ≡ Some m → slice_get others i ≡ Some n → slice_index m.delivered r ≡ slice_index n.delivered s →
-    ((j : ℕ) → delivered_in (map (λ k. k.delivered) (take i records)) r j ≡ delivered_in (map (λ k. k.delivered) (take i others)) s j) →
-    (j : ℕ) → delivered_in (map (λ k. k.delivered) (take (suc i) records)) r j ≡ delivered_in (map (λ k. k.delivered) (take (suc i) others)) s j
+    ((j : ℕ) →
+    delivered_in (map (λ k. k.delivered) (take i records)) r j ≡ delivered_in
+    (map (λ k. k.delivered) (take i others)) s j) →
+    (j : ℕ) →
+    delivered_in (map (λ k. k.delivered) (take (suc i) records)) r j ≡ delivered_in
+    (map (λ k. k.delivered) (take (suc i) others)) s j
 delivered_more [] others i m n r s at at' same before j = absurd (cc)
 delivered_more (x ∷ xs) [] i m n r s at at' same before j = absurd (cc)
 delivered_more (x ∷ xs) (y ∷ ys) zero m n r s at at' same before zero =
@@ -98,7 +106,8 @@ module _ (b : Basin) (at : ℕ) (x : Right) (more : HasOneMore b (with_right b a
           unwrap_or (option_map (λ n. inflow_of_kind b series k i n.inflow) o) 0
           ≡ unwrap_or (option_map (λ n. inflow_of_kind (with_right b at x) other k i n.inflow) o) 0
       of_get None e = refl
-      of_get (Some n) e = of_kind n.inflow (λ h. ap (λ o. unwrap_or (option_map (λ y. is_gauged_kind y.inflow) o) false) e ∙ h)
+      of_get (Some n) e =
+          of_kind n.inflow (λ h. ap (λ o. unwrap_or (option_map (λ y. is_gauged_kind y.inflow) o) false) e ∙ h)
 
   -- what a right wants
   number_same : (series other : Inflows) → GiveSame b at series other → (r i : ℕ) → i < b.months →
@@ -107,7 +116,8 @@ module _ (b : Basin) (at : ℕ) (x : Right) (more : HasOneMore b (with_right b a
   number_same series other give r i l = of_get (slice_get b.rights r) refl
     where
       by_series : (t : Bool) (z : ℕ) → (t ≡ true → of_entry b.rights r (λ y. y.series) false ≡ true) →
-          (if t then table_at series.wanted series.want i r else z) ≡ (if t then table_at other.wanted other.want i (moved at r) else z)
+          (if t then table_at series.wanted series.want i r else z) ≡ (if t then table_at other.wanted other.want i
+          (moved at r) else z)
       by_series true z h = give.wants r i (h refl) l
       by_series false z h = refl
 
@@ -123,16 +133,19 @@ module _ (b : Basin) (at : ℕ) (x : Right) (more : HasOneMore b (with_right b a
   target_same series other give r i l =
       by_link (instream_link b r) (of_entry b.rights r (λ y. number_of b series r i y) 0)
       ∙ ap₂ (λ o z. cap_by_link (with_right b at x) (run_month b i) o z) (sym (moved_link b at x r more.place))
-      (number_same series other give r i l ∙ sym (of_moved b at x (λ y. number_of (with_right b at x) other (moved at r) i y) 0 r more.place))
+      (number_same series other give r i l
+      ∙ sym (of_moved b at x (λ y. number_of (with_right b at x) other (moved at r) i y) 0 r more.place))
     where
-      by_link : (o : Option ℕ) (z : ℕ) → cap_by_link b (run_month b i) o z ≡ cap_by_link (with_right b at x) (run_month b i) o z
+      by_link : (o : Option ℕ) (z : ℕ) →
+          cap_by_link b (run_month b i) o z ≡ cap_by_link (with_right b at x) (run_month b i) o z
       by_link None z = refl
       by_link (Some link) z = refl
 
   want_same : (series other : Inflows) → GiveSame b at series other → (r i used : ℕ) → i < b.months →
       want_of b series r i used ≡ want_of (with_right b at x) other (moved at r) i used
   want_same series other give r i used l =
-      ap₂ (λ o z. want_by_volume o z used) (sym (of_moved b at x (λ y. y.volume) None r more.place)) (target_same series other give r i l)
+      ap₂ (λ o z. want_by_volume o z used) (sym (of_moved b at x (λ y. y.volume) None r more.place))
+      (target_same series other give r i l)
 
   module _ (ds es : List (List ℕ))
       (alike : (r j : ℕ) → r < length b.rights → delivered_in ds r j ≡ delivered_in es (moved at r) j) where
@@ -140,9 +153,11 @@ module _ (b : Basin) (at : ℕ) (x : Right) (more : HasOneMore b (with_right b a
     used_same : (r i : ℕ) → r < length b.rights → used_of b ds r i ≡ used_of (with_right b at x) es (moved at r) i
     used_same r i l =
         ap (λ u. of_entry b.rights r (λ y. used_by_volume y.volume u) 0)
-        (total_where_same i (λ j. water_year b j == water_year b i) (λ j. delivered_in ds r j) (λ j. delivered_in es (moved at r) j)
+        (total_where_same i (λ j. water_year b j == water_year b i) (λ j. delivered_in ds r j)
+        (λ j. delivered_in es (moved at r) j)
         (λ j k. alike r j l))
-        ∙ sym (of_moved b at x (λ y. used_by_volume y.volume (used_in_year (with_right b at x) es (moved at r) i)) 0 r more.place)
+        ∙ sym (of_moved b at x (λ y. used_by_volume y.volume (used_in_year (with_right b at x) es (moved at r) i)) 0 r
+        more.place)
 
     -- what comes back to a node
     returned_same : IsValidBasin b → (k i : ℕ) → returned_at b ds k i ≡ returned_at (with_right b at x) es k i
@@ -151,7 +166,8 @@ module _ (b : Basin) (at : ℕ) (x : Right) (more : HasOneMore b (with_right b a
         (λ j. of_entry b.returns j (λ row. if row.node == k then returned_by row es i else 0) 0)
         (λ j l. of_row j (entry_holds (λ row. IsValidReturn b row) b.returns j valid.returns l))
       where
-        before_same : (right n : ℕ) → right < length b.rights → right < at → delivered_before ds right n ≡ delivered_before es right n
+        before_same : (right n : ℕ) → right < length b.rights → right < at →
+            delivered_before ds right n ≡ delivered_before es right n
         before_same right n l before = total_same n (λ j. delivered_in ds right j) (λ j. delivered_in es right j)
             (λ j k. alike right j l ∙ ap (λ r. delivered_in es r j) (moved_below at right before))
 
@@ -166,7 +182,8 @@ module _ (b : Basin) (at : ℕ) (x : Right) (more : HasOneMore b (with_right b a
         of_row j entry =
             ap (λ o. unwrap_or (option_map (λ row. if row.node == k then returned_by row ds i else 0) o) 0) entry.1
             ∙ (ap (λ z. if entry.0.node == k then z else 0) (by_row entry.0 entry.2)
-            ∙ sym (ap (λ o. unwrap_or (option_map (λ row. if row.node == k then returned_by row es i else 0) o) 0) entry.1))
+            ∙ sym (ap (λ o. unwrap_or (option_map (λ row. if row.node == k then returned_by row es i else 0) o) 0)
+            entry.1))
 
   -- one month
   month_alike : (series other : Inflows) (before others : List MonthRecord) (m n : MonthRecord) → IsValidBasin b →
@@ -199,22 +216,28 @@ module _ (b : Basin) (at : ℕ) (x : Right) (more : HasOneMore b (with_right b a
           (λ v l. f.evaporated v l ∙ (by_opening v ∙ sym (g.evaporated v l)))
         where
           by_opening : (v : ℕ) →
-              of_entry b.reservoirs v (λ r. evaporation r.area (slice_index m.opening v) (slice_index r.rate (in_year b m.index))) 0
-              ≡ of_entry b.reservoirs v (λ r. evaporation r.area (slice_index n.opening v) (slice_index r.rate (in_year b n.index))) 0
+              of_entry b.reservoirs v
+              (λ r. evaporation r.area (slice_index m.opening v) (slice_index r.rate (in_year b m.index))) 0
+              ≡ of_entry b.reservoirs v
+              (λ r. evaporation r.area (slice_index n.opening v) (slice_index r.rate (in_year b n.index))) 0
           by_opening v = rw (opening, index) refl
 
       returned : m.returned ≡ n.returned
       returned = by_place m.returned n.returned (length b.nodes) f.fits.returned g.fits.returned
           (λ k l. f.returned k l
-          ∙ (returned_same (map (λ k. k.delivered) before) (map (λ k. k.delivered) others) same.deliveries valid k m.index
-          ∙ (ap (λ i. returned_at (with_right b at x) (map (λ k. k.delivered) others) k i) index ∙ sym (g.returned k l))))
+          ∙ (returned_same (map (λ k. k.delivered) before) (map (λ k. k.delivered) others) same.deliveries valid k
+          m.index
+          ∙ (ap (λ i. returned_at (with_right b at x) (map (λ k. k.delivered) others) k i) index
+          ∙ sym (g.returned k l))))
 
       supply : m.supply ≡ n.supply
       supply = by_place m.supply n.supply (length b.nodes) f.fits.supply g.fits.supply
           (λ k l. f.supply k l ∙ (by_parts k ∙ sym (g.supply k l)))
         where
-          by_parts : (k : ℕ) → inflow_at b series k m.index + slice_index m.returned k + stored_at b m.opening m.evaporated k
-              ≡ inflow_at (with_right b at x) other k n.index + slice_index n.returned k + stored_at b n.opening n.evaporated k
+          by_parts : (k : ℕ) →
+              inflow_at b series k m.index + slice_index m.returned k + stored_at b m.opening m.evaporated k
+              ≡ inflow_at (with_right b at x) other k n.index + slice_index n.returned k + stored_at b n.opening
+              n.evaporated k
           by_parts k = rw (inflow_same series other give k m.index in_run, opening, index, returned, evaporated) refl
 
       wants : (r : ℕ) → r < length b.rights → slice_index n.want (moved at r) ≡ slice_index m.want r
@@ -229,21 +252,27 @@ module _ (b : Basin) (at : ℕ) (x : Right) (more : HasOneMore b (with_right b a
           used : slice_index m.used r ≡ slice_index n.used (moved at r)
           used = f.used r l
               ∙ (used_same (map (λ k. k.delivered) before) (map (λ k. k.delivered) others) same.deliveries r m.index l
-              ∙ (ap (λ i. used_of (with_right b at x) (map (λ k. k.delivered) others) (moved at r) i) index ∙ sym (g.used (moved at r) (moves r l))))
+              ∙ (ap (λ i. used_of (with_right b at x) (map (λ k. k.delivered) others) (moved at r) i) index
+              ∙ sym (g.used (moved at r) (moves r l))))
 
       greatest : IsGreatest (with_right b at x) m.month m.supply n.want n.plan
       greatest = subst (λ s. IsGreatest (with_right b at x) m.month s n.want n.plan) (sym supply)
-          (subst (λ t. IsGreatest (with_right b at x) t n.supply n.want n.plan) (sym month) (record_is_greatest (with_right b at x) other others n g))
+          (subst (λ t. IsGreatest (with_right b at x) t n.supply n.want n.plan) (sym month)
+          (record_is_greatest (with_right b at x) other others n g))
 
-      deliver : (r : ℕ) → r < length b.rights → delivery b m.want m.plan r ≡ delivery (with_right b at x) n.want n.plan (moved at r)
-      deliver = month_same b at x more m.month m.supply m.want n.want m.delivered m.plan n.plan f.plan wants f.fits.delivered
+      deliver : (r : ℕ) → r < length b.rights →
+          delivery b m.want m.plan r ≡ delivery (with_right b at x) n.want n.plan (moved at r)
+      deliver =
+          month_same b at x more m.month m.supply m.want n.want m.delivered m.plan n.plan f.plan wants f.fits.delivered
           (record { each = f.delivered }) (met_or_cut b series before m f) greatest
 
       delivered : (r : ℕ) → r < length b.rights → slice_index m.delivered r ≡ slice_index n.delivered (moved at r)
       delivered r l = f.delivered r l ∙ (deliver r l ∙ sym (g.delivered (moved at r)
           (omega (arith, moved_within at r (length b.rights) l, one_more_right b at x more.place))))
 
-      closes : (v : ℕ) → total_where (length (with_right b at x).rights) (λ s. is_zone_of (with_right b at x) s v) (λ s. slice_index n.plan.take s)
+      closes : (v : ℕ) →
+          total_where (length (with_right b at x).rights) (λ s. is_zone_of (with_right b at x) s v)
+          (λ s. slice_index n.plan.take s)
           ≡ total_where (length b.rights) (λ r. is_zone_of b r v) (λ r. slice_index m.plan.take r)
       closes v = total_where_moved (length (with_right b at x).rights) (length b.rights) at
           (λ r. is_zone_of b r v) (λ s. is_zone_of (with_right b at x) s v)
@@ -256,20 +285,25 @@ module _ (b : Basin) (at : ℕ) (x : Right) (more : HasOneMore b (with_right b a
           clash : is_zone_of (with_right b at x) at v ≡ true → ⊥
           clash h = cc (new_no_zone b at x more v)
 
-          takes : (r : ℕ) → r < length b.rights → is_zone_of b r v ≡ true → slice_index n.plan.take (moved at r) ≡ slice_index m.plan.take r
+          takes : (r : ℕ) → r < length b.rights → is_zone_of b r v ≡ true →
+              slice_index n.plan.take (moved at r) ≡ slice_index m.plan.take r
           takes r l zone =
-              sym (delivery_by_take (with_right b at x) n.want n.plan (moved at r) (moved_link b at x r more.place ∙ zone_on_no_link b r v zone))
+              sym (delivery_by_take (with_right b at x) n.want n.plan (moved at r)
+              (moved_link b at x r more.place ∙ zone_on_no_link b r v zone))
               ∙ (sym (deliver r l) ∙ delivery_by_take b m.want m.plan r (zone_on_no_link b r v zone))
 
-  module _ (series other : Inflows) (records others : List MonthRecord) (valid : IsValidBasin b) (give : GiveSame b at series other)
+  module _ (series other : Inflows) (records others : List MonthRecord) (valid : IsValidBasin b)
+      (give : GiveSame b at series other)
       (f : IsPartialHistory b series records) (g : IsPartialHistory (with_right b at x) other others) where
     -- by the months before
     before_alike : (i : ℕ) → i ≤ length records → i ≤ length others → AreAlike (take i records) (take i others)
     before_alike zero l l' = record { count = refl; storage = refl; deliveries = λ r j k. refl }
     before_alike (suc i) l l' =
-        one_more (entry_at records i (omega arith)) (entry_at others i (omega arith)) (before_alike i (omega arith) (omega arith))
+        one_more (entry_at records i (omega arith)) (entry_at others i (omega arith))
+        (before_alike i (omega arith) (omega arith))
       where
-        one_more : (m : MonthRecord) × (slice_get records i ≡ Some m) → (n : MonthRecord) × (slice_get others i ≡ Some n) →
+        one_more : (m : MonthRecord) × (slice_get records i ≡ Some m) → (n : MonthRecord) ×
+            (slice_get others i ≡ Some n) →
             AreAlike (take i records) (take i others) → AreAlike (take (suc i) records) (take (suc i) others)
         one_more m n same = record {
           count = omega (arith, length-take (suc i) records, length-take (suc i) others);
@@ -283,7 +317,8 @@ module _ (b : Basin) (at : ℕ) (x : Right) (more : HasOneMore b (with_right b a
             month = month_alike series other (take i records) (take i others) m.0 n.0 valid give
                 (let w = f.within in omega (arith, length-take i records)) same (f.each i m.0 m.1) (g.each i n.0 n.1)
 
-    months_alike : (i : ℕ) (m n : MonthRecord) → slice_get records i ≡ Some m → slice_get others i ≡ Some n → IsAlike m n
+    months_alike : (i : ℕ) (m n : MonthRecord) → slice_get records i ≡ Some m → slice_get others i ≡ Some n →
+        IsAlike m n
     months_alike i m n here there =
         let l = slice_get_within records i m here in
         let l' = slice_get_within others i n there in
@@ -308,7 +343,8 @@ module _ (b : Basin) (at : ℕ) (x : Right) (more : HasOneMore b (with_right b a
       name = of_moved b at x (λ y. y.name) [] r more.place ∙ one.name
 
 pub junior_injures_nobody : JuniorInjuresNobody
-junior_injures_nobody first second at x series other records others valid valid' more give f g i m n here there r s one =
+junior_injures_nobody first second at x series other records others valid valid' more give f g i m n here there r s
+    one =
     subst Same (sym more.basin) same valid' more g one
   where
     Same : Basin → Type 0
@@ -317,5 +353,6 @@ junior_injures_nobody first second at x series other records others valid valid'
 
     same : Same (with_right first at x)
     same valid' more g one =
-        (months_alike first at x more series other records others valid give f g i m n here there).delivered r one.in_first
+        (months_alike first at x more series other records others valid give f g i m n here there).delivered r
+        one.in_first
         ∙ ap (slice_index n.delivered) (sym (one_place first at x more r s valid' one))

@@ -1,5 +1,6 @@
 -- Who is delivered less in the second of two runs.
-use Rattle.std.specs.Prelude.{◌≡◌, ℕ, ◌<◌, ◌≤◌, Bool, List, [], ◌∷◌, ◌++◌, length, take, map, filter, zip, flat_map, slice_get, slice_index, nat_lt, codes, Option, Some, Result, Ok, Err}
+use Rattle.std.specs.Prelude.{◌≡◌, ℕ, ◌<◌, ◌≤◌, Bool, List, [], ◌∷◌, ◌++◌, length, take, map, filter, zip, flat_map}
+use Rattle.std.specs.Prelude.{slice_get, slice_index, nat_lt, codes, Option, Some, Result, Ok, Err}
 use Rattle.std.specs.Fmt.{decimal}
 use Rattle.std.specs.Io.KnownBytes.{Appends}
 use Rattle.std.specs.List.{join_with_byte}
@@ -69,4 +70,5 @@ comparison_text first second records others =
 abbrev pub PutsInjuries : {E : Type 0} → Basin → List Injury → Option (List ℕ) → Option (List ℕ) → Result ℕ E → Type 0
 PutsInjuries b all old new (Ok count) = (count ≡ length all) × Appends old new (flat_map (injured_row b) all)
 PutsInjuries b all old new (Err _) =
-    (count : ℕ) × (count ≤ length (flat_map (injured_row b) all)) × Appends old new (take count (flat_map (injured_row b) all))
+    (count : ℕ) × (count ≤ length (flat_map (injured_row b) all)) ×
+    Appends old new (take count (flat_map (injured_row b) all))

@@ -17,8 +17,8 @@ CommonRightsHaveOneName =
     (first second : Basin) (r s : ℕ) → IsValidBasin second →
     HaveOneName first second r s ↔ Contains (common_rights first second) (record { first = r; second = s })
 
--- Each injury is listed, and nothing else. The list names every common right in every month in which it is delivered less in
--- the second run, with both deliveries.
+-- Each injury is listed, and nothing else. The list names every common right in every month in which it is delivered
+-- less in the second run, with both deliveries.
 abbrev pub InjuriesAreAllListed : Type 0
 InjuriesAreAllListed =
     (first second : Basin) (records others : List MonthRecord) (injury : Injury) → IsValidBasin second →
@@ -33,8 +33,8 @@ ComparisonsHaveOneText =
     IsHistory second other others → IsHistory second other others' →
     comparison_text first second records others ≡ comparison_text first second records' others'
 
--- A most junior right injures nobody. Where a basin gets one more diversion or instream right, junior to all others, each
--- common right is delivered the same in every month of any history of the one and of the other.
+-- A most junior right injures nobody. Where a basin gets one more diversion or instream right, junior to all others,
+-- each common right is delivered the same in every month of any history of the one and of the other.
 abbrev pub JuniorInjuresNobody : Type 0
 JuniorInjuresNobody =
     (first second : Basin) (at : ℕ) (right : Right) (series other : Inflows) (records others : List MonthRecord) →

@@ -1,5 +1,6 @@
 -- A basin with one more right.
-use Rattle.std.specs.Prelude.{◌≡◌, ℕ, suc, ◌<◌, ◌≤◌, true, false, length, drop, insert, All, IsTrue, nat_lt, if◌then◌else◌}
+use Rattle.std.specs.Prelude.{◌≡◌, ℕ, suc, ◌<◌, ◌≤◌, true, false, length, drop, insert, All, IsTrue, nat_lt}
+use Rattle.std.specs.Prelude.{if◌then◌else◌}
 use Rattle.water_model.specs.Lookups.{of_entry}
 use Rattle.water_model.specs.Rights.{is_lower, priority}
 use Rattle.water_model.specs.Hydrology.{table_at}
@@ -16,9 +17,9 @@ with_right b at right = record b { rights = insert b.rights at right }
 unfoldable pub moved : ℕ → ℕ → ℕ
 moved at r = if nat_lt r at then r else suc r
 
--- The second basin is the first with one more diversion or instream right, which stands at the end of its kind and is junior
--- to every right of the first. Return rows name diversions, and those of the first all stand before the new right. So the
--- rows stay as they are, and none of them is the new right's.
+-- The second basin is the first with one more diversion or instream right, which stands at the end of its kind and is
+-- junior to every right of the first. Return rows name diversions, and those of the first all stand before the new
+-- right. So the rows stay as they are, and none of them is the new right's.
 pub record HasOneMore (first second : Basin) (at : ℕ) (right : Right) : Type 0 where
   pub basin : second ≡ with_right first at right
   pub place : at ≤ length first.rights

@@ -86,7 +86,8 @@ pub fn put_injury<K: Sink>(
     requires month { IsMonth first.now.month }
     requires right { pair.first < length basin.now.rights }
     requires records { HaveDeliveries (pair ∷ []) first.now second.now }
-    ensures text { PutsInjuries basin.now (injuries_of (pair ∷ []) first.now second.now) (K.taken sink.old) (K.taken sink.new) result }
+    ensures text { PutsInjuries basin.now (injuries_of (pair ∷ []) first.now second.now) (K.taken sink.old)
+        (K.taken sink.new) result }
     ensures cause { HasCause (K.faults sink.old) (K.faults sink.new) (IsErr result) }
 {
     if !is_injured(pair, first, second) {

@@ -1,12 +1,14 @@
 //! Laws over the comparison of runs. Each is the contract of a function that does nothing.
-ghost use Rattle.injury.specs.Laws.{CommonRightsHaveOneName, ComparisonsHaveOneText, InjuriesAreAllListed, JuniorInjuresNobody, JuniorLeavesNoInjury};
+ghost use Rattle.injury.specs.Laws.{CommonRightsHaveOneName, ComparisonsHaveOneText, InjuriesAreAllListed};
+ghost use Rattle.injury.specs.Laws.{JuniorInjuresNobody, JuniorLeavesNoInjury};
 
 /// The pairs of common rights are those of one name.
 pub fn common_rights_have_one_name()
     ensures { CommonRightsHaveOneName }
 {}
 
-/// The list of injuries has each common right in each month in which it is delivered less in the second run, and no other.
+/// The list of injuries has each common right in each month in which it is delivered less in the second run, and no
+/// other.
 pub fn injuries_are_all_listed()
     ensures { InjuriesAreAllListed }
 {}

@@ -58,8 +58,8 @@ impl Model for Pairing {
 }
 
 impl Pairing {
-    /// The rights that both basins have by their names, in the first's order of seniority. The second's rights are looked up
-    /// in a map of their names. AllocError comes where memory is lacking.
+    /// The rights that both basins have by their names, in the first's order of seniority. The second's rights are
+    /// looked up in a map of their names. AllocError comes where memory is lacking.
     pub fn build(alloc: Global, first: &Basin, second: &Basin) -> Result<Pairing, AllocError>
         requires first { IsValidBasin first.now }
         requires second { IsValidBasin second.now }
@@ -92,7 +92,8 @@ impl Pairing {
         is_injured(self.pairs[k], first, second)
     }
 
-    /// Puts a row for each injury of a month, in the order of the pairs, and answers their number. The basin is the first.
+    /// Puts a row for each injury of a month, in the order of the pairs, and answers their number. The basin is the
+    /// first.
     ///
     /// Each row is one `put`. `SinkFailed` comes only where the sink counted a fault; a front of the rows was then put.
     pub fn put_injured<K: Sink>(
@@ -106,7 +107,8 @@ impl Pairing {
         requires month { IsMonth first.now.month }
         requires fits { length first.now.delivered ≡ length basin.now.rights }
         requires records { HaveDeliveries self.now first.now second.now }
-        ensures text { PutsInjuries basin.now (injuries_of self.now first.now second.now) (K.taken sink.old) (K.taken sink.new) result }
+        ensures text { PutsInjuries basin.now (injuries_of self.now first.now second.now) (K.taken sink.old)
+            (K.taken sink.new) result }
         ensures cause { HasCause (K.faults sink.old) (K.faults sink.new) (IsErr result) }
     {
         let pairs = self.common();

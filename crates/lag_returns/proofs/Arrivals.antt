@@ -1,5 +1,6 @@
 -- What is due by what a row keeps is what the sums over all months say.
-use Rattle.std.proofs.Common.{◌≡◌, ◌∙◌, ℕ, ◌+◌, ◌-◌, ◌*◌, ◌/◌, ◌%◌, ◌<◌, ◌≤◌, List, length, get_or, refl, sym, ap, arith, inl, inr, true, false}
+use Rattle.std.proofs.Common.{◌≡◌, ◌∙◌, ℕ, ◌+◌, ◌-◌, ◌*◌, ◌/◌, ◌%◌, ◌<◌, ◌≤◌, List, length, get_or, refl, sym, ap}
+use Rattle.std.proofs.Common.{arith, inl, inr, true, false}
 use Rattle.std.specs.Prelude.{slice_index, nat_lt, unwrap_or}
 use Rattle.std.proofs.lemmas.Bool.{cases_Bool}
 use Rattle.std.proofs.lemmas.Bool.Decides.{nat_tests}
@@ -12,9 +13,11 @@ use Rattle.water_model.specs.Hydrology.{delivered_in, delivered_before, returned
 use Rattle.lag_returns.specs.ReturnFlows.{due, arriving}
 use Rattle.lag_returns.specs.Lags.{OnTheWay, IsOnTheWay, delivered_to}
 
-delivered_at : (deliveries : List (List ℕ)) (right j : ℕ) → get_or (delivered_to deliveries right) j 0 ≡ delivered_in deliveries right j
+delivered_at : (deliveries : List (List ℕ)) (right j : ℕ) →
+    get_or (delivered_to deliveries right) j 0 ≡ delivered_in deliveries right j
 delivered_at deliveries right j =
-    sym (unwrap_or-slice_get (delivered_to deliveries right) j 0) ∙ ap (λ o. unwrap_or o 0) (slice_get-map (λ d. slice_index d right) deliveries j)
+    sym (unwrap_or-slice_get (delivered_to deliveries right) j 0)
+    ∙ ap (λ o. unwrap_or o 0) (slice_get-map (λ d. slice_index d right) deliveries j)
 
 -- how many deliveries are on their way
 on_the_way : (deliveries : List (List ℕ)) (right lag : ℕ) →
@@ -25,7 +28,8 @@ on_the_way deliveries right lag =
 
 -- the oldest of them
 oldest : (deliveries : List (List ℕ)) (right lag : ℕ) →
-    slice_index (keep_last lag (delivered_to deliveries right)) 0 ≡ delivered_in deliveries right (length deliveries - lag)
+    slice_index (keep_last lag (delivered_to deliveries right)) 0 ≡ delivered_in deliveries right
+    (length deliveries - lag)
 oldest deliveries right lag =
     get_or-drop (length (delivered_to deliveries right) - lag) (delivered_to deliveries right) 0 0
     ∙ ap (λ n. get_or (delivered_to deliveries right) n 0) (place (length-map deliveries (λ d. slice_index d right)))
@@ -38,9 +42,11 @@ oldest deliveries right lag =
 pub record IsDue (deliveries : List (List ℕ)) (w : OnTheWay) (amount : ℕ) : Type 0 where
   pub more : delivered_before deliveries w.row.right (length deliveries + 1 - w.row.lag)
       ≡ delivered_before deliveries w.row.right (length deliveries - w.row.lag) + amount
-  pub parts : due w ≡ (w.row.part * delivered_before deliveries w.row.right (length deliveries - w.row.lag)) % 10000 + w.row.part * amount
+  pub parts : due w ≡ (w.row.part * delivered_before deliveries w.row.right (length deliveries - w.row.lag)) % 10000 +
+      w.row.part * amount
 
-pub is_due : (deliveries : List (List ℕ)) (w : OnTheWay) → IsOnTheWay deliveries w → (amount : ℕ) × IsDue deliveries w amount
+pub is_due : (deliveries : List (List ℕ)) (w : OnTheWay) → IsOnTheWay deliveries w → (amount : ℕ) ×
+    IsDue deliveries w amount
 is_due deliveries w h = elim (cases_Bool (nat_lt (length w.waiting) w.row.lag)) [
   | inl few ↦ (0, none few)
   | inr full ↦ (delivered_in deliveries w.row.right (length deliveries - w.row.lag), some full)
@@ -58,7 +64,8 @@ is_due deliveries w h = elim (cases_Bool (nat_lt (length w.waiting) w.row.lag)) 
     none_due : nat_lt (length w.waiting) w.row.lag ≡ true → due w ≡ 0
     none_due few = rw few refl
 
-    due_of_oldest : nat_lt (length w.waiting) w.row.lag ≡ false → due w ≡ w.remainder + w.row.part * slice_index w.waiting 0
+    due_of_oldest : nat_lt (length w.waiting) w.row.lag ≡ false →
+        due w ≡ w.remainder + w.row.part * slice_index w.waiting 0
     due_of_oldest full = rw full refl
 
     -- nothing came back yet
@@ -77,17 +84,23 @@ is_due deliveries w h = elim (cases_Bool (nat_lt (length w.waiting) w.row.lag)) 
         let e : length deliveries + 1 - w.row.lag ≡ length deliveries - w.row.lag = omega arith in
         record {
           more = omega (arith, ap (delivered_before deliveries w.row.right) e);
-          parts = none_due few ∙ no_parts w.row.part (delivered_before deliveries w.row.right (length deliveries - w.row.lag)) (begins m);
+          parts = none_due few
+              ∙ no_parts w.row.part (delivered_before deliveries w.row.right (length deliveries - w.row.lag))
+              (begins m);
         }
 
-    some : nat_lt (length w.waiting) w.row.lag ≡ false → IsDue deliveries w (delivered_in deliveries w.row.right (length deliveries - w.row.lag))
+    some : nat_lt (length w.waiting) w.row.lag ≡ false →
+        IsDue deliveries w (delivered_in deliveries w.row.right (length deliveries - w.row.lag))
     some full =
         let l = above (length w.waiting) w.row.lag full in
         let e : length deliveries + 1 - w.row.lag ≡ length deliveries - w.row.lag + 1 = omega (arith, waiting) in
         record {
-          more = ap (delivered_before deliveries w.row.right) e ∙ total_more (length deliveries - w.row.lag) (λ k. delivered_in deliveries w.row.right k);
+          more = ap (delivered_before deliveries w.row.right) e
+              ∙ total_more (length deliveries - w.row.lag) (λ k. delivered_in deliveries w.row.right k);
           parts = due_of_oldest full ∙ ap (λ r. r + w.row.part * slice_index w.waiting 0) h.remainder
-              ∙ ap (λ d. (w.row.part * delivered_before deliveries w.row.right (length deliveries - w.row.lag)) % 10000 + w.row.part * d)
+              ∙ ap (λ d.
+              (w.row.part * delivered_before deliveries w.row.right (length deliveries - w.row.lag)) % 10000 +
+              w.row.part * d)
               (ap (λ xs. slice_index xs 0) h.waiting ∙ oldest deliveries w.row.right w.row.lag);
         }
 

@@ -1,5 +1,6 @@
 -- What a row keeps after one month more.
-use Rattle.std.proofs.Common.{◌≡◌, ◌∙◌, ℕ, ◌+◌, ◌-◌, ◌*◌, ◌%◌, ◌<◌, ◌≤◌, List, [], ◌∷◌, ◌++◌, length, get_or, map, take, drop, refl, sym, ap, arith}
+use Rattle.std.proofs.Common.{◌≡◌, ◌∙◌, ℕ, ◌+◌, ◌-◌, ◌*◌, ◌%◌, ◌<◌, ◌≤◌, List, [], ◌∷◌, ◌++◌, length, get_or, map, take}
+use Rattle.std.proofs.Common.{drop, refl, sym, ap, arith}
 use Rattle.std.specs.Prelude.{slice_index, All, option_map, unwrap_or}
 use Rattle.std.proofs.lemmas.List.{length-drop, length-append, map-append, drop-append-le, drop-drop}
 use Rattle.std.proofs.lemmas.Grind.{common_steps}
@@ -19,14 +20,22 @@ earlier : (deliveries : List (List ℕ)) (delivered : List ℕ) (right m : ℕ) 
     delivered_before (deliveries ++ delivered ∷ []) right m ≡ delivered_before deliveries right m
 earlier deliveries delivered right m l =
     total_same m (λ k. delivered_in (deliveries ++ delivered ∷ []) right k) (λ k. delivered_in deliveries right k)
-    (λ k h. ap (λ o. unwrap_or (option_map (λ d. slice_index d right) o) 0) (slice_get-append_left deliveries (delivered ∷ []) k (omega arith)))
+    (λ k h. ap (λ o. unwrap_or (option_map (λ d. slice_index d right) o) 0)
+    (slice_get-append_left deliveries (delivered ∷ []) k (omega arith)))
 
 -- the last n of a list and one more are those of its own last n and that one
-last_of_more : {X : Type 0} (n : ℕ) (xs : List X) (x : X) → keep_last n (keep_last n xs ++ x ∷ []) ≡ keep_last n (xs ++ x ∷ [])
+last_of_more : {X : Type 0} (n : ℕ) (xs : List X) (x : X) →
+    keep_last n (keep_last n xs ++ x ∷ []) ≡ keep_last n (xs ++ x ∷ [])
 last_of_more {X = X} n xs x =
     ap (drop (length (keep_last n xs ++ x ∷ []) - n)) (sym (drop-append-le (length xs - n) xs (x ∷ []) (omega arith)))
     ∙ drop-drop (length (keep_last n xs ++ x ∷ []) - n) (length xs - n) (xs ++ x ∷ [])
-    ∙ ap (λ k. drop k (xs ++ x ∷ [])) (omega (arith, length-append (keep_last n xs) (x ∷ []), length-drop (length xs - n) xs, length-append xs (x ∷ [])))
+    ∙ ap (λ k. drop k (xs ++ x ∷ []))
+    (omega (
+      arith,
+      length-append (keep_last n xs) (x ∷ []),
+      length-drop (length xs - n) xs,
+      length-append xs (x ∷ []),
+    ))
 
 on_the_way_after : (deliveries : List (List ℕ)) (delivered : List ℕ) (w : OnTheWay) → 1 ≤ w.row.lag →
     IsOnTheWay deliveries w → IsOnTheWay (deliveries ++ delivered ∷ []) (after_month delivered w)
@@ -42,17 +51,21 @@ on_the_way_after deliveries delivered w lag h = record { waiting = waiting; rema
         ∙ last_of_more w.row.lag (delivered_to deliveries w.row.right) (slice_index delivered w.row.right)
         ∙ ap (keep_last w.row.lag) (sym (map-append (λ d. slice_index d w.row.right) deliveries (delivered ∷ [])))
 
-    before : delivered_before (deliveries ++ delivered ∷ []) w.row.right (length (deliveries ++ delivered ∷ []) - w.row.lag)
+    before : delivered_before (deliveries ++ delivered ∷ []) w.row.right
+        (length (deliveries ++ delivered ∷ []) - w.row.lag)
         ≡ delivered_before deliveries w.row.right (length deliveries + 1 - w.row.lag)
     before =
-        earlier deliveries delivered w.row.right (length (deliveries ++ delivered ∷ []) - w.row.lag) (omega (arith, more))
+        earlier deliveries delivered w.row.right (length (deliveries ++ delivered ∷ []) - w.row.lag)
+        (omega (arith, more))
         ∙ ap (λ n. delivered_before deliveries w.row.right (n - w.row.lag)) more
 
     by : (amount : ℕ) × IsDue deliveries w amount → due w % 10000
-        ≡ (w.row.part * delivered_before (deliveries ++ delivered ∷ []) w.row.right (length (deliveries ++ delivered ∷ []) - w.row.lag)) % 10000
+        ≡ (w.row.part * delivered_before (deliveries ++ delivered ∷ []) w.row.right
+        (length (deliveries ++ delivered ∷ []) - w.row.lag)) % 10000
     by found = rw (before, found.1.parts, remainder, found.1.more, mul-add) refl
 
-pub rows_after : (delivered : List ℕ) (lags : List OnTheWay) → return_rows (map (after_month delivered) lags) ≡ return_rows lags
+pub rows_after : (delivered : List ℕ) (lags : List OnTheWay) →
+    return_rows (map (after_month delivered) lags) ≡ return_rows lags
 rows_after delivered [] = refl
 rows_after delivered (w ∷ lags) = ap (λ rows. w.row ∷ rows) (rows_after delivered lags)
 
@@ -65,7 +78,8 @@ stands_after deliveries delivered rows lags lagged h = record {
       (λ k d l. on_the_way_after deliveries delivered _ (lagged k d l).lag.0 (h.each k d l));
 }
 
-pub lagged_after : (delivered : List ℕ) (lags : List OnTheWay) → All (λ w. IsLagged w.row) lags → All (λ w. IsLagged w.row) (map (after_month delivered) lags)
+pub lagged_after : (delivered : List ℕ) (lags : List OnTheWay) → All (λ w. IsLagged w.row) lags →
+    All (λ w. IsLagged w.row) (map (after_month delivered) lags)
 lagged_after delivered lags h = All-map (λ w. IsLagged w.row) (after_month delivered) lags h
 
 -- the next row that wasn't changed yet

@@ -1,5 +1,6 @@
 -- The rows of what is on its way, and the places of nodes.
-use Rattle.std.proofs.Common.{◌≡◌, ◌∙◌, ℕ, ◌+◌, ◌-◌, ◌*◌, ◌%◌, ◌^◌, ◌<◌, ◌≤◌, List, [], ◌∷◌, length, get_or, set, map, refl, sym, ap, subst, arith}
+use Rattle.std.proofs.Common.{◌≡◌, ◌∙◌, ℕ, ◌+◌, ◌-◌, ◌*◌, ◌%◌, ◌^◌, ◌<◌, ◌≤◌, List, [], ◌∷◌, length, get_or, set, map}
+use Rattle.std.proofs.Common.{refl, sym, ap, subst, arith}
 use Rattle.std.specs.Prelude.{All, if◌then◌else◌, ◌==◌, option_map, unwrap_or, slice_get, Some}
 use Rattle.std.proofs.lemmas.Bool.Decides.{nat_tests}
 use Rattle.std.proofs.lemmas.Grind.{common_steps}
@@ -22,7 +23,8 @@ pub of_row : (P : ReturnRow → Type 0) (lags : List OnTheWay) → All P (return
 of_row P lags h k d l =
     subst P (get_or-map (λ w. w.row) lags k d d.row l) (h k d.row (rw length-map l))
 
-pub row_at : (P : ReturnRow → Type 0) (lags : List OnTheWay) (i : ℕ) (w : OnTheWay) → All P (return_rows lags) → i < length lags →
+pub row_at : (P : ReturnRow → Type 0) (lags : List OnTheWay) (i : ℕ) (w : OnTheWay) → All P (return_rows lags) →
+    i < length lags →
     w ≡ get_or lags i w → P w.row
 row_at P lags i w h l read = subst (λ x. P x.row) (sym read) (of_row P lags h i w l)
 
@@ -37,7 +39,9 @@ rows_of_fresh (row ∷ rows) = ap (λ xs. row ∷ xs) (rows_of_fresh rows)
 fresh_waits : (row : ReturnRow) → IsOnTheWay [] (fresh row)
 fresh_waits row = record {
   waiting = sym (drop-nil (0 - row.lag));
-  remainder = sym (no_parts row.part (delivered_before [] row.right (0 - row.lag)) (total_zero (0 - row.lag) (λ k. delivered_in [] row.right k) (λ k h. refl)));
+  remainder =
+      sym (no_parts row.part (delivered_before [] row.right (0 - row.lag))
+      (total_zero (0 - row.lag) (λ k. delivered_in [] row.right k) (λ k h. refl)));
 }
   where
     no_parts : (p d : ℕ) → d ≡ 0 → (p * d) % 10000 ≡ 0
@@ -50,14 +54,16 @@ stands_fresh rows = record {
 }
 
 -- a place to which something is added
-place_after : (xs : List ℕ) (k n a : ℕ) → k < length xs → get_or (set xs k (get_or xs k 0 + a)) n 0 ≡ get_or xs n 0 + (if k == n then a else 0)
+place_after : (xs : List ℕ) (k n a : ℕ) → k < length xs →
+    get_or (set xs k (get_or xs k 0 + a)) n 0 ≡ get_or xs n 0 + (if k == n then a else 0)
 place_after xs k n a l = grind (arith, common_steps, nat_tests)
 
 -- once one row more has come
 pub one_row_more : (lags : List OnTheWay) (i : ℕ) (w : OnTheWay) (into : List ℕ) (n before : ℕ) → i < length lags →
     w ≡ get_or lags i w → w.row.node < length into →
     get_or into n 0 ≡ before + total i (λ k. of_entry lags k (brought_to n) 0) →
-    get_or (set into w.row.node (get_or into w.row.node 0 + arriving w)) n 0 ≡ before + total (i + 1) (λ k. of_entry lags k (brought_to n) 0)
+    get_or (set into w.row.node (get_or into w.row.node 0 + arriving w)) n 0 ≡ before + total (i + 1)
+    (λ k. of_entry lags k (brought_to n) 0)
 one_row_more lags i w into n before l read node h =
     omega (
       arith,
@@ -75,7 +81,8 @@ one_row_little w into n node little =
     at_most k n a x y l e = grind (arith, nat_tests)
 
 -- what the rows bring is what the sums over all months say
-pub arrivals : (lags : List OnTheWay) (rows : List ReturnRow) (deliveries : List (List ℕ)) (node : ℕ) → StandsFor lags rows deliveries →
+pub arrivals : (lags : List OnTheWay) (rows : List ReturnRow) (deliveries : List (List ℕ)) (node : ℕ) →
+    StandsFor lags rows deliveries →
     brought lags node ≡ arrivals_at rows deliveries node
 arrivals lags rows deliveries node h =
     total_same (length lags) (λ k. of_entry lags k (brought_to node) 0) (λ k. of_entry (return_rows lags) k brings 0)
@@ -88,4 +95,6 @@ arrivals lags rows deliveries node h =
 
     entry : (k : ℕ) → (w : OnTheWay) × (slice_get lags k ≡ Some w) × IsOnTheWay deliveries w →
         of_entry lags k (brought_to node) 0 ≡ of_entry (return_rows lags) k brings 0
-    entry k found = rw (slice_get-map (λ w. w.row) lags k, found.1) (ap (λ a. if found.0.row.node == node then a else 0) (arriving_is deliveries found.0 found.2))
+    entry k found =
+        rw (slice_get-map (λ w. w.row) lags k, found.1)
+        (ap (λ a. if found.0.row.node == node then a else 0) (arriving_is deliveries found.0 found.2))

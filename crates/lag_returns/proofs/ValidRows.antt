@@ -1,5 +1,6 @@
 -- The return rows of a valid basin.
-use Rattle.std.proofs.Common.{◌≡◌, ◌∙◌, ℕ, zero, suc, ◌+◌, ◌-◌, ◌*◌, ◌/◌, ◌^◌, ◌<◌, ◌≤◌, true, false, List, [], ◌∷◌, length, get_or, refl, ap, arith, inl, inr}
+use Rattle.std.proofs.Common.{◌≡◌, ◌∙◌, ℕ, zero, suc, ◌+◌, ◌-◌, ◌*◌, ◌/◌, ◌^◌, ◌<◌, ◌≤◌, true, false, List, [], ◌∷◌}
+use Rattle.std.proofs.Common.{length, get_or, refl, ap, arith, inl, inr}
 use Rattle.std.specs.Prelude.{All, if◌then◌else◌, ◌==◌, nat_lt, option_map, unwrap_or, slice_get, Some}
 use Rattle.std.proofs.lemmas.Bool.{cases_Bool}
 use Rattle.std.proofs.lemmas.Bool.Decides.{nat_tests}
@@ -20,7 +21,8 @@ arrivals_are_returns b deliveries node = refl
 each_at_most : (n : ℕ) (f : ℕ → ℕ) (x : ℕ) → ((k : ℕ) → k < n → f k ≤ x) → total n f ≤ x * n
 unfolding total
 each_at_most zero f x h = omega arith
-each_at_most (suc n) f x h = omega (arith, each_at_most n f x (λ k l. h k (omega arith)), h n (omega arith), mul-add x n 1)
+each_at_most (suc n) f x h =
+    omega (arith, each_at_most n f x (λ k l. h k (omega arith)), h n (omega arith), mul-add x n 1)
 
 each_one : (n : ℕ) (f : ℕ → ℕ) → ((k : ℕ) → k < n → f k ≡ 1) → total n f ≡ n
 unfolding total
@@ -46,7 +48,8 @@ few_rows b valid =
     of_found : (k : ℕ) → (row : ReturnRow) × (slice_get b.returns k ≡ Some row) × IsValidReturn b row →
         total (length b.rights) (λ r. is_row r k) ≡ 1
     of_found k found =
-        ap (λ o. total (length b.rights) (λ r. if unwrap_or (option_map (λ (row : ReturnRow). row.right == r) o) false then 1 else 0)) found.1
+        ap (λ o. total (length b.rights)
+        (λ r. if unwrap_or (option_map (λ (row : ReturnRow). row.right == r) o) false then 1 else 0)) found.1
         ∙ total_at (length b.rights) found.0.right 1 ∙ inside found.0.right (length b.rights) 1 found.2.right
 
     one : (k : ℕ) → k < length b.returns → total (length b.rights) (λ r. is_row r k) ≡ 1
@@ -76,17 +79,23 @@ small_at [] i h = omega arith
 small_at (x ∷ xs) zero h = h 0 0 (omega arith)
 small_at (x ∷ xs) (suc i) h = small_at xs i (λ k d l. h (suc k) d (omega arith))
 
-small_delivery : (deliveries : List (List ℕ)) (right j : ℕ) → All (λ delivered. All (λ n. n ≤ 10 ^ 9) delivered) deliveries →
+small_delivery : (deliveries : List (List ℕ)) (right j : ℕ) →
+    All (λ delivered. All (λ n. n ≤ 10 ^ 9) delivered) deliveries →
     delivered_in deliveries right j ≤ 10 ^ 9
 small_delivery [] right j h = omega arith
 small_delivery (delivered ∷ deliveries) right zero h = small_at delivered right (h 0 delivered (omega arith))
-small_delivery (delivered ∷ deliveries) right (suc j) h = small_delivery deliveries right j (λ k d l. h (suc k) d (omega arith))
+small_delivery (delivered ∷ deliveries) right (suc j) h =
+    small_delivery deliveries right j (λ k d l. h (suc k) d (omega arith))
 
 row_brings : (row : ReturnRow) (deliveries : List (List ℕ)) (i : ℕ) → row.part ≤ 10000 →
     All (λ delivered. All (λ n. n ≤ 10 ^ 9) delivered) deliveries → returned_by row deliveries i ≤ 10 ^ 9
 row_brings row deliveries i part small = elim (cases_Bool (nat_lt i row.lag)) [
-  | inl early ↦ brings_at_most row.part 0 (before (i + 1 - row.lag)) (before (i - row.lag)) part (omega arith) (none (below i row.lag early))
-  | inr late ↦ brings_at_most row.part (delivered_in deliveries row.right (i - row.lag)) (before (i + 1 - row.lag)) (before (i - row.lag)) part
+  | inl early ↦
+      brings_at_most row.part 0 (before (i + 1 - row.lag)) (before (i - row.lag)) part (omega arith)
+      (none (below i row.lag early))
+  | inr late ↦
+      brings_at_most row.part (delivered_in deliveries row.right (i - row.lag)) (before (i + 1 - row.lag))
+      (before (i - row.lag)) part
       (small_delivery deliveries row.right (i - row.lag) small) (one (above i row.lag late))
 ]
   where
@@ -104,10 +113,12 @@ row_brings row deliveries i part small = elim (cases_Bool (nat_lt i row.lag)) [
         let e : i + 1 - row.lag ≡ i - row.lag = omega arith in
         omega (arith, ap (delivered_before deliveries row.right) e)
 
-    one : row.lag ≤ i → before (i + 1 - row.lag) ≡ before (i - row.lag) + delivered_in deliveries row.right (i - row.lag)
+    one : row.lag ≤ i →
+        before (i + 1 - row.lag) ≡ before (i - row.lag) + delivered_in deliveries row.right (i - row.lag)
     one l =
         let e : i + 1 - row.lag ≡ i - row.lag + 1 = omega arith in
-        ap (delivered_before deliveries row.right) e ∙ total_more (i - row.lag) (λ k. delivered_in deliveries row.right k)
+        ap (delivered_before deliveries row.right) e
+        ∙ total_more (i - row.lag) (λ k. delivered_in deliveries row.right k)
 
 pub returns_are_small : ReturnsAreSmall
 returns_are_small b deliveries i valid small =
@@ -124,7 +135,11 @@ returns_are_small b deliveries i valid small =
     little : (k : ℕ) → (row : ReturnRow) × (slice_get b.returns k ≡ Some row) × IsValidReturn b row →
         total (length b.nodes) (λ node. at_node node k) ≤ 10 ^ 9
     little k found =
-        let e = ap (λ o. total (length b.nodes) (λ node. unwrap_or (option_map (λ (row : ReturnRow). if row.node == node then returned_by row deliveries i else 0) o) 0)) found.1 in
+        let e = ap
+        (λ o. total (length b.nodes)
+        (λ node. unwrap_or
+        (option_map (λ (row : ReturnRow). if row.node == node then returned_by row deliveries i else 0) o) 0))
+        found.1 in
         omega (
           arith,
           e,

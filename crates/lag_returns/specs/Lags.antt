@@ -29,7 +29,8 @@ delivered_to deliveries right = map (λ delivered. slice_index delivered right) 
 -- the last deliveries are on their way, as many as the lag has months, and those before them left the remainder
 pub record IsOnTheWay (deliveries : List (List ℕ)) (w : OnTheWay) : Type 0 where
   pub waiting : w.waiting ≡ keep_last w.row.lag (delivered_to deliveries w.row.right)
-  pub remainder : w.remainder ≡ (w.row.part * delivered_before deliveries w.row.right (length deliveries - w.row.lag)) % 10000
+  pub remainder : w.remainder ≡ (w.row.part * delivered_before deliveries w.row.right (length deliveries - w.row.lag)) %
+      10000
 
 -- these rows, after months with these deliveries, each a list by right
 pub record StandsFor (lags : List OnTheWay) (rows : List ReturnRow) (deliveries : List (List ℕ)) : Type 0 where
@@ -39,4 +40,5 @@ pub record StandsFor (lags : List OnTheWay) (rows : List ReturnRow) (deliveries 
 -- what return rows bring to a node in the month after these: the sum over the rows at the node
 abbrev pub arrivals_at : List ReturnRow → List (List ℕ) → ℕ → ℕ
 arrivals_at rows deliveries node =
-    total (length rows) (λ k. of_entry rows k (λ row. if row.node == node then returned_by row deliveries (length deliveries) else 0) 0)
+    total (length rows)
+    (λ k. of_entry rows k (λ row. if row.node == node then returned_by row deliveries (length deliveries) else 0) 0)

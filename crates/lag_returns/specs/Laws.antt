@@ -25,5 +25,6 @@ ValidRowsAreLagged = (b : Basin) → IsValidBasin b → HasLaggedRows b
 -- In a month the returns of a valid basin sum to at most 10^9 for each row, where no right was ever delivered more.
 abbrev pub ReturnsAreSmall : Type 0
 ReturnsAreSmall =
-    (b : Basin) (deliveries : List (List ℕ)) (i : ℕ) → IsValidBasin b → All (λ delivered. All (λ n. n ≤ 10 ^ 9) delivered) deliveries →
+    (b : Basin) (deliveries : List (List ℕ)) (i : ℕ) → IsValidBasin b →
+    All (λ delivered. All (λ n. n ≤ 10 ^ 9) delivered) deliveries →
     total (length b.nodes) (λ node. returned_at b deliveries node i) ≤ 10 ^ 9 * length b.returns

@@ -1,7 +1,8 @@
 //! What comes back to the river, months later, of what diversions take.
 #![tactic(auto)]
 
-ghost use Rattle.std.specs.Prelude.{◌≡◌, ℕ, ◌+◌, ◌*◌, ◌^◌, ◌<◌, ◌≤◌, ◌++◌, ◌∷◌, [], List, length, slice_index, slice_set, map, All, IfOk};
+ghost use Rattle.std.specs.Prelude.{◌≡◌, ℕ, ◌+◌, ◌*◌, ◌^◌, ◌<◌, ◌≤◌, ◌++◌, ◌∷◌, [], List, length, slice_index};
+ghost use Rattle.std.specs.Prelude.{slice_set, map, All, IfOk};
 ghost use Rattle.lag_returns.specs.ReturnFlows.{after_month, arriving, brought, due, fresh, with_delivery};
 ghost use Rattle.lag_returns.specs.Lags.{IsLagged, StandsFor, return_rows, arrivals_at};
 ghost use Rattle.water_model.specs.declared.types.ReturnRow.{ReturnRow};
@@ -66,7 +67,8 @@ impl ReturnFlow {
     fn arrive(&self, into: &mut [u64])
         requires node { self.now.row.node < length into.old }
         requires room { slice_index into.old self.now.row.node + 10 ^ 9 ≤ 10 ^ 15 }
-        ensures adds { into.new ≡ slice_set into.old self.now.row.node (slice_index into.old self.now.row.node + arriving self.now) }
+        ensures adds { into.new ≡ slice_set into.old self.now.row.node
+            (slice_index into.old self.now.row.node + arriving self.now) }
         ensures small { arriving self.now ≤ 10 ^ 9 }
     {
         into[self.row.node as usize] += self.due() / 10_000;
@@ -110,8 +112,8 @@ fn take_each(flows: &mut [ReturnFlow], delivered: &[u64])
 /// Return rows, and the deliveries of their diversions that are on their way.
 ///
 /// Deliveries that came back aren't kept. A value stands for the rows and for the deliveries of all months so far, a
-/// list by right for each month; contracts say what holds for each such list that it stands for. They see a value as the
-/// list of its rows, each with what is on its way and with the remainder.
+/// list by right for each month; contracts say what holds for each such list that it stands for. They see a value as
+/// the list of its rows, each with what is on its way and with the remainder.
 #[derive(Drop)]
 pub struct Lags {
     flows: Vec<ReturnFlow>,
@@ -142,8 +144,8 @@ impl Lags {
         Ok(Lags { flows })
     }
 
-    /// Adds what each row brings this month to the place of its node, in units of 1,000 cubic metres. The list is indexed
-    /// by node, and each place has room for 10^9 from each row. The cost is linear in the rows.
+    /// Adds what each row brings this month to the place of its node, in units of 1,000 cubic metres. The list is
+    /// indexed by node, and each place has room for 10^9 from each row. The cost is linear in the rows.
     pub fn arrive(&self, into: &mut [u64])
         requires nodes { All (λ row. row.node < length into.old) (return_rows self.now) }
         requires room { All (λ n. n + 10 ^ 9 * length (return_rows self.now) ≤ 10 ^ 15) into.old }

@@ -1,4 +1,5 @@
-//! The tests of the layers below the program, a file for each. They stand in one crate, since a crate with tests is proved once more.
+//! The tests of the layers below the program, a file for each. They stand in one crate, since a crate with tests is
+//! proved once more.
 #![tactic(auto)]
 
 #[cfg(test)]

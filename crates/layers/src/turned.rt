@@ -19,7 +19,8 @@ node = [
 link = [{ name = "a", from = "top", to = "mouth" }, { name = "b", from = "hill", to = "mouth" }]
 "#;
 
-/// In each month the amount of `top` is the month's place in three calendar years from 1900 on, and that of `hill` 100 more.
+/// In each month the amount of `top` is the month's place in three calendar years from 1900 on, and that of `hill` 100
+/// more.
 fn record(alloc: Global) -> Result<String, Fail> {
     let mut text = String::from_str(alloc, "month,node,amount\n")?;
     for year in 0..3u32 {

@@ -11,10 +11,12 @@ mapped_count f xs ys e = ap length e ∙ whole f ys
     whole f [] = refl
     whole f (y ∷ ys) = omega (arith, whole f ys)
 
-pub no_sets_count : (cuts : CutSets) (rights nodes m : ℕ) → cuts ≡ record { nodes = nodes; sets = replicate rights None } →
+pub no_sets_count : (cuts : CutSets) (rights nodes m : ℕ) →
+    cuts ≡ record { nodes = nodes; sets = replicate rights None } →
     rights ≡ m → length cuts.sets ≡ m
 no_sets_count cuts rights nodes m e h = ap (λ c. length c.sets) e ∙ (length-replicate rights None ∙ h)
 
-pub no_sets_nodes : (cuts : CutSets) (rights nodes m : ℕ) → cuts ≡ record { nodes = nodes; sets = replicate rights None } →
+pub no_sets_nodes : (cuts : CutSets) (rights nodes m : ℕ) →
+    cuts ≡ record { nodes = nodes; sets = replicate rights None } →
     nodes ≡ m → cuts.nodes ≡ m
 no_sets_nodes cuts rights nodes m e h = ap (λ c. c.nodes) e ∙ h

@@ -1,5 +1,6 @@
 -- Runs of one basin and series have one outcome.
-use Rattle.std.proofs.Common.{◌≡◌, ℕ, zero, suc, ◌<◌, ◌≤◌, Bool, refl, sym, ap, ◌∙◌, arith, List, [], ◌∷◌, length, inl, inr}
+use Rattle.std.proofs.Common.{◌≡◌, ℕ, zero, suc, ◌<◌, ◌≤◌, Bool, refl, sym, ap, ◌∙◌, arith, List, [], ◌∷◌, length, inl}
+use Rattle.std.proofs.Common.{inr}
 use Rattle.std.specs.Prelude.{Option, Some, None, slice_index}
 use Rattle.std.proofs.lemmas.Bool.{cases_lt}
 use Rattle.water_model.specs.Cuts.{IsReach}
@@ -25,12 +26,14 @@ same_sets (x ∷ xs) (y ∷ ys) e h =
     cc
 
 -- the set of a right in two records of one outcome, each with the reaches as its sets
-same_cut : (b : Basin) (m n : MonthRecord) → HaveSameOutcome m n → HasReaches b m → HasReaches b n → (r : ℕ) → r < length b.rights → cut_of m r ≡ cut_of n r
+same_cut : (b : Basin) (m n : MonthRecord) → HaveSameOutcome m n → HasReaches b m → HasReaches b n → (r : ℕ) →
+    r < length b.rights → cut_of m r ≡ cut_of n r
 same_cut b m n same f g r l = elim (cases_lt (slice_index m.delivered r) (slice_index m.want r)) [
   | inl short ↦
       let one = f.short r l short in
       let other = g.short r l (along short) in
-      one.1 ∙ (ap (λ cut. Some cut) (reach_unique b m.month m.supply m.delivered r one.0 other.0 one.2 (back other.0 other.2)) ∙ sym other.1)
+      one.1 ∙ (ap (λ cut. Some cut)
+      (reach_unique b m.month m.supply m.delivered r one.0 other.0 one.2 (back other.0 other.2)) ∙ sym other.1)
   | inr met ↦ f.met r l met ∙ sym (g.met r l (along_met met))
 ]
   where
@@ -46,12 +49,16 @@ same_cut b m n same f g r l = elim (cases_lt (slice_index m.delivered r) (slice_
     along_met : slice_index m.want r ≤ slice_index m.delivered r → slice_index n.want r ≤ slice_index n.delivered r
     along_met h = omega (arith, delivered, want)
 
-    back : (cut : List Bool) → IsReach b n.month n.supply n.delivered r cut → IsReach b m.month m.supply m.delivered r cut
+    back : (cut : List Bool) → IsReach b n.month n.supply n.delivered r cut →
+        IsReach b m.month m.supply m.delivered r cut
     back cut h = rw (same.month, same.supply, same.delivered) h
 
 pub runs_have_one_outcome : RunsHaveOneOutcome
 runs_have_one_outcome b series records others valid f g reaches other_reaches len i m n at at' =
     let same = one_outcome b series records others valid f g len i m n at at' in
     let count : length m.cuts.sets ≡ length b.rights = (f.each i m at).fits.cuts in
-    let other_count : length n.cuts.sets ≡ length b.rights = (g.each i n at').fits.cuts in
-    (same, same_sets m.cuts.sets n.cuts.sets (count ∙ sym other_count) (λ r l. same_cut b m n same (reaches i m at) (other_reaches i n at') r (omega (arith, count))))
+    let other_count : length n.cuts.sets ≡ length b.rights = (g.each i n at').fits.cuts in (
+      same,
+      same_sets m.cuts.sets n.cuts.sets (count ∙ sym other_count)
+          (λ r l. same_cut b m n same (reaches i m at) (other_reaches i n at') r (omega (arith, count))),
+    )

@@ -1,6 +1,8 @@
 -- What the months of a partial history leave for a run to go on from.
-use Rattle.std.proofs.Common.{◌≡◌, ℕ, zero, suc, ◌+◌, ◌-◌, ◌^◌, ◌<◌, ◌≤◌, refl, sym, ◌∙◌, ap, subst, arith, List, [], ◌∷◌, ◌++◌, length, get_or, map, take, length-take}
-use Rattle.std.specs.Prelude.{All, IfOk, Result, Ok, Err, replicate, slice_get, slice_index, Option, Some, None, option_map, unwrap_or}
+use Rattle.std.proofs.Common.{◌≡◌, ℕ, zero, suc, ◌+◌, ◌-◌, ◌^◌, ◌<◌, ◌≤◌, refl, sym, ◌∙◌, ap, subst, arith, List, []}
+use Rattle.std.proofs.Common.{◌∷◌, ◌++◌, length, get_or, map, take, length-take}
+use Rattle.std.specs.Prelude.{All, IfOk, Result, Ok, Err, replicate, slice_get, slice_index, Option, Some, None}
+use Rattle.std.specs.Prelude.{option_map, unwrap_or}
 use Rattle.std.proofs.lemmas.List.{length-map, length-replicate, map-append, take_more}
 use Rattle.std.proofs.lemmas.Option.{slice_get-map, slice_get-get_or, slice_get_within}
 use Rattle.water_model.specs.History.{IsPartialHistory, opening_after}
@@ -22,7 +24,8 @@ use Rattle.month_fold.proofs.Following.{deliveries_small}
 pub have_deliveries : {X : Type 0} (f : X → MonthRecord) (b : Basin) (series : Inflows) (xs : List X) → IsValidBasin b →
     IsSeriesOf b series → IsPartialHistory b series (map f xs) → All (λ x. HasDeliveries b (f x)) xs
 have_deliveries f b series xs valid fits partial = λ k d l.
-    let follows = partial.each k (f (get_or xs k d)) (slice_get-map f xs k ∙ ap (option_map f) (slice_get-get_or xs k d l)) in
+    let follows =
+    partial.each k (f (get_or xs k d)) (slice_get-map f xs k ∙ ap (option_map f) (slice_get-get_or xs k d l)) in
     record {
       count = follows.fits.delivered;
       small = deliveries_small b series (take k (map f xs)) (f (get_or xs k d)) valid fits follows;
@@ -38,7 +41,8 @@ delivered_front (m ∷ ms) zero r j = omega arith
 delivered_front (m ∷ ms) (suc i) r zero = omega arith
 delivered_front (m ∷ ms) (suc i) r (suc j) = delivered_front ms i r j
 
-pub tell_use : (b : Basin) (series : Inflows) (records : List MonthRecord) → IsValidBasin b → IsSeriesOf b series → IsPartialHistory b series records → TellUse b records
+pub tell_use : (b : Basin) (series : Inflows) (records : List MonthRecord) → IsValidBasin b → IsSeriesOf b series →
+    IsPartialHistory b series records → TellUse b records
 tell_use b series records valid fits partial i m at =
     let follows = partial.each i m at in
     let within = slice_get_within records i m at in
@@ -46,7 +50,12 @@ tell_use b series records valid fits partial i m at =
     record {
       index = follows.index;
       within = omega (arith, follows.index, partial.within);
-      delivered = record { count = follows.fits.delivered; small = deliveries_small b series (take i records) m valid fits follows };
+      delivered =
+          record {
+            count = follows.fits.delivered;
+            small =
+                deliveries_small b series (take i records) m valid fits follows;
+          };
       used = record {
         count = follows.fits.used;
         each = λ r l. follows.used r l ∙ ap (used_of b (map (λ k. k.delivered) (take i records)) r)
@@ -74,7 +83,8 @@ whole (z ∷ w ∷ ys) zero y e l = absurd (omega arith)
 whole (z ∷ ys) (suc i) y e l = ap (λ ds. z.delivered ∷ ds) (whole ys i y e (omega arith))
 
 -- the last of some months, as a record
-pub last_at : {X : Type 0} (f : X → MonthRecord) (xs : List X) (x : X) (m : MonthRecord) → m ≡ f x → Some x ≡ slice_get xs (length xs - 1) →
+pub last_at : {X : Type 0} (f : X → MonthRecord) (xs : List X) (x : X) (m : MonthRecord) → m ≡ f x →
+    Some x ≡ slice_get xs (length xs - 1) →
     slice_get (map f xs) (length (map f xs) - 1) ≡ Some m
 last_at f xs x m same at =
     ap (λ n. slice_get (map f xs) (n - 1)) (length-map xs f)
@@ -82,7 +92,8 @@ last_at f xs x m same at =
 
 pub used_by_last : (b : Basin) (records : List MonthRecord) (m : MonthRecord) (used : List ℕ) → TellUse b records →
     slice_get records (length records - 1) ≡ Some m →
-    ((deliveries : List (List ℕ)) → length deliveries ≡ m.index → HasUsed b deliveries m.used → HasUsed b (deliveries ++ m.delivered ∷ []) used) →
+    ((deliveries : List (List ℕ)) → length deliveries ≡ m.index → HasUsed b deliveries m.used →
+    HasUsed b (deliveries ++ m.delivered ∷ []) used) →
     HasUsed b (map (λ k. k.delivered) records) used
 used_by_last b records m used tell at next =
     let own = tell (length records - 1) m at in
@@ -91,7 +102,8 @@ used_by_last b records m used tell at next =
     (next (map (λ k. k.delivered) (take (length records - 1) records))
     (length-map (take (length records - 1) records) (λ (k : MonthRecord). k.delivered) ∙ sym own.index) own.used)
 
-pub used_by_none : (b : Basin) (records : List MonthRecord) (used : List ℕ) → None ≡ slice_get records (length records - 1) →
+pub used_by_none : (b : Basin) (records : List MonthRecord) (used : List ℕ) →
+    None ≡ slice_get records (length records - 1) →
     length used ≡ length b.rights → ((r : ℕ) → slice_index used r ≡ 0) → HasUsed b (map (λ k. k.delivered) records) used
 used_by_none b [] used none count zeros = nothing_used b used count zeros
 used_by_none b (m ∷ ms) used none count zeros =
@@ -100,28 +112,35 @@ used_by_none b (m ∷ ms) used none count zeros =
 
 -- what the calls answer, where they answer
 
-pub used_ok : {E : Type 0} (b : Basin) (records : List MonthRecord) (m : MonthRecord) (r : Result (List ℕ) E) → TellUse b records →
+pub used_ok : {E : Type 0} (b : Basin) (records : List MonthRecord) (m : MonthRecord) (r : Result (List ℕ) E) →
+    TellUse b records →
     slice_get records (length records - 1) ≡ Some m →
-    IfOk r (λ used. (deliveries : List (List ℕ)) → length deliveries ≡ m.index → HasUsed b deliveries m.used → HasUsed b (deliveries ++ m.delivered ∷ []) used) →
+    IfOk r (λ used. (deliveries : List (List ℕ)) → length deliveries ≡ m.index → HasUsed b deliveries m.used →
+    HasUsed b (deliveries ++ m.delivered ∷ []) used) →
     IfOk r (λ used. HasUsed b (map (λ k. k.delivered) records) used)
 used_ok b records m (Ok used) tell at next = used_by_last b records m used tell at next
 used_ok b records m (Err e) tell at next = tt
 
-pub none_ok : {E X : Type 0} (f : X → MonthRecord) (b : Basin) (xs : List X) (n : ℕ) (r : Result (List ℕ) E) → None ≡ slice_get xs (length xs - 1) →
-    n ≡ length b.rights → IfOk r (λ rows. rows ≡ replicate n 0) → IfOk r (λ used. HasUsed b (map (λ k. k.delivered) (map f xs)) used)
+pub none_ok : {E X : Type 0} (f : X → MonthRecord) (b : Basin) (xs : List X) (n : ℕ) (r : Result (List ℕ) E) →
+    None ≡ slice_get xs (length xs - 1) →
+    n ≡ length b.rights → IfOk r (λ rows. rows ≡ replicate n 0) →
+    IfOk r (λ used. HasUsed b (map (λ k. k.delivered) (map f xs)) used)
 none_ok f b xs n (Ok used) none count is =
     used_by_none b (map f xs) used
-    (sym (ap (λ k. slice_get (map f xs) (k - 1)) (length-map xs f) ∙ (slice_get-map f xs (length xs - 1) ∙ ap (option_map f) (sym none))))
+    (sym (ap (λ k. slice_get (map f xs) (k - 1)) (length-map xs f)
+    ∙ (slice_get-map f xs (length xs - 1) ∙ ap (option_map f) (sym none))))
     (ap length is ∙ (length-replicate n 0 ∙ count)) (λ k. ap (λ ys. slice_index ys k) is ∙ no_numbers n k)
 none_ok f b xs n (Err e) none count is = tt
 
 -- what a run keeps is little
-pub used_little : (run : RunSeen) (records : List MonthRecord) → IsValidBasin run.basin → IsSeriesOf run.basin run.series →
+pub used_little : (run : RunSeen) (records : List MonthRecord) → IsValidBasin run.basin →
+    IsSeriesOf run.basin run.series →
     StandsFor run records → (r : ℕ) → r < length run.basin.rights → slice_index run.used r ≤ 10 ^ 15
 used_little run records valid fits stands r l = omega (
   arith,
   stands.used.each r l,
-  used_most run.basin (map (λ k. k.delivered) records) r (length (map (λ (k : MonthRecord). k.delivered) records)) (10 ^ 9)
+  used_most run.basin (map (λ k. k.delivered) records) r (length (map (λ (k : MonthRecord). k.delivered) records))
+      (10 ^ 9)
       (all_small run.basin run.series records valid fits stands.partial r),
   length-map records (λ (k : MonthRecord). k.delivered),
   stands.partial.within,
@@ -139,7 +158,8 @@ stored_count b series records partial = by_last (slice_get records (length recor
     by_last (Some m) e = (partial.each (length records - 1) m e).fits.closing
 
 -- the deliveries up to one month more
-pub deliveries_more : {X : Type 0} (f : X → MonthRecord) (xs : List X) (i : ℕ) (x : X) (delivered : List ℕ) → i < length xs → x ≡ get_or xs i x →
+pub deliveries_more : {X : Type 0} (f : X → MonthRecord) (xs : List X) (i : ℕ) (x : X) (delivered : List ℕ) →
+    i < length xs → x ≡ get_or xs i x →
     delivered ≡ (f x).delivered →
     map (λ m. m.delivered) (map f (take (i + 1) xs)) ≡ map (λ m. m.delivered) (map f (take i xs)) ++ delivered ∷ []
 deliveries_more {X = X} f xs i x delivered l is e =

@@ -13,7 +13,8 @@ use Rattle.month_fold.specs.Reaches.{HaveReaches}
 abbrev pub RunsHaveOneOutcome : Type 0
 RunsHaveOneOutcome =
     (b : Basin) (series : Inflows) (records others : List MonthRecord) → IsValidBasin b →
-    IsPartialHistory b series records → IsPartialHistory b series others → HaveReaches b records → HaveReaches b others →
+    IsPartialHistory b series records → IsPartialHistory b series others → HaveReaches b records →
+    HaveReaches b others →
     length records ≡ length others →
     (i : ℕ) (m n : MonthRecord) → slice_get records i ≡ Some m → slice_get others i ≡ Some n →
     HaveSameOutcome m n × (m.cuts.sets ≡ n.cuts.sets)

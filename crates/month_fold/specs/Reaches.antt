@@ -1,5 +1,6 @@
 -- Months whose sets are the reaches of short rights.
-use Rattle.std.specs.Prelude.{◌≡◌, ℕ, ◌<◌, ◌≤◌, ◌^◌, All, Bool, List, length, map, take, slice_index, slice_get, Some, None}
+use Rattle.std.specs.Prelude.{◌≡◌, ℕ, ◌<◌, ◌≤◌, ◌^◌, All, Bool, List, length, map, take, slice_index, slice_get, Some}
+use Rattle.std.specs.Prelude.{None}
 use Rattle.water_model.specs.Cuts.{IsReach}
 use Rattle.water_model.specs.History.{IsShort, cut_of}
 use Rattle.month_terms.specs.Terms.{HasUsed}

@@ -6,7 +6,16 @@ use Rattle.month_fold.specs.Runs.{RunSeen, HasMonths}
 use Rattle.month_fold.specs.declared.run.Run.TheInside.{Inside}
 
 abbrev pub seen_of : Inside → RunSeen
-seen_of i = record { basin = i.basin.now; series = i.series.now; done = i.done; last = i.month.value; lags = i.lags; used = i.used }
+seen_of i =
+    record {
+      basin = i.basin.now;
+      series = i.series.now;
+      done = i.done;
+      last = i.month.value;
+      lags = i.lags;
+      used =
+          i.used;
+    }
 
 -- a valid basin, a series of it, and what is derived from it once; and some months stand behind the run
 pub record IsReady (i : Inside) : Type 0 where

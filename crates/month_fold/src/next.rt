@@ -1,5 +1,6 @@
 //! One month more.
-ghost use Rattle.std.specs.Prelude.{ℕ, List, ◌≡◌, ◌+◌, ◌*◌, ◌^◌, ◌<◌, ◌≤◌, ◌++◌, ◌∷◌, [], All, length, map, slice_index};
+ghost use Rattle.std.specs.Prelude.{ℕ, List, ◌≡◌, ◌+◌, ◌*◌, ◌^◌, ◌<◌, ◌≤◌, ◌++◌, ◌∷◌, [], All, length, map};
+ghost use Rattle.std.specs.Prelude.{slice_index};
 ghost use Rattle.lag_returns.specs.Lags.{OnTheWay, return_rows};
 ghost use Rattle.lag_returns.specs.Lags as lag;
 ghost use Rattle.month_terms.specs.Terms.{FitsRecord, HasReturned, HasUsed};
@@ -25,7 +26,8 @@ fn read_arrivals(basin: &Basin, lags: &Lags, returned: &mut [u64])
     requires rows { return_rows lags.now ≡ basin.now.returns }
     requires returned { length returned.old ≡ length basin.now.nodes }
     ensures length { length returned.new ≡ length returned.old }
-    ensures each { (deliveries : List (List ℕ)) → lag.StandsFor lags.now basin.now.returns deliveries → HasReturned basin.now deliveries returned.new }
+    ensures each { (deliveries : List (List ℕ)) → lag.StandsFor lags.now basin.now.returns deliveries →
+        HasReturned basin.now deliveries returned.new }
 {
     returned.fill(0);
     lags.arrive(returned);
@@ -37,7 +39,8 @@ fn bring_back(basin: &Basin, lags: &Lags, used: &[u64], month: &mut MonthRecord)
     requires rows { return_rows lags.now ≡ basin.now.returns }
     requires returned { length month.old.returned ≡ length basin.now.nodes }
     requires used { length month.old.used ≡ length used.now }
-    ensures each { (deliveries : List (List ℕ)) → lag.StandsFor lags.now basin.now.returns deliveries → HasReturned basin.now deliveries month.new.returned }
+    ensures each { (deliveries : List (List ℕ)) → lag.StandsFor lags.now basin.now.returns deliveries →
+        HasReturned basin.now deliveries month.new.returned }
     ensures used { month.new.used ≡ used.now }
     ensures rest { month.new ≡ record month.old { returned = month.new.returned; used = month.new.used } }
     ensures length { length month.new.returned ≡ length month.old.returned }
@@ -97,7 +100,16 @@ pub fn next_month<L: Ledger>(
     ensures fits { FitsRecord basin.now month.new }
     ensures small { All (λ n. n ≤ 10 ^ 9) month.new.delivered }
     ensures next { (records : List MonthRecord) →
-        StandsFor (record { basin = basin.now; series = series.now; done = index; last = month.old; lags = lags.now; used = used.now }) records →
+        StandsFor
+        (record {
+          basin = basin.now;
+          series = series.now;
+          done = index;
+          last = month.old;
+          lags = lags.now;
+          used =
+              used.now;
+        }) records →
         IsNext basin.now series.now records month.new }
     ensures pushes { searches.new ≤ searches.old + month_pushes basin.now }
 {

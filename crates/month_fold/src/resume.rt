@@ -27,8 +27,8 @@ pub fn stored_after(
     }
 }
 
-/// What is on its way back to the river after these months. AllocError comes where memory is lacking. The cost is linear
-/// in the return rows times the months.
+/// What is on its way back to the river after these months. AllocError comes where memory is lacking. The cost is
+/// linear in the return rows times the months.
 pub fn on_the_way(
     alloc: Global,
     basin: &Basin,
@@ -36,7 +36,8 @@ pub fn on_the_way(
 ) -> Result<Lags, AllocError>
     requires basin { IsValidBasin basin.now }
     requires deliveries { All (λ m. HasDeliveries basin.now m.value) months.now }
-    ensures { IfOk result (λ lags. lag.StandsFor lags basin.now.returns (map (λ m. m.delivered) (map (λ m. m.value) months.now))) }
+    ensures { IfOk result
+        (λ lags. lag.StandsFor lags basin.now.returns (map (λ m. m.delivered) (map (λ m. m.value) months.now))) }
 {
     let mut lags = Lags::open(alloc, basin.returns.as_slice())?;
     for month in months {

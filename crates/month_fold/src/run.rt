@@ -69,8 +69,9 @@ impl<'b> Run<'b> {
         Run::resume(alloc, basin, series, &[])
     }
 
-    /// A run that went through these months, which may have been solved by another run. AllocError comes where memory is
-    /// lacking. No month is solved: the cost is that of opening a run, and linear in the return rows times the months.
+    /// A run that went through these months, which may have been solved by another run. AllocError comes where memory
+    /// is lacking. No month is solved: the cost is that of opening a run, and linear in the return rows times the
+    /// months.
     pub fn resume(
         alloc: Global,
         basin: &'b Basin,
@@ -110,8 +111,8 @@ impl<'b> Run<'b> {
         self.basin.months - self.done
     }
 
-    /// The record of the month that was solved last. Before the first step it says nothing but the storage with which the
-    /// next month opens, as its closing.
+    /// The record of the month that was solved last. Before the first step it says nothing but the storage with which
+    /// the next month opens, as its closing.
     pub fn month(&self) -> &MonthRecord
         ensures { result.now ≡ self.now.last }
     {

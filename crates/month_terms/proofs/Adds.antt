@@ -1,6 +1,8 @@
 -- Sums that grow by one place.
-use Rattle.std.proofs.Common.{◌≡◌, ℕ, zero, suc, ◌+◌, ◌*◌, ◌<◌, ◌≤◌, Bool, true, false, refl, sym, ◌∙◌, ap, subst, arith, List, [], ◌∷◌, length, replicate}
-use Rattle.std.specs.Prelude.{◌==◌, slice_index, slice_get, slice_set, Option, Some, None, if◌then◌else◌, unwrap_or, option_map}
+use Rattle.std.proofs.Common.{◌≡◌, ℕ, zero, suc, ◌+◌, ◌*◌, ◌<◌, ◌≤◌, Bool, true, false, refl, sym, ◌∙◌, ap, subst}
+use Rattle.std.proofs.Common.{arith, List, [], ◌∷◌, length, replicate}
+use Rattle.std.specs.Prelude.{◌==◌, slice_index, slice_get, slice_set, Option, Some, None, if◌then◌else◌, unwrap_or}
+use Rattle.std.specs.Prelude.{option_map}
 use Rattle.std.proofs.lemmas.Option.{slice_get_within}
 use Rattle.std.proofs.lemmas.Bool.Decides.{nat_tests}
 use Rattle.place_sums.specs.Sums.{total, total_where, when}
@@ -31,7 +33,8 @@ added (y ∷ xs) (suc place) x zero l = other y place x
   where
     other : (z k x : ℕ) → z ≡ z + when (suc k == 0) x
     other z k x = grind (arith, nat_tests)
-added (y ∷ xs) (suc place) x (suc k) l = added xs place x k (omega arith) ∙ ap (λ d. slice_index xs k + d) (sym (same_numbers place k x))
+added (y ∷ xs) (suc place) x (suc k) l =
+    added xs place x k (omega arith) ∙ ap (λ d. slice_index xs k + d) (sym (same_numbers place k x))
 
 -- a sum over one place more, where the place's key is known
 pub one_more : (n k : ℕ) (key : ℕ → Option ℕ) (f : ℕ → ℕ) (at sum base : ℕ) → key n ≡ Some at →
@@ -56,12 +59,16 @@ sum_within m n k key f at sum base e same h l =
     omega (arith, more, all, here)
 
 -- what a reservoir's entry says of its node
-pub reservoir_node : (b : Basin) (v : ℕ) (entry : Reservoir) → slice_get b.reservoirs v ≡ Some entry → node_of_reservoir b v ≡ Some entry.node
+pub reservoir_node : (b : Basin) (v : ℕ) (entry : Reservoir) → slice_get b.reservoirs v ≡ Some entry →
+    node_of_reservoir b v ≡ Some entry.node
 reservoir_node b v entry e = ap (λ o. unwrap_or (option_map (λ x. Some x.node) o) None) e
 
-pub node_within : (b : Basin) (v : ℕ) (entry : Reservoir) → IsValidBasin b → slice_get b.reservoirs v ≡ Some entry → entry.node < length b.nodes
+pub node_within : (b : Basin) (v : ℕ) (entry : Reservoir) → IsValidBasin b → slice_get b.reservoirs v ≡ Some entry →
+    entry.node < length b.nodes
 node_within b v entry valid e =
-    let found = entry_holds (λ r. IsValidReservoir b r) b.reservoirs v valid.reservoirs (slice_get_within b.reservoirs v entry e) in
+    let found =
+    entry_holds (λ r. IsValidReservoir b r) b.reservoirs v valid.reservoirs
+    (slice_get_within b.reservoirs v entry e) in
     let some : Some found.0 ≡ Some entry = sym found.1 ∙ e in
     let same : found.0 ≡ entry = cc in
     subst (λ x. x.node < length b.nodes) same found.2.node
@@ -70,28 +77,33 @@ pub nothing_yet : (p : ℕ → Bool) (f : ℕ → ℕ) (x : ℕ) → x ≡ x + t
 nothing_yet p f x = omega (arith, total_where_start p f)
 
 -- what is told of a right by its entry's kind
-pub zone_told : (b : Basin) (r v : ℕ) (right : Right) → slice_get b.rights r ≡ Some right → is_zone_of b r v ≡ is_zone_of_kind right.kind v
+pub zone_told : (b : Basin) (r v : ℕ) (right : Right) → slice_get b.rights r ≡ Some right →
+    is_zone_of b r v ≡ is_zone_of_kind right.kind v
 zone_told b r v right e = ap (λ o. unwrap_or (option_map (λ x. is_zone_of_kind x.kind v) o) false) e
 
-pub place_valid : (b : Basin) (r : ℕ) (right : Right) → IsValidBasin b → slice_get b.rights r ≡ Some right → HasValidPlace b right.kind
+pub place_valid : (b : Basin) (r : ℕ) (right : Right) → IsValidBasin b → slice_get b.rights r ≡ Some right →
+    HasValidPlace b right.kind
 place_valid b r right valid e =
     let found = entry_holds (λ x. IsValidRight b x) b.rights r valid.rights (slice_get_within b.rights r right e) in
     let some : Some found.0 ≡ Some right = sym found.1 ∙ e in
     let same : found.0 ≡ right = cc in
     subst (λ (x : Right). HasValidPlace b x.kind) same found.2.place
 
-pub zone_within : (b : Basin) (r at level : ℕ) (right : Right) → IsValidBasin b → slice_get b.rights r ≡ Some right → right.kind ≡ Zone at level →
+pub zone_within : (b : Basin) (r at level : ℕ) (right : Right) → IsValidBasin b → slice_get b.rights r ≡ Some right →
+    right.kind ≡ Zone at level →
     at < length b.reservoirs
 zone_within b r at level right valid e kind = (subst (HasValidPlace b) kind (place_valid b r right valid e)).0
 
 -- a zone's take is added at its reservoir
-pub zone_more : (b : Basin) (take closing : List ℕ) (r v at level sum : ℕ) (right : Right) → slice_get b.rights r ≡ Some right → right.kind ≡ Zone at level →
+pub zone_more : (b : Basin) (take closing : List ℕ) (r v at level sum : ℕ) (right : Right) →
+    slice_get b.rights r ≡ Some right → right.kind ≡ Zone at level →
     sum ≡ total_where r (λ k. is_zone_of b k v) (λ k. slice_index take k) →
     sum + when (at == v) (slice_index take r) ≡ total_where (r + 1) (λ k. is_zone_of b k v) (λ k. slice_index take k)
 zone_more b take closing r v at level sum right e kind h =
     let more = total_more r (λ k. if is_zone_of b k v then slice_index take k else 0) in
     let here : is_zone_of b r v ≡ (at == v) = zone_told b r v right e ∙ ap (λ k. is_zone_of_kind k v) kind in
-    let same : (if is_zone_of b r v then slice_index take r else 0) ≡ when (at == v) (slice_index take r) = ap (λ t. if t then slice_index take r else 0) here in
+    let same : (if is_zone_of b r v then slice_index take r else 0) ≡ when (at == v) (slice_index take r) =
+    ap (λ t. if t then slice_index take r else 0) here in
     omega (arith, more, same, h)
 
 -- and a right that is no zone adds nothing
@@ -102,7 +114,8 @@ pub no_zone_more : (b : Basin) (take : List ℕ) (r v sum : ℕ) (right : Right)
 no_zone_more b take r v sum right e other h =
     let more = total_more r (λ k. if is_zone_of b k v then slice_index take k else 0) in
     let none : is_zone_of b r v ≡ false = zone_told b r v right e ∙ of_kind right.kind other in
-    let same : (if is_zone_of b r v then slice_index take r else 0) ≡ 0 = ap (λ t. if t then slice_index take r else 0) none in
+    let same : (if is_zone_of b r v then slice_index take r else 0) ≡ 0 =
+    ap (λ t. if t then slice_index take r else 0) none in
     omega (arith, more, same, h)
   where
     of_kind : (kind : RightKind) → ((at level : ℕ) → kind ≡ Zone at level → ⊥) → is_zone_of_kind kind v ≡ false

@@ -1,5 +1,6 @@
 -- How large the amounts of a partial history's months can be.
-use Rattle.std.proofs.Common.{◌≡◌, ℕ, ◌+◌, ◌-◌, ◌*◌, ◌^◌, ◌<◌, ◌≤◌, refl, sym, ◌∙◌, ap, arith, List, length, map, take, inl, inr}
+use Rattle.std.proofs.Common.{◌≡◌, ℕ, ◌+◌, ◌-◌, ◌*◌, ◌^◌, ◌<◌, ◌≤◌, refl, sym, ◌∙◌, ap, arith, List, length, map, take}
+use Rattle.std.proofs.Common.{inl, inr}
 use Rattle.std.specs.Prelude.{slice_index, slice_get, Option, Some, None, unwrap_or, option_map}
 use Rattle.std.proofs.lemmas.Bool.{cases_lt}
 use Rattle.std.proofs.lemmas.List.{get_or_past}
@@ -23,7 +24,8 @@ pub record IsSmall (b : Basin) (m : MonthRecord) : Type 0 where
   pub takes : (r : ℕ) → r < length b.rights → slice_index m.plan.take r ≤ 10 ^ 9
   pub delivered : (r : ℕ) → slice_index m.delivered r ≤ 10 ^ 9
 
-pub follows_small : (b : Basin) (series : Inflows) (before : List MonthRecord) (m : MonthRecord) → IsValidBasin b → IsSeriesOf b series → Follows b series before m → IsSmall b m
+pub follows_small : (b : Basin) (series : Inflows) (before : List MonthRecord) (m : MonthRecord) → IsValidBasin b →
+    IsSeriesOf b series → Follows b series before m → IsSmall b m
 follows_small b series before m valid fits follows = record { takes = takes; delivered = delivered }
   where
     wanted : (r : ℕ) → r < length b.rights → slice_index m.want r ≤ 10 ^ 9
@@ -32,29 +34,36 @@ follows_small b series before m valid fits follows = record { takes = takes; del
     takes : (r : ℕ) → r < length b.rights → slice_index m.plan.take r ≤ 10 ^ 9
     takes r l = omega (arith, follows.plan.wants r l, wanted r l)
 
-    by_link : (o : Option ℕ) (r w : ℕ) → w ≤ 10 ^ 9 → slice_index m.plan.take r ≤ 10 ^ 9 → delivery_by_link o w m.plan r ≤ 10 ^ 9
+    by_link : (o : Option ℕ) (r w : ℕ) → w ≤ 10 ^ 9 → slice_index m.plan.take r ≤ 10 ^ 9 →
+        delivery_by_link o w m.plan r ≤ 10 ^ 9
     by_link None r w h k = k
     by_link (Some link) r w h k = omega arith
 
     delivered : (r : ℕ) → slice_index m.delivered r ≤ 10 ^ 9
     delivered r = elim (cases_lt r (length b.rights)) [
-      | inl within ↦ rw (follows.delivered r within) (by_link (instream_link b r) r (slice_index m.want r) (wanted r within) (takes r within))
+      | inl within ↦
+          rw (follows.delivered r within)
+          (by_link (instream_link b r) r (slice_index m.want r) (wanted r within) (takes r within))
       | inr past ↦ rw (get_or_past m.delivered r 0 (omega (arith, follows.fits.delivered))) (omega arith)
     ]
 
-pub deliveries_small : (b : Basin) (series : Inflows) (records : List MonthRecord) → IsValidBasin b → IsSeriesOf b series →
+pub deliveries_small : (b : Basin) (series : Inflows) (records : List MonthRecord) → IsValidBasin b →
+    IsSeriesOf b series →
     IsPartialHistory b series records → (r j : ℕ) → delivered_in (map (λ m. m.delivered) records) r j ≤ 10 ^ 9
 deliveries_small b series records valid fits partial r j =
     rw (slice_get-map (λ m. m.delivered) records j) (of_month (slice_get records j) refl)
   where
     of_month : (o : Option MonthRecord) → slice_get records j ≡ o →
-        unwrap_or (option_map (λ (delivered : List ℕ). slice_index delivered r) (option_map (λ m. m.delivered) o)) 0 ≤ 10 ^ 9
+        unwrap_or (option_map (λ (delivered : List ℕ). slice_index delivered r) (option_map (λ m. m.delivered) o))
+        0 ≤ 10 ^ 9
     of_month None e = omega arith
     of_month (Some m) e = (follows_small b series (take j records) m valid fits (partial.each j m e)).delivered r
 
 -- what the reservoirs hold when a month opens
-pub stored_small : (b : Basin) (series : Inflows) (records : List MonthRecord) (evaporated : List ℕ) → IsValidBasin b → IsSeriesOf b series →
-    IsPartialHistory b series records → total (length b.nodes) (λ n. stored_at b (opening_after b records) evaporated n) ≤ 32 * 10 ^ 12
+pub stored_small : (b : Basin) (series : Inflows) (records : List MonthRecord) (evaporated : List ℕ) → IsValidBasin b →
+    IsSeriesOf b series →
+    IsPartialHistory b series records →
+    total (length b.nodes) (λ n. stored_at b (opening_after b records) evaporated n) ≤ 32 * 10 ^ 12
 stored_small b series records evaporated valid fits partial = by_last (slice_get records (length records - 1)) refl
   where
     opens : Option MonthRecord → List ℕ
@@ -63,8 +72,10 @@ stored_small b series records evaporated valid fits partial = by_last (slice_get
     first : (v : ℕ) → v < length b.reservoirs → slice_index (map (λ v. v.opening) b.reservoirs) v ≤ 16 * 10 ^ 9
     first v l =
         let entry = entry_holds (λ x. IsValidReservoir b x) b.reservoirs v valid.reservoirs l in
-        let at : slice_get (map (λ v. v.opening) b.reservoirs) v ≡ Some entry.0.opening = slice_get-map (λ v. v.opening) b.reservoirs v ∙ ap (λ o. option_map (λ v. v.opening) o) entry.1 in
-        rw (get_or_from_slice_get (map (λ v. v.opening) b.reservoirs) v entry.0.opening 0 at) (omega (arith, entry.2.opening))
+        let at : slice_get (map (λ v. v.opening) b.reservoirs) v ≡ Some entry.0.opening =
+        slice_get-map (λ v. v.opening) b.reservoirs v ∙ ap (λ o. option_map (λ v. v.opening) o) entry.1 in
+        rw (get_or_from_slice_get (map (λ v. v.opening) b.reservoirs) v entry.0.opening 0 at)
+        (omega (arith, entry.2.opening))
 
     by_last : (o : Option MonthRecord) → slice_get records (length records - 1) ≡ o →
         total (length b.nodes) (λ n. stored_at b (opening_after b records) evaporated n) ≤ 32 * 10 ^ 12
@@ -76,12 +87,19 @@ stored_small b series records evaporated valid fits partial = by_last (slice_get
         rw (ap opens e) (omega (arith, most))
 
 -- the whole supply of a month
-pub supply_small : (b : Basin) (series : Inflows) (records : List MonthRecord) (evaporated : List ℕ) (i : ℕ) → IsValidBasin b → IsSeriesOf b series →
+pub supply_small : (b : Basin) (series : Inflows) (records : List MonthRecord) (evaporated : List ℕ) (i : ℕ) →
+    IsValidBasin b → IsSeriesOf b series →
     IsPartialHistory b series records →
-    total (length b.nodes) (λ n. inflow_at b series n i + returned_at b (map (λ m. m.delivered) records) n i + stored_at b (opening_after b records) evaporated n) ≤ 36 * 10 ^ 12
+    total (length b.nodes)
+    (λ n. inflow_at b series n i + returned_at b (map (λ m. m.delivered) records) n i + stored_at b
+    (opening_after b records) evaporated n) ≤ 36 * 10 ^ 12
 supply_small b series records evaporated i valid fits partial =
-    let parts = total_add (length b.nodes) (λ n. inflow_at b series n i + returned_at b (map (λ m. m.delivered) records) n i) (λ n. stored_at b (opening_after b records) evaporated n) in
-    let more = total_add (length b.nodes) (λ n. inflow_at b series n i) (λ n. returned_at b (map (λ m. m.delivered) records) n i) in
+    let parts =
+    total_add (length b.nodes) (λ n. inflow_at b series n i + returned_at b (map (λ m. m.delivered) records) n i)
+    (λ n. stored_at b (opening_after b records) evaporated n) in
+    let more =
+    total_add (length b.nodes) (λ n. inflow_at b series n i)
+    (λ n. returned_at b (map (λ m. m.delivered) records) n i) in
     omega (
       arith,
       parts,

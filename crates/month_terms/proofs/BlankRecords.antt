@@ -7,7 +7,8 @@ use Rattle.water_model.specs.declared.types.MonthRecord.{MonthRecord}
 use Rattle.month_terms.specs.Blank.{blank_record}
 use Rattle.month_terms.specs.Terms.{FitsRecord}
 
-pub blank_fits : (b : Basin) (cuts : CutSets) → length cuts.sets ≡ length b.rights → cuts.nodes ≡ length b.nodes → FitsRecord b (blank_record b cuts)
+pub blank_fits : (b : Basin) (cuts : CutSets) → length cuts.sets ≡ length b.rights → cuts.nodes ≡ length b.nodes →
+    FitsRecord b (blank_record b cuts)
 blank_fits b cuts sets nodes = record {
   fits = record {
     opening = length-replicate (length b.reservoirs) 0;
@@ -27,7 +28,8 @@ blank_fits b cuts sets nodes = record {
 }
 
 -- other closings leave the lengths
-pub fits_with_closing : (b : Basin) (m : MonthRecord) (closing : List ℕ) → FitsRecord b m → length closing ≡ length b.reservoirs →
+pub fits_with_closing : (b : Basin) (m : MonthRecord) (closing : List ℕ) → FitsRecord b m →
+    length closing ≡ length b.reservoirs →
     FitsRecord b (record m { closing = closing })
 fits_with_closing b m closing h count = record {
   fits = record {

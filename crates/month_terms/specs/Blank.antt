@@ -7,7 +7,13 @@ use Rattle.water_model.specs.declared.types.Plan.{Plan}
 
 -- nothing flows, and nobody takes
 abbrev pub blank_plan : Basin → Plan
-blank_plan b = record { flow = replicate (length b.links) 0; take = replicate (length b.rights) 0; out = replicate (length b.nodes) 0 }
+blank_plan b =
+    record {
+      flow = replicate (length b.links) 0;
+      take = replicate (length b.rights) 0;
+      out =
+          replicate (length b.nodes) 0;
+    }
 
 -- a record of the first month, with these sets and else zeros
 abbrev pub blank_record : Basin → CutSets → MonthRecord

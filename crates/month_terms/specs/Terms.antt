@@ -2,7 +2,8 @@
 use Rattle.std.specs.Prelude.{◌≡◌, ℕ, ◌+◌, ◌<◌, List, length, slice_index}
 use Rattle.water_text.specs.Months.{IsMonth}
 use Rattle.water_model.specs.Lookups.{of_entry}
-use Rattle.water_model.specs.Hydrology.{run_month, in_year, inflow_at, evaporation, returned_at, stored_at, used_of, want_of}
+use Rattle.water_model.specs.Hydrology.{run_month, in_year, inflow_at, evaporation, returned_at, stored_at, used_of}
+use Rattle.water_model.specs.Hydrology.{want_of}
 use Rattle.water_model.specs.History.{FitsBasin, is_zone_of}
 use Rattle.water_model.specs.Plans.{delivery}
 use Rattle.place_sums.specs.Sums.{total_where}
@@ -14,7 +15,8 @@ use Rattle.water_model.specs.declared.types.MonthRecord.{MonthRecord}
 pub record HasEvaporated (b : Basin) (index : ℕ) (opening evaporated : List ℕ) : Type 0 where
   pub count : length evaporated ≡ length b.reservoirs
   pub each : (v : ℕ) → v < length b.reservoirs → slice_index evaporated v
-      ≡ of_entry b.reservoirs v (λ r. evaporation r.area (slice_index opening v) (slice_index r.rate (in_year b index))) 0
+      ≡ of_entry b.reservoirs v (λ r. evaporation r.area (slice_index opening v) (slice_index r.rate (in_year b index)))
+      0
 
 -- what comes back to each node, by the deliveries of the months before
 pub record HasReturned (b : Basin) (deliveries : List (List ℕ)) (returned : List ℕ) : Type 0 where
@@ -22,10 +24,11 @@ pub record HasReturned (b : Basin) (deliveries : List (List ℕ)) (returned : Li
   pub each : (n : ℕ) → n < length b.nodes → slice_index returned n ≡ returned_at b deliveries n (length deliveries)
 
 -- the supply of each node: what flows in, what comes back, and what its reservoir holds after evaporation
-pub record HasSupply (b : Basin) (series : Inflows) (index : ℕ) (opening evaporated returned supply : List ℕ) : Type 0 where
-  pub count : length supply ≡ length b.nodes
-  pub each : (n : ℕ) → n < length b.nodes → slice_index supply n
-      ≡ inflow_at b series n index + slice_index returned n + stored_at b opening evaporated n
+pub record HasSupply (b : Basin) (series : Inflows) (index : ℕ) (opening evaporated returned supply : List ℕ) : Type 0
+  where
+    pub count : length supply ≡ length b.nodes
+    pub each : (n : ℕ) → n < length b.nodes → slice_index supply n
+        ≡ inflow_at b series n index + slice_index returned n + stored_at b opening evaporated n
 
 -- what each right with a volume used in the water year of a month, by the deliveries of the months before
 pub record HasUsed (b : Basin) (deliveries : List (List ℕ)) (used : List ℕ) : Type 0 where
@@ -54,7 +57,15 @@ pub record IsSettled (b : Basin) (series : Inflows) (index : ℕ) (old new : Mon
   pub evaporated : HasEvaporated b index new.opening new.evaporated
   pub supply : HasSupply b series index new.opening new.evaporated old.returned new.supply
   pub want : HasWants b series index old.used new.want
-  pub rest : new ≡ record old { index = new.index; month = new.month; opening = new.opening; evaporated = new.evaporated; supply = new.supply; want = new.want }
+  pub rest : new ≡ record old {
+    index = new.index;
+    month = new.month;
+    opening = new.opening;
+    evaporated =
+        new.evaporated;
+    supply = new.supply;
+    want = new.want;
+  }
 
 -- a record has what its plan delivers and what its reservoirs close with. All else stays
 pub record IsConcluded (b : Basin) (old new : MonthRecord) : Type 0 where

@@ -38,7 +38,8 @@ fn evaporation_of(
     requires tables { tables.now ≡ map (λ v. v.area) basin.now.reservoirs }
     requires reservoir { reservoir < length basin.now.reservoirs }
     requires place { place < 12 }
-    ensures { result ≡ of_entry basin.now.reservoirs reservoir (λ r. evaporation r.area storage (slice_index r.rate place)) 0 }
+    ensures { result ≡ of_entry basin.now.reservoirs reservoir
+        (λ r. evaporation r.area storage (slice_index r.rate place)) 0 }
 {
     let rate = basin.reservoirs[reservoir].rate[place];
     tables[reservoir].evaporation(storage, rate)
@@ -59,7 +60,8 @@ pub fn evaporate(
     requires evaporated { length evaporated.old ≡ length basin.now.reservoirs }
     ensures length { length evaporated.new ≡ length basin.now.reservoirs }
     ensures each { (v : ℕ) → v < length basin.now.reservoirs → slice_index evaporated.new v
-        ≡ of_entry basin.now.reservoirs v (λ r. evaporation r.area (slice_index opening.now v) (slice_index r.rate (month.month - 1))) 0 }
+        ≡ of_entry basin.now.reservoirs v
+        (λ r. evaporation r.area (slice_index opening.now v) (slice_index r.rate (month.month - 1))) 0 }
 {
     let place = month.month as usize - 1;
     for reservoir in 0..basin.reservoirs.len() {

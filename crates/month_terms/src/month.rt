@@ -13,8 +13,8 @@ use water_model::calls::month_at;
 use water_model::types::{Basin, Inflows, MonthRecord};
 
 /// Settles in a record what is known of the month with this index before its plan: its opening, evaporation, supply and
-/// wants. The record still has the closing storage of the month before, and already what comes back to each node and what
-/// each right used of its volume. `tables` has the area table of each reservoir.
+/// wants. The record still has the closing storage of the month before, and already what comes back to each node and
+/// what each right used of its volume. `tables` has the area table of each reservoir.
 pub fn settle(
     basin: &Basin,
     series: &Inflows,

@@ -14,7 +14,8 @@ pub fn zeros(alloc: Global, count: usize) -> Result<Rows<u64>, AllocError>
     Ok(Rows::from_vec(vec![in alloc; 0; count]?))
 }
 
-/// What each reservoir holds when the run begins, in units of 1,000 cubic metres. AllocError comes where memory is lacking.
+/// What each reservoir holds when the run begins, in units of 1,000 cubic metres. AllocError comes where memory is
+/// lacking.
 pub fn openings(alloc: Global, basin: &Basin) -> Result<Rows<u64>, AllocError>
     ensures { IfOk result (λ rows. rows ≡ map (λ v. v.opening) basin.now.reservoirs) }
 {

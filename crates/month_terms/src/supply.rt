@@ -20,7 +20,8 @@ pub fn read_inflows(
     requires index { index < basin.now.months }
     requires returned { length returned.now ≡ length basin.now.nodes }
     requires supply { length supply.old ≡ length basin.now.nodes }
-    requires small { (n : ℕ) → n < length basin.now.nodes → inflow_at basin.now series.now n index + slice_index returned.now n < 2 ^ 64 }
+    requires small { (n : ℕ) → n < length basin.now.nodes →
+        inflow_at basin.now series.now n index + slice_index returned.now n < 2 ^ 64 }
     ensures length { length supply.new ≡ length supply.old }
     ensures each { (n : ℕ) → n < length basin.now.nodes →
         slice_index supply.new n ≡ inflow_at basin.now series.now n index + slice_index returned.now n }
@@ -36,8 +37,10 @@ pub fn add_stored(basin: &Basin, opening: &[u64], evaporated: &[u64], supply: &m
     requires opening { length opening.now ≡ length basin.now.reservoirs }
     requires evaporated { length evaporated.now ≡ length basin.now.reservoirs }
     requires supply { length supply.old ≡ length basin.now.nodes }
-    requires less { (v : ℕ) → v < length basin.now.reservoirs → slice_index evaporated.now v ≤ slice_index opening.now v }
-    requires small { (n : ℕ) → n < length basin.now.nodes → slice_index supply.old n + stored_at basin.now opening.now evaporated.now n < 2 ^ 64 }
+    requires less { (v : ℕ) → v < length basin.now.reservoirs →
+        slice_index evaporated.now v ≤ slice_index opening.now v }
+    requires small { (n : ℕ) → n < length basin.now.nodes →
+        slice_index supply.old n + stored_at basin.now opening.now evaporated.now n < 2 ^ 64 }
     ensures length { length supply.new ≡ length supply.old }
     ensures each { (n : ℕ) → n < length basin.now.nodes →
         slice_index supply.new n ≡ slice_index supply.old n + stored_at basin.now opening.now evaporated.now n }

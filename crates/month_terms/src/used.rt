@@ -1,5 +1,6 @@
 //! What rights with a volume used of it in a water year.
-ghost use Rattle.std.specs.Prelude.{ℕ, List, ◌≡◌, ◌+◌, ◌<◌, ◌^◌, ◌++◌, ◌∷◌, [], length, slice_index, is_some, if◌then◌else◌};
+ghost use Rattle.std.specs.Prelude.{ℕ, List, ◌≡◌, ◌+◌, ◌<◌, ◌^◌, ◌++◌, ◌∷◌, [], length, slice_index, is_some};
+ghost use Rattle.std.specs.Prelude.{if◌then◌else◌};
 ghost use Rattle.water_model.specs.Hydrology.{volume_of};
 ghost use Rattle.water_model.specs.Valid.{IsValidBasin};
 ghost use Rattle.month_terms.specs.Terms.{HasUsed};
@@ -11,7 +12,8 @@ use water_model::types::Basin;
 fn add_deliveries(basin: &Basin, delivered: &[u64], used: &mut [u64])
     requires delivered { length delivered.now ≡ length basin.now.rights }
     requires used { length used.old ≡ length basin.now.rights }
-    requires small { (r : ℕ) → r < length basin.now.rights → slice_index used.old r + slice_index delivered.now r < 2 ^ 64 }
+    requires small { (r : ℕ) → r < length basin.now.rights →
+        slice_index used.old r + slice_index delivered.now r < 2 ^ 64 }
     ensures length { length used.new ≡ length used.old }
     ensures each { (r : ℕ) → r < length basin.now.rights → slice_index used.new r
         ≡ slice_index used.old r + (if is_some (volume_of basin.now r) then slice_index delivered.now r else 0) }
@@ -31,7 +33,8 @@ pub fn use_month(basin: &Basin, index: u32, delivered: &[u64], used: &mut [u64])
     requires index { index < basin.now.months }
     requires delivered { length delivered.now ≡ length basin.now.rights }
     requires used { length used.old ≡ length basin.now.rights }
-    requires small { (r : ℕ) → r < length basin.now.rights → slice_index used.old r + slice_index delivered.now r < 2 ^ 64 }
+    requires small { (r : ℕ) → r < length basin.now.rights →
+        slice_index used.old r + slice_index delivered.now r < 2 ^ 64 }
     ensures length { length used.new ≡ length used.old }
     ensures each { (deliveries : List (List ℕ)) → length deliveries ≡ index → HasUsed basin.now deliveries used.old →
         HasUsed basin.now (deliveries ++ delivered.now ∷ []) used.new }

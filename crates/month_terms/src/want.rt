@@ -7,8 +7,8 @@ ghost use Rattle.water_model.specs.Valid.{IsValidBasin, IsSeriesOf};
 use water_model::calls::want_of;
 use water_model::types::{Basin, Inflows, Plan, RightKind};
 
-/// Writes the want of each right in the month with this index. `used` is what each right used of its volume before in the
-/// water year.
+/// Writes the want of each right in the month with this index. `used` is what each right used of its volume before in
+/// the water year.
 pub fn read_wants(basin: &Basin, series: &Inflows, index: u32, used: &[u64], want: &mut [u64])
     requires basin { IsValidBasin basin.now }
     requires series { IsSeriesOf basin.now series.now }
@@ -49,7 +49,8 @@ pub fn read_deliveries(basin: &Basin, want: &[u64], plan: &Plan, delivered: &mut
     requires take { length plan.now.take ≡ length basin.now.rights }
     requires delivered { length delivered.old ≡ length basin.now.rights }
     ensures length { length delivered.new ≡ length delivered.old }
-    ensures each { (r : ℕ) → r < length basin.now.rights → slice_index delivered.new r ≡ delivery basin.now want.now plan.now r }
+    ensures each { (r : ℕ) → r < length basin.now.rights →
+        slice_index delivered.new r ≡ delivery basin.now want.now plan.now r }
 {
     for right in 0..basin.rights.len() {
         delivered[right] = delivery(basin, want, plan, right as u32);

@@ -331,7 +331,8 @@ type Step = (usize, Option<u64>);
 
 const START: [u64; 6] = [2500, 1200, 900, 700, 2100, 3000];
 
-/// Changes before, at and behind months that are kept; two of one number; a month that is shown again; and no month shown.
+/// Changes before, at and behind months that are kept; two of one number; a month that is shown again; and no month
+/// shown.
 const SCRIPTS: [&[Step]; 9] = [
     &[],
     &[(2, Some(0))],
@@ -387,8 +388,8 @@ fn script_of(alloc: Global, steps: &[Step]) -> Result<String, Fail> {
     Ok(text)
 }
 
-/// Adds the lines of a text from that of a month to its end, or all of them where no month is asked for, but for flows and
-/// outflows.
+/// Adds the lines of a text from that of a month to its end, or all of them where no month is asked for, but for flows
+/// and outflows.
 fn add_lines(into: &mut String, text: &str, month: Option<&str>) -> Result<(), Fail> {
     let mut here = month.is_none();
     for line in text.lines() {

@@ -1,5 +1,5 @@
-//! The account books of short rights. What is expected is worked out by hand: what is supplied within the reach and what links can
-//! bring in, less what is kept for seniors.
+//! The account books of short rights. What is expected is worked out by hand: what is supplied within the reach and
+//! what links can bring in, less what is kept for seniors.
 use basin_cli::Status;
 use stage::basins::NOTHING_WANTED;
 use stage::ordinary::{ORDINARY, ORDINARY_SERIES};
@@ -10,8 +10,8 @@ use std::test::Fail;
 const LIVE_BOOK: &str =
     "why 1960-07 live 4460 9000\nsupply upper 2500\nsupply lake 7560\nkeep r5 1500 fish\ntake dead 1000\ntake canalco 3100\nsum 4460\n";
 
-/// Months and rights of the ordinary basin, and what is told of them: a zone, a diversion whose reach only a canal enters, one that gets
-/// nothing, the last month, and a right that is met.
+/// Months and rights of the ordinary basin, and what is told of them: a zone, a diversion whose reach only a canal
+/// enters, one that gets nothing, the last month, and a right that is met.
 const ORDINARY_BOOKS: [(&str, &str, Status, &str); 6] = [
     ("1960-07", "live", Status::Done, LIVE_BOOK),
     (
@@ -73,8 +73,8 @@ date = "1880-01-01"
 want = 30
 "#;
 
-/// Three instream rights on one river beside a diversion of 1900. The first two keep 30 each, the senior of them is named first; the
-/// third is junior to the diversion and keeps nothing from it, though it is delivered 30 too.
+/// Three instream rights on one river beside a diversion of 1900. The first two keep 30 each, the senior of them is
+/// named first; the third is junior to the diversion and keeps nothing from it, though it is delivered 30 too.
 const SHARED_LINK: &str = r#"format = 1
 first_month = "1900-01"
 months = 1
@@ -106,7 +106,8 @@ date = "1880-01-01"
 want = 30
 "#;
 
-/// Both `top` alone and `top` with `mid` show why the diversion got 20: 50 - 30, and 50 + 10 - 40. The reach is the larger set.
+/// Both `top` alone and `top` with `mid` show why the diversion got 20: 50 - 30, and 50 + 10 - 40. The reach is the
+/// larger set.
 const TWO_CUTS: &str = r#"format = 1
 first_month = "1900-01"
 months = 1

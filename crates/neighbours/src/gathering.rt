@@ -37,7 +37,8 @@ fn add_month(
     Ok(())
 }
 
-/// Runs the ensemble of a basin with two years of its gauges from the month of this place in 1900, and compares its text.
+/// Runs the ensemble of a basin with two years of its gauges from the month of this place in 1900, and compares its
+/// text.
 fn expect_ensemble(
     alloc: Global,
     basin: &str,
@@ -93,8 +94,8 @@ fn counts_years_from_the_first_month(rt: HostRuntime) -> Result<(), Fail> {
     expect_ensemble(rt.alloc(), OCTOBER, 9, &[("top", [4, 12])], OCTOBER_TEXT)
 }
 
-/// A hundred units for the water year from July on. Each trace begins with nothing used: 120 come in its first year, in which two water
-/// years end and begin, and 100 in the second, in whose May and June the volume is used up.
+/// A hundred units for the water year from July on. Each trace begins with nothing used: 120 come in its first year, in
+/// which two water years end and begin, and 100 in the second, in whose May and June the volume is used up.
 const BOUNDED: &str = r#"format = 2
 first_month = "1900-01"
 months = 24
@@ -173,10 +174,10 @@ fn turns_all_gauges_together(rt: HostRuntime) -> Result<(), Fail> {
     expect_ensemble(rt.alloc(), TWO_GAUGES, 0, &gauges, TWO_GAUGES_TEXT)
 }
 
-/// A lake that holds 20 at first above a city that wants 10 a month; what the city leaves is kept. With 2 a month in one year and 15 in the
-/// other the city gets 10, 10, 6 and nine times 2, then twelve times 10; begun in the good year, twelve times 10, then 10 for ten months out of
-/// the 80 that are stored by then, and twice 2. What the lake keeps at the end of each month adds up to 12 + 4, 5 + 10 + .. + 60, 25 + 30 + ..
-/// + 80 and 72 + 64 + .. + 8.
+/// A lake that holds 20 at first above a city that wants 10 a month; what the city leaves is kept. With 2 a month in
+/// one year and 15 in the other the city gets 10, 10, 6 and nine times 2, then twelve times 10; begun in the good year,
+/// twelve times 10, then 10 for ten months out of the 80 that are stored by then, and twice 2. What the lake keeps at
+/// the end of each month adds up to 12 + 4, 5 + 10 + .. + 60, 25 + 30 + .. + 80 and 72 + 64 + .. + 8.
 const STORING: &str = r#"format = 1
 first_month = "1900-01"
 months = 24

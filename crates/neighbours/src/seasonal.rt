@@ -1,5 +1,5 @@
-//! The commands beside a run on basins of format 2, with canals that are shut and wants that stand in the series. What is expected
-//! is worked out by hand.
+//! The commands beside a run on basins of format 2, with canals that are shut and wants that stand in the series. What
+//! is expected is worked out by hand.
 use basin_cli::Status;
 use stage::{Set, expect, files, with};
 use std::alloc::Global;
@@ -36,7 +36,8 @@ const ORDERED_SERIES: &str = "month,kind,name,amount\n1900-01,want,farm,4\n1900-
 
 const COMPARED: [&str; 4] = ["compare", "BASIN", "BASIN2", "SERIES"];
 
-/// A mill that is senior to the farm takes its 5 first: in February 5 are left of 10, and in January 5 are enough for the order of 4.
+/// A mill that is senior to the farm takes its 5 first: in February 5 are left of 10, and in January 5 are enough for
+/// the order of 4.
 #[test]
 fn compares_by_the_wants_of_the_series(rt: HostRuntime) -> Result<(), Fail> {
     let senior = with(rt.alloc(), ORDERED, "1950", "1850")?;
@@ -193,8 +194,8 @@ fn add_year(
     Ok(())
 }
 
-/// The gauge reads 4 in the first year and 12 in the second; 10 are ordered in the first and 3 in the second. Begun in the second year the
-/// gauge reads 12 and then 4, while the orders stay: the user gets 48 and 36, and then 120 and 36.
+/// The gauge reads 4 in the first year and 12 in the second; 10 are ordered in the first and 3 in the second. Begun in
+/// the second year the gauge reads 12 and then 4, while the orders stay: the user gets 48 and 36, and then 120 and 36.
 #[test]
 fn turns_the_gauges_and_not_the_wants(rt: HostRuntime) -> Result<(), Fail> {
     let mut series = String::from_str(rt.alloc(), "month,kind,name,amount\n")?;

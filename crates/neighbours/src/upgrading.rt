@@ -40,8 +40,8 @@ fn runs_as_before(rt: HostRuntime) -> Result<(), Fail> {
     expect_run(rt.alloc(), ORDINARY, ORDINARY_SERIES, ORDINARY_TEXT)
 }
 
-/// A basin with every key of both formats: water years from March, a volume, a canal that is shut in January and March, orders in the
-/// series, rights of one date with an order, and two return rows.
+/// A basin with every key of both formats: water years from March, a volume, a canal that is shut in January and March,
+/// orders in the series, rights of one date with an order, and two return rows.
 const EVERY_KEY: &str = r#"format = 2
 first_month = "1900-01"
 months = 3

@@ -1,11 +1,11 @@
 //! A month that ends by the tree, and one that ends by searches: the same deliveries and the same reach, and other
 //! flows.
 //!
-//! Forty springs of 1 each run into a fork. From there a canal, which the file lists first, and a river lead to the field
-//! of a user at the mouth. By the tree each spring is a push by itself, and water goes over the first link that leads on:
-//! the canal. So a month of one right needs 40 pushes, and has a budget of 30: it is solved by searches, which begin with
-//! the run of the river, where all water goes over the river. With a second right, which wants nothing, there are 60
-//! pushes.
+//! Forty springs of 1 each run into a fork. From there a canal, which the file lists first, and a river lead to the
+//! field of a user at the mouth. By the tree each spring is a push by itself, and water goes over the first link that
+//! leads on: the canal. So a month of one right needs 40 pushes, and has a budget of 30: it is solved by searches,
+//! which begin with the run of the river, where all water goes over the river. With a second right, which wants
+//! nothing, there are 60 pushes.
 use basin_cli::Status;
 use stage::{expect, files};
 use std::alloc::Global;
@@ -66,8 +66,8 @@ fn basin(alloc: Global, late: bool) -> Result<String, Fail> {
     Ok(text)
 }
 
-/// The result, with these flows of the canal and the river, and with the deliveries of juniors. The user gets all 40, and
-/// every node is in its reach: no water can be had from anywhere.
+/// The result, with these flows of the canal and the river, and with the deliveries of juniors. The user gets all 40,
+/// and every node is in its reach: no water can be had from anywhere.
 fn result(alloc: Global, flows: &str, juniors: &str) -> Result<String, Fail> {
     let mut text = String::from_str(alloc, "river-result 1\nrun 1900-01 1\nmonth 1900-01\n")?;
     text.push_str(flows)?;

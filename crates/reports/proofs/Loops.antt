@@ -14,12 +14,14 @@ use Rattle.reports.proofs.Balanced.{figures_balanced}
 use Rattle.senior_hold.specs.MonthNetwork.{month_pushes}
 
 -- the months that a run went through, and the next one
-pub next_partial : (b : Basin) (series : Inflows) (next : RunSeen) (records : List MonthRecord) (m : MonthRecord) → next.basin ≡ b → next.series ≡ series → m ≡ next.last →
+pub next_partial : (b : Basin) (series : Inflows) (next : RunSeen) (records : List MonthRecord) (m : MonthRecord) →
+    next.basin ≡ b → next.series ≡ series → m ≡ next.last →
     StandsFor next (records ++ next.last ∷ []) → IsPartialHistory b series (records ++ m ∷ [])
 next_partial b series next records m same fits last stands = rw (← same, ← fits, last) stands.partial
 
 -- the months that a run went through are a whole run where they are all
-pub whole_run : (b : Basin) (series : Inflows) (run : RunSeen) (records : List MonthRecord) → IsValidBasin b → run.basin ≡ b → run.series ≡ series →
+pub whole_run : (b : Basin) (series : Inflows) (run : RunSeen) (records : List MonthRecord) → IsValidBasin b →
+    run.basin ≡ b → run.series ≡ series →
     StandsFor run records → run.done ≡ b.months → IsRun b series records
 whole_run b series run records valid same fits stands done =
     let partial : IsPartialHistory b series records = rw (← same, ← fits) stands.partial in
@@ -31,6 +33,8 @@ whole_run b series run records valid same fits stands done =
     }
 
 -- the pushes of some months and of one more are within those of a run
-pub within_run : (b : Basin) (first before after i : ℕ) → before ≤ first + i * month_pushes b → after ≤ before + month_pushes b → i < b.months →
+pub within_run : (b : Basin) (first before after i : ℕ) → before ≤ first + i * month_pushes b →
+    after ≤ before + month_pushes b → i < b.months →
     after ≤ first + run_pushes b
-within_run b first before after i sofar more l = let all : (i + 1) * month_pushes b ≤ b.months * month_pushes b = mul-le-mul_right (month_pushes b) (omega arith) in omega arith
+within_run b first before after i sofar more l = let all : (i + 1) * month_pushes b ≤ b.months * month_pushes b =
+    mul-le-mul_right (month_pushes b) (omega arith) in omega arith

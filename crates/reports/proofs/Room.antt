@@ -1,5 +1,6 @@
 -- The sums of a run are small.
-use Rattle.std.proofs.Common.{◌≡◌, ℕ, zero, suc, ◌+◌, ◌*◌, ◌^◌, ◌<◌, ◌≤◌, refl, sym, ◌∙◌, ap, subst, arith, List, [], ◌∷◌, ◌++◌, length, map, take, get_or, length-append}
+use Rattle.std.proofs.Common.{◌≡◌, ℕ, zero, suc, ◌+◌, ◌*◌, ◌^◌, ◌<◌, ◌≤◌, refl, sym, ◌∙◌, ap, subst, arith, List, []}
+use Rattle.std.proofs.Common.{◌∷◌, ◌++◌, length, map, take, get_or, length-append}
 use Rattle.std.specs.Prelude.{is_some, sum, sum_by, All, slice_get, slice_index, Some, nat_lt}
 use Rattle.std.proofs.Math.Seq.{take-length}
 use Rattle.std.proofs.lemmas.List.{take-append-le}
@@ -33,15 +34,18 @@ last_is : {X : Type 0} (xs : List X) (y : X) → slice_get (xs ++ y ∷ []) (len
 last_is [] y = refl
 last_is (x ∷ xs) y = last_is xs y
 
-pub last_follows : (b : Basin) (series : Inflows) (records : List MonthRecord) (m : MonthRecord) → IsPartialHistory b series (records ++ m ∷ []) →
+pub last_follows : (b : Basin) (series : Inflows) (records : List MonthRecord) (m : MonthRecord) →
+    IsPartialHistory b series (records ++ m ∷ []) →
     Follows b series records m
 last_follows b series records m partial =
-    subst (λ (before : List MonthRecord). Follows b series before m) (take-append-le (length records) records (m ∷ []) (omega arith) ∙ take-length records)
+    subst (λ (before : List MonthRecord). Follows b series before m)
+    (take-append-le (length records) records (m ∷ []) (omega arith) ∙ take-length records)
     (partial.each (length records) m (last_is records m))
 
 -- The front of a partial history is one.
 
-get_front : {X : Type 0} (xs : List X) (i j : ℕ) (x : X) → slice_get (take i xs) j ≡ Some x → (j < i) × (slice_get xs j ≡ Some x)
+get_front : {X : Type 0} (xs : List X) (i j : ℕ) (x : X) → slice_get (take i xs) j ≡ Some x → (j < i) ×
+    (slice_get xs j ≡ Some x)
 get_front [] zero j x h = cc
 get_front [] (suc i) j x h = cc
 get_front (y ∷ ys) zero j x h = cc
@@ -61,59 +65,106 @@ take_fewer [] (suc i) = omega arith
 take_fewer (x ∷ xs) zero = omega arith
 take_fewer (x ∷ xs) (suc i) = omega (arith, take_fewer xs i)
 
-front_partial : (b : Basin) (series : Inflows) (records : List MonthRecord) (i : ℕ) → IsPartialHistory b series records → IsPartialHistory b series (take i records)
+front_partial : (b : Basin) (series : Inflows) (records : List MonthRecord) (i : ℕ) →
+    IsPartialHistory b series records → IsPartialHistory b series (take i records)
 front_partial b series records i h = record {
   within = omega (arith, take_fewer records i, h.within);
-  each = λ j m e. (let r = get_front records i j m e in subst (λ (xs : List MonthRecord). Follows b series xs m) (sym (take_front records i j r.0)) (h.each j m r.1));
+  each = λ j m e. (let r = get_front records i j m e in
+      subst (λ (xs : List MonthRecord). Follows b series xs m) (sym (take_front records i j r.0)) (h.each j m r.1));
 }
 
 -- what holds of each month that follows a partial history holds of all months of one
-each_month : (P : MonthRecord → Type 0) (b : Basin) (series : Inflows) (records : List MonthRecord) → IsPartialHistory b series records →
-    ((before : List MonthRecord) (m : MonthRecord) → IsPartialHistory b series before → Follows b series before m → P m) → All P records
+each_month : (P : MonthRecord → Type 0) (b : Basin) (series : Inflows) (records : List MonthRecord) →
+    IsPartialHistory b series records →
+    ((before : List MonthRecord) (m : MonthRecord) → IsPartialHistory b series before → Follows b series before m →
+    P m) → All P records
 each_month P b series records partial h =
-    λ k d l. h (take k records) (get_or records k d) (front_partial b series records k partial) (partial.each k (get_or records k d) (slice_get-get_or records k d l))
+    λ k d l. h (take k records) (get_or records k d) (front_partial b series records k partial)
+    (partial.each k (get_or records k d) (slice_get-get_or records k d l))
 
 -- the figures of a right
-pub wanted_small : (b : Basin) (series : Inflows) (records : List MonthRecord) (r : ℕ) → IsValidBasin b → IsSeriesOf b series →
+pub wanted_small : (b : Basin) (series : Inflows) (records : List MonthRecord) (r : ℕ) → IsValidBasin b →
+    IsSeriesOf b series →
     IsPartialHistory b series records → r < length b.rights → wanted records r ≤ length records * 10 ^ 9
-wanted_small b series records r valid fits partial l = sum_by-le (λ m. slice_index m.want r) (10 ^ 9) records (each_month _ b series records partial most)
+wanted_small b series records r valid fits partial l =
+    sum_by-le (λ m. slice_index m.want r) (10 ^ 9) records (each_month _ b series records partial most)
   where
-    most : (before : List MonthRecord) (m : MonthRecord) → IsPartialHistory b series before → Follows b series before m → slice_index m.want r ≤ 10 ^ 9
-    most before m front follows = rw (follows.want r l) (want_most b series r m.index (slice_index m.used r) valid fits l)
+    most : (before : List MonthRecord) (m : MonthRecord) → IsPartialHistory b series before →
+        Follows b series before m → slice_index m.want r ≤ 10 ^ 9
+    most before m front follows =
+        rw (follows.want r l) (want_most b series r m.index (slice_index m.used r) valid fits l)
 
-pub delivered_small : (b : Basin) (series : Inflows) (records : List MonthRecord) (r : ℕ) → IsValidBasin b → IsSeriesOf b series →
+pub delivered_small : (b : Basin) (series : Inflows) (records : List MonthRecord) (r : ℕ) → IsValidBasin b →
+    IsSeriesOf b series →
     IsPartialHistory b series records → delivered records r ≤ length records * 10 ^ 9
 delivered_small b series records r valid fits partial =
-    sum_by-le (λ m. slice_index m.delivered r) (10 ^ 9) records (each_month _ b series records partial (λ before m front follows. (follows_small b series before m valid fits follows).delivered r))
+    sum_by-le (λ m. slice_index m.delivered r) (10 ^ 9) records
+    (each_month _ b series records partial
+    (λ before m front follows. (follows_small b series before m valid fits follows).delivered r))
 
 -- there is room for one month more
-pub right_room : (b : Basin) (series : Inflows) (records : List MonthRecord) (m : MonthRecord) (r : ℕ) (f : RightFigures) → IsValidBasin b → IsSeriesOf b series →
+pub right_room : (b : Basin) (series : Inflows) (records : List MonthRecord) (m : MonthRecord) (r : ℕ)
+    (f : RightFigures) → IsValidBasin b → IsSeriesOf b series →
     IsPartialHistory b series (records ++ m ∷ []) → r < length b.rights → f ≡ figures_of records r → HasRoom f m r
 unfolding figures_of
 right_room b series records m r f valid fits partial l is = record {
-  short_months = omega (arith, months, ap (λ v. v.short_months) is, count_by-le-length (λ k. nat_lt (slice_index k.delivered r) (slice_index k.want r)) records, length-append records (m ∷ []));
-  wanted = omega (arith, months, ap (λ v. v.wanted) is, wanted_small b series (records ++ m ∷ []) r valid fits partial l, sum_by_push (λ k. slice_index k.want r) records m);
-  delivered = omega (arith, months, ap (λ v. v.delivered) is, delivered_small b series (records ++ m ∷ []) r valid fits partial, sum_by_push (λ k. slice_index k.delivered r) records m);
+  short_months =
+      omega (
+        arith,
+        months,
+        ap (λ v. v.short_months) is,
+        count_by-le-length (λ k. nat_lt (slice_index k.delivered r) (slice_index k.want r)) records,
+        length-append records (m ∷ []),
+      );
+  wanted = omega (
+    arith,
+    months,
+    ap (λ v. v.wanted) is,
+    wanted_small b series (records ++ m ∷ []) r valid fits partial l,
+    sum_by_push (λ k. slice_index k.want r) records m,
+  );
+  delivered =
+      omega (
+        arith,
+        months,
+        ap (λ v. v.delivered) is,
+        delivered_small b series (records ++ m ∷ []) r valid fits partial,
+        sum_by_push (λ k. slice_index k.delivered r) records m,
+      );
 }
   where
     months : length (records ++ m ∷ []) ≤ 1200
     months = omega (arith, partial.within, valid.run.months.1)
 
 -- what comes in over the months
-inflows_all_small : (b : Basin) (series : Inflows) (records : List MonthRecord) → IsValidBasin b → IsSeriesOf b series → IsPartialHistory b series records →
+inflows_all_small : (b : Basin) (series : Inflows) (records : List MonthRecord) → IsValidBasin b → IsSeriesOf b series →
+    IsPartialHistory b series records →
     sum_by (λ m. whole_inflow b series m.index) records ≤ length records * (2 * 10 ^ 12)
 inflows_all_small b series records valid fits partial =
-    sum_by-le (λ m. whole_inflow b series m.index) (2 * 10 ^ 12) records (λ k d l. inflows_small b series (get_or records k d).index valid fits)
+    sum_by-le (λ m. whole_inflow b series m.index) (2 * 10 ^ 12) records
+    (λ k d l. inflows_small b series (get_or records k d).index valid fits)
 
-returns_all_small : (b : Basin) (series : Inflows) (records : List MonthRecord) → IsValidBasin b → IsSeriesOf b series → IsPartialHistory b series records →
+returns_all_small : (b : Basin) (series : Inflows) (records : List MonthRecord) → IsValidBasin b → IsSeriesOf b series →
+    IsPartialHistory b series records →
     sum_by (λ m. sum m.returned) records ≤ length records * (2 * 10 ^ 12)
-returns_all_small b series records valid fits partial = sum_by-le (λ m. sum m.returned) (2 * 10 ^ 12) records (each_month _ b series records partial most)
+returns_all_small b series records valid fits partial =
+    sum_by-le (λ m. sum m.returned) (2 * 10 ^ 12) records (each_month _ b series records partial most)
   where
-    most : (before : List MonthRecord) (m : MonthRecord) → IsPartialHistory b series before → Follows b series before m → sum m.returned ≤ 2 * 10 ^ 12
+    most : (before : List MonthRecord) (m : MonthRecord) → IsPartialHistory b series before →
+        Follows b series before m → sum m.returned ≤ 2 * 10 ^ 12
     most before m front follows =
-        let whole : sum m.returned ≡ total (length b.nodes) (λ n. slice_index m.returned n) = sum_total m.returned ∙ ap (λ k. total k (λ n. slice_index m.returned n)) follows.fits.returned in
-        let each = total_same (length b.nodes) (λ n. slice_index m.returned n) (λ n. returned_at b (map (λ k. k.delivered) before) n m.index) follows.returned in
-        omega (arith, whole, each, returns_small b (map (λ k. k.delivered) before) m.index valid (deliveries_small b series before valid fits front))
+        let whole : sum m.returned ≡ total (length b.nodes) (λ n. slice_index m.returned n) =
+        sum_total m.returned ∙ ap (λ k. total k (λ n. slice_index m.returned n)) follows.fits.returned in
+        let each =
+        total_same (length b.nodes) (λ n. slice_index m.returned n)
+        (λ n. returned_at b (map (λ k. k.delivered) before) n m.index) follows.returned in
+        omega (
+          arith,
+          whole,
+          each,
+          returns_small b (map (λ k. k.delivered) before) m.index valid
+              (deliveries_small b series before valid fits front),
+        )
 
 -- and so what is left and went out
 pub record AreSmall (w : Waters) : Type 0 where
@@ -124,7 +175,8 @@ pub record AreSmall (w : Waters) : Type 0 where
   pub diverted : w.diverted < 2 ^ 64
   pub out : w.out < 2 ^ 64
 
-waters_small : (b : Basin) (series : Inflows) (records : List MonthRecord) → IsValidBasin b → IsSeriesOf b series → IsPartialHistory b series records →
+waters_small : (b : Basin) (series : Inflows) (records : List MonthRecord) → IsValidBasin b → IsSeriesOf b series →
+    IsPartialHistory b series records →
     AreSmall (waters_of b series records)
 unfolding waters_of
 waters_small b series records valid fits partial = record {
@@ -151,11 +203,13 @@ waters_small b series records valid fits partial = record {
     months : length records ≤ 1200
     months = omega (arith, partial.within, valid.run.months.1)
 
-pub month_room : (b : Basin) (series : Inflows) (records : List MonthRecord) (m : MonthRecord) (w : Waters) → IsValidBasin b → IsSeriesOf b series →
+pub month_room : (b : Basin) (series : Inflows) (records : List MonthRecord) (m : MonthRecord) (w : Waters) →
+    IsValidBasin b → IsSeriesOf b series →
     IsPartialHistory b series (records ++ m ∷ []) → w ≡ waters_of b series records → HasRoomForMonth b series w m
 unfolding waters_of
 month_room b series records m w valid fits partial is = record {
-  inflows = omega (arith, all.inflows, ap (λ v. v.inflows) is, sum_by_push (λ k. whole_inflow b series k.index) records m);
+  inflows =
+      omega (arith, all.inflows, ap (λ v. v.inflows) is, sum_by_push (λ k. whole_inflow b series k.index) records m);
   returns = omega (arith, all.returns, ap (λ v. v.returns) is, sum_by_push (λ k. sum k.returned) records m);
   closing = omega (arith, all.closing, ap (λ xs. sum xs) (opens_with_last b records m));
   evaporated = omega (arith, all.evaporated, ap (λ v. v.evaporated) is, sum_by_push (λ k. sum k.evaporated) records m);
@@ -168,10 +222,17 @@ month_room b series records m w valid fits partial is = record {
 
 -- how many right-months had a calling right
 called_in_few : (b : Basin) (m : MonthRecord) → called_in b m ≤ length b.rights
-called_in_few b m = omega (arith, count_by-le-length (λ right. is_some (calling_right b m right)) (places_of b.rights), length-numbers_from 0 (length b.rights))
+called_in_few b m =
+    omega (
+      arith,
+      count_by-le-length (λ right. is_some (calling_right b m right)) (places_of b.rights),
+      length-numbers_from 0 (length b.rights),
+    )
 
-pub called_room : (b : Basin) (records : List MonthRecord) (m : MonthRecord) → IsValidBasin b → length records ≤ b.months → called_count b records + called_in b m < 2 ^ 64
+pub called_room : (b : Basin) (records : List MonthRecord) (m : MonthRecord) → IsValidBasin b →
+    length records ≤ b.months → called_count b records + called_in b m < 2 ^ 64
 called_room b records m valid within =
     let most : called_count b records ≤ length records * 2000 =
-    sum_by-le (λ k. called_in b k) 2000 records (λ k d l. omega (arith, called_in_few b (get_or records k d), valid.few.rights)) in
+    sum_by-le (λ k. called_in b k) 2000 records
+    (λ k d l. omega (arith, called_in_few b (get_or records k d), valid.few.rights)) in
     omega (arith, most, within, called_in_few b m, valid.few.rights, valid.run.months.1)

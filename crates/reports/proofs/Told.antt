@@ -1,5 +1,7 @@
 -- The text of what is kept of a run is the text of the run.
-use Rattle.std.proofs.Common.{codes, ◌≡◌, ℕ, ◌+◌, ◌*◌, ◌^◌, ◌<◌, ◌≤◌, Bool, true, false, cond, refl, sym, ◌∙◌, ap, subst, arith, List, [], ◌∷◌, ◌++◌, length, map, take, get_or, append_assoc, inl, inr, Ok, Err}
+use Rattle.std.proofs.Common.{codes, ◌≡◌, ℕ, ◌+◌, ◌*◌, ◌^◌, ◌<◌, ◌≤◌, Bool, true, false, cond, refl, sym, ◌∙◌, ap}
+use Rattle.std.proofs.Common.{subst, arith, List, [], ◌∷◌, ◌++◌, length, map, take, get_or, append_assoc, inl, inr, Ok}
+use Rattle.std.proofs.Common.{Err}
 use Rattle.std.specs.Prelude.{All, find, sum_by, Option, Some, None, option_map, IfSome, slice_index, nat_lt}
 use Rattle.std.specs.List.{flat_map}
 use Rattle.std.specs.Fmt.{decimal}
@@ -19,7 +21,8 @@ use Rattle.water_model.proofs.Order.{Has, seniors_below}
 use Rattle.result_text.proofs.Puts.{PutsFront}
 use Rattle.result_text.proofs.Whole.{FitsText-follows}
 use Rattle.reports.specs.Ends.{IsRun, Reports}
-use Rattle.reports.specs.Figures.{short_months, wanted, delivered, short_count, all_wanted, all_delivered, called_count, waters_of}
+use Rattle.reports.specs.Figures.{short_months, wanted, delivered, short_count, all_wanted, all_delivered, called_count}
+use Rattle.reports.specs.Figures.{waters_of}
 use Rattle.reports.specs.Reports.{row, balance_row, done_row, right_row, report_text, trial_text}
 use Rattle.reports.specs.Tallies.{figures_of, IsTally, AreFew}
 use Rattle.reports.specs.Texts.{row_in, run_row, tally_text, trial_row, size_row, summary_text}
@@ -32,17 +35,22 @@ use Rattle.reports.proofs.Room.{wanted_small, delivered_small}
 use Rattle.reports.proofs.Written.{row_listed}
 
 -- the rows of rights that are in range
-pub same_rows : (g h : ℕ → List ℕ) (rights : List ℕ) → ((r : ℕ) → Has rights r → g r ≡ h r) → flat_map g rights ≡ flat_map h rights
+pub same_rows : (g h : ℕ → List ℕ) (rights : List ℕ) → ((r : ℕ) → Has rights r → g r ≡ h r) →
+    flat_map g rights ≡ flat_map h rights
 same_rows g h [] same = refl
 same_rows g h (r ∷ rights) same =
-    ap (λ t. t ++ flat_map g rights) (same r (inl refl)) ∙ ap (λ t. h r ++ t) (same_rows g h rights (λ k has. same k (inr has)))
+    ap (λ t. t ++ flat_map g rights) (same r (inl refl))
+    ∙ ap (λ t. h r ++ t) (same_rows g h rights (λ k has. same k (inr has)))
 
-row_told : (b : Basin) (records : List MonthRecord) (rights : List RightFigures) (r : ℕ) → rights ≡ map (figures_of records) (places_of b.rights) → r < length b.rights →
+row_told : (b : Basin) (records : List MonthRecord) (rights : List RightFigures) (r : ℕ) →
+    rights ≡ map (figures_of records) (places_of b.rights) → r < length b.rights →
     row_in b rights r ≡ right_row b records r
 unfolding figures_of
-row_told b records rights r is l = sym (row_listed b rights r (figures_of records r) (entry_is (figures_of records) b.rights rights r is l))
+row_told b records rights r is l =
+    sym (row_listed b rights r (figures_of records r) (entry_is (figures_of records) b.rights rights r is l))
 
-pub report_told : (b : Basin) (series : Inflows) (records : List MonthRecord) (t : Tally) → IsTally b series records t → tally_text b t ≡ report_text b series records
+pub report_told : (b : Basin) (series : Inflows) (records : List MonthRecord) (t : Tally) → IsTally b series records t →
+    tally_text b t ≡ report_text b series records
 unfolding report_text
 report_told b series records t is =
     sym (append_assoc (run_row b ++ flat_map (row_in b t.rights) (seniors_first b)) (balance_row t.waters) (done_row b))
@@ -50,7 +58,8 @@ report_told b series records t is =
     ∙ ap (λ w. run_row b ++ flat_map (right_row b records) (seniors_first b) ++ balance_row w ++ done_row b) is.waters)
   where
     rights : flat_map (row_in b t.rights) (seniors_first b) ≡ flat_map (right_row b records) (seniors_first b)
-    rights = same_rows (row_in b t.rights) (right_row b records) (seniors_first b) (λ r has. row_told b records t.rights r is.rights (seniors_below b.rights r has))
+    rights = same_rows (row_in b t.rights) (right_row b records) (seniors_first b)
+        (λ r has. row_told b records t.rights r is.rights (seniors_below b.rights r has))
 
 -- what is kept of a run can be spelled
 find_holds : {X : Type 0} (P : X → Type 0) (p : X → Bool) (xs : List X) → All P xs → IfSome (find p xs) P
@@ -61,32 +70,40 @@ find_holds P p (x ∷ xs) all = by_test (p x) (find_holds P p xs (All-tail P x x
     by_test true further = all 0 x (omega arith)
     by_test false further = further
 
-pub months_told : (b : Basin) (series : Inflows) (records : List MonthRecord) (t : Tally) → IsValidBasin b → IsPartialHistory b series records → IsTally b series records t →
+pub months_told : (b : Basin) (series : Inflows) (records : List MonthRecord) (t : Tally) → IsValidBasin b →
+    IsPartialHistory b series records → IsTally b series records t →
     All (λ f. IfSome f.worst IsMonth) t.rights
 unfolding figures_of
 months_told b series records t valid partial is = λ k d l.
-    (let told = entry_told (figures_of records) b.rights t.rights k (get_or t.rights k d) is.rights (slice_get-get_or t.rights k d l) in
-    subst (λ (f : RightFigures). IfSome f.worst IsMonth) (sym told.1) (of_found (find _ records) (find_holds (λ m. IsMonth m.month) _ records calendar)))
+    (let told =
+    entry_told (figures_of records) b.rights t.rights k (get_or t.rights k d) is.rights
+    (slice_get-get_or t.rights k d l) in
+    subst (λ (f : RightFigures). IfSome f.worst IsMonth) (sym told.1)
+    (of_found (find _ records) (find_holds (λ m. IsMonth m.month) _ records calendar)))
   where
     calendar : All (λ m. IsMonth m.month) records
     calendar = λ k d l.
-        (FitsText-follows b series (take k records) (get_or records k d) valid (partial.each k (get_or records k d) (slice_get-get_or records k d l))
+        (FitsText-follows b series (take k records) (get_or records k d) valid
+        (partial.each k (get_or records k d) (slice_get-get_or records k d l))
         (omega (arith, length-take-le k records (omega arith), partial.within))).month
 
     of_found : (o : Option MonthRecord) → IfSome o (λ m. IsMonth m.month) → IfSome (option_map (λ m. m.month) o) IsMonth
     of_found None h = tt
     of_found (Some m) h = h
 
-pub entries_told : (b : Basin) (series : Inflows) (records : List MonthRecord) (t : Tally) → IsTally b series records t → length t.rights ≡ length b.rights
+pub entries_told : (b : Basin) (series : Inflows) (records : List MonthRecord) (t : Tally) →
+    IsTally b series records t → length t.rights ≡ length b.rights
 entries_told b series records t is = entries_count (figures_of records) b.rights t.rights is.rights
 
 -- the report of a run, or a front of it
-pub report_put : (b : Basin) (series : Inflows) (records : List MonthRecord) (t : Tally) (old new : Option (List ℕ)) → IsRun b series records → IsTally b series records t →
+pub report_put : (b : Basin) (series : Inflows) (records : List MonthRecord) (t : Tally) (old new : Option (List ℕ)) →
+    IsRun b series records → IsTally b series records t →
     Appends old new (tally_text b t) → Reports (λ k. report_text b series k) b series (Ok tt) old new
 report_put b series records t old new run is put =
     (records, run, subst (λ (text : List ℕ). Appends old new text) (report_told b series records t is) put)
 
-pub report_cut : (b : Basin) (series : Inflows) (records : List MonthRecord) (t : Tally) (old new : Option (List ℕ)) → IsRun b series records → IsTally b series records t →
+pub report_cut : (b : Basin) (series : Inflows) (records : List MonthRecord) (t : Tally) (old new : Option (List ℕ)) →
+    IsRun b series records → IsTally b series records t →
     PutsFront old new (tally_text b t) → Reports (λ k. report_text b series k) b series (Err stop.SinkFailed) old new
 report_cut b series records t old new run is put =
     (records, run, subst (λ (text : List ℕ). PutsFront old new text) (report_told b series records t is) put)
@@ -98,13 +115,32 @@ sum_mapped f g (n ∷ ns) =
     sum_by-cons f (g n) (map g ns) ∙ (ap (λ k. f (g n) + k) (sum_mapped f g ns) ∙ sym (sum_by-cons (λ k. f (g k)) n ns))
 
 -- which fit
-pub totals_room : (b : Basin) (series : Inflows) (records : List MonthRecord) (t : Tally) → IsValidBasin b → IsSeriesOf b series → IsPartialHistory b series records →
+pub totals_room : (b : Basin) (series : Inflows) (records : List MonthRecord) (t : Tally) → IsValidBasin b →
+    IsSeriesOf b series → IsPartialHistory b series records →
     IsTally b series records t → AreFew t.rights
 unfolding figures_of
 totals_room b series records t valid fits partial is = record {
-  short_months = omega (arith, sum_by-le (λ f. f.short_months) 1200 t.rights (each 1200 (λ f. f.short_months) short), count, valid.few.rights);
-  wanted = omega (arith, sum_by-le (λ f. f.wanted) (1200 * 10 ^ 9) t.rights (each (1200 * 10 ^ 9) (λ f. f.wanted) want), count, valid.few.rights);
-  delivered = omega (arith, sum_by-le (λ f. f.delivered) (1200 * 10 ^ 9) t.rights (each (1200 * 10 ^ 9) (λ f. f.delivered) given), count, valid.few.rights);
+  short_months =
+      omega (
+        arith,
+        sum_by-le (λ f. f.short_months) 1200 t.rights (each 1200 (λ f. f.short_months) short),
+        count,
+        valid.few.rights,
+      );
+  wanted = omega (
+    arith,
+    sum_by-le (λ f. f.wanted) (1200 * 10 ^ 9) t.rights (each (1200 * 10 ^ 9) (λ f. f.wanted) want),
+    count,
+    valid.few.rights,
+  );
+  delivered =
+      omega (
+        arith,
+        sum_by-le (λ f. f.delivered) (1200 * 10 ^ 9) t.rights
+            (each (1200 * 10 ^ 9) (λ f. f.delivered) given),
+        count,
+        valid.few.rights,
+      );
 }
   where
     count : length t.rights ≡ length b.rights
@@ -113,13 +149,22 @@ totals_room b series records t valid fits partial is = record {
     months : length records ≤ 1200
     months = omega (arith, partial.within, valid.run.months.1)
 
-    each : (most : ℕ) (h : RightFigures → ℕ) → ((r : ℕ) → r < length b.rights → h (figures_of records r) ≤ most) → All (λ f. h f ≤ most) t.rights
+    each : (most : ℕ) (h : RightFigures → ℕ) → ((r : ℕ) → r < length b.rights → h (figures_of records r) ≤ most) →
+        All (λ f. h f ≤ most) t.rights
     each most h small = λ k d l.
-        (let told = entry_told (figures_of records) b.rights t.rights k (get_or t.rights k d) is.rights (slice_get-get_or t.rights k d l) in
+        (let told =
+        entry_told (figures_of records) b.rights t.rights k (get_or t.rights k d) is.rights
+        (slice_get-get_or t.rights k d l) in
         subst (λ (f : RightFigures). h f ≤ most) (sym told.1) (small k told.0))
 
     short : (r : ℕ) → r < length b.rights → short_months records r ≤ 1200
-    short r l = omega (arith, months, count_by-le-length (λ m. nat_lt (slice_index m.delivered r) (slice_index m.want r)) records)
+    short r l =
+        omega (
+          arith,
+          months,
+          count_by-le-length (λ m. nat_lt (slice_index m.delivered r) (slice_index m.want r))
+              records,
+        )
 
     want : (r : ℕ) → r < length b.rights → wanted records r ≤ 1200 * 10 ^ 9
     want r l = omega (arith, months, wanted_small b series records r valid fits partial l)
@@ -128,33 +173,49 @@ totals_room b series records t valid fits partial is = record {
     given r l = omega (arith, months, delivered_small b series records r valid fits partial)
 
 -- the summary by what is kept
-regroup : (a b c d e f g h : List ℕ) → a ++ b ++ ((c ++ d) ++ (e ++ f)) ++ (g ++ h) ≡ a ++ b ++ c ++ d ++ e ++ f ++ g ++ h
+regroup : (a b c d e f g h : List ℕ) →
+    a ++ b ++ ((c ++ d) ++ (e ++ f)) ++ (g ++ h) ≡ a ++ b ++ c ++ d ++ e ++ f ++ g ++ h
 regroup a b c d e f g h = simp append_assoc
 
-pub summary_told : (number size : ℕ) (b : Basin) (series : Inflows) (records : List MonthRecord) (t : Tally) (totals : Totals) (called : ℕ) → IsTally b series records t →
-    called ≡ called_count b records → totals.short_months ≡ sum_by (λ f. f.short_months) t.rights → totals.wanted ≡ sum_by (λ f. f.wanted) t.rights →
+pub summary_told : (number size : ℕ) (b : Basin) (series : Inflows) (records : List MonthRecord) (t : Tally)
+    (totals : Totals) (called : ℕ) → IsTally b series records t →
+    called ≡ called_count b records → totals.short_months ≡ sum_by (λ f. f.short_months) t.rights →
+    totals.wanted ≡ sum_by (λ f. f.wanted) t.rights →
     totals.delivered ≡ sum_by (λ f. f.delivered) t.rights →
     summary_text number size b totals called t.waters ≡ trial_text number size b series records
 unfolding trial_text figures_of
 summary_told number size b series records t totals called is c s w d = rw (short, want, given, c, is.waters) (regroup
-    (trial_row number size) (size_row b) (row (codes "wanted" ∷ decimal (all_wanted b records) ∷ [])) (row (codes "delivered" ∷ decimal (all_delivered b records) ∷ []))
-    (row (codes "short" ∷ decimal (short_count b records) ∷ [])) (row (codes "called" ∷ decimal (called_count b records) ∷ []))
+    (trial_row number size) (size_row b) (row (codes "wanted" ∷ decimal (all_wanted b records) ∷ []))
+    (row (codes "delivered" ∷ decimal (all_delivered b records) ∷ []))
+    (row (codes "short" ∷ decimal (short_count b records) ∷ []))
+    (row (codes "called" ∷ decimal (called_count b records) ∷ []))
     (balance_row (waters_of b series records)) (done_row b))
   where
     short : totals.short_months ≡ short_count b records
-    short = s ∙ (ap (sum_by (λ f. f.short_months)) is.rights ∙ sum_mapped (λ f. f.short_months) (figures_of records) (places_of b.rights))
+    short = s
+        ∙ (ap (sum_by (λ f. f.short_months)) is.rights
+        ∙ sum_mapped (λ f. f.short_months) (figures_of records) (places_of b.rights))
 
     want : totals.wanted ≡ all_wanted b records
-    want = w ∙ (ap (sum_by (λ f. f.wanted)) is.rights ∙ sum_mapped (λ f. f.wanted) (figures_of records) (places_of b.rights))
+    want = w ∙ (ap (sum_by (λ f. f.wanted)) is.rights
+        ∙ sum_mapped (λ f. f.wanted) (figures_of records) (places_of b.rights))
 
     given : totals.delivered ≡ all_delivered b records
-    given = d ∙ (ap (sum_by (λ f. f.delivered)) is.rights ∙ sum_mapped (λ f. f.delivered) (figures_of records) (places_of b.rights))
+    given = d
+        ∙ (ap (sum_by (λ f. f.delivered)) is.rights
+        ∙ sum_mapped (λ f. f.delivered) (figures_of records) (places_of b.rights))
 
 -- the summary of a run, or a front of it
-pub summary_put : (number size : ℕ) (b : Basin) (series : Inflows) (records : List MonthRecord) (text : List ℕ) (old new : Option (List ℕ)) → IsRun b series records →
-    text ≡ trial_text number size b series records → Appends old new text → Reports (λ k. trial_text number size b series k) b series (Ok tt) old new
-summary_put number size b series records text old new run told put = (records, run, subst (λ (t : List ℕ). Appends old new t) told put)
+pub summary_put : (number size : ℕ) (b : Basin) (series : Inflows) (records : List MonthRecord) (text : List ℕ)
+    (old new : Option (List ℕ)) → IsRun b series records →
+    text ≡ trial_text number size b series records → Appends old new text →
+    Reports (λ k. trial_text number size b series k) b series (Ok tt) old new
+summary_put number size b series records text old new run told put =
+    (records, run, subst (λ (t : List ℕ). Appends old new t) told put)
 
-pub summary_cut : (number size : ℕ) (b : Basin) (series : Inflows) (records : List MonthRecord) (text : List ℕ) (old new : Option (List ℕ)) → IsRun b series records →
-    text ≡ trial_text number size b series records → PutsFront old new text → Reports (λ k. trial_text number size b series k) b series (Err stop.SinkFailed) old new
-summary_cut number size b series records text old new run told put = (records, run, subst (λ (t : List ℕ). PutsFront old new t) told put)
+pub summary_cut : (number size : ℕ) (b : Basin) (series : Inflows) (records : List MonthRecord) (text : List ℕ)
+    (old new : Option (List ℕ)) → IsRun b series records →
+    text ≡ trial_text number size b series records → PutsFront old new text →
+    Reports (λ k. trial_text number size b series k) b series (Err stop.SinkFailed) old new
+summary_cut number size b series records text old new run told put =
+    (records, run, subst (λ (t : List ℕ). PutsFront old new t) told put)

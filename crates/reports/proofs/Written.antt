@@ -11,7 +11,8 @@ use Rattle.reports.specs.declared.figures.RightFigures.{RightFigures}
 use Rattle.reports.specs.declared.waters.Waters.{Waters}
 
 -- a failed put leaves a front of whatever goes on with its piece
-pub Puts-cut : {E : Type 0} (old new : Option (List ℕ)) (r : Result (Unit {0}) E) (a b : List ℕ) → IsErr r → PutsFront old new a → Puts old new r (a ++ b)
+pub Puts-cut : {E : Type 0} (old new : Option (List ℕ)) (r : Result (Unit {0}) E) (a b : List ℕ) → IsErr r →
+    PutsFront old new a → Puts old new r (a ++ b)
 Puts-cut old new r a b failed front = PutsFront-fails old new r (a ++ b) failed (PutsFront-cut old new a b front)
 
 -- the row of the balance in two pieces
@@ -20,11 +21,13 @@ unfolding balance_front balance_rest row
 balance_split w = simp append_assoc
 
 -- the row of a right by its entry
-pub row_listed : (b : Basin) (rights : List RightFigures) (right : ℕ) (f : RightFigures) → slice_get rights right ≡ Some f → figures_row b right f ≡ row_in b rights right
+pub row_listed : (b : Basin) (rights : List RightFigures) (right : ℕ) (f : RightFigures) →
+    slice_get rights right ≡ Some f → figures_row b right f ≡ row_in b rights right
 row_listed b rights right f at = sym (ap (λ o. unwrap_or (option_map (figures_row b right) o) []) at)
 
 -- the rows of some rights, one right after another
-pub rows_of : (h : ℕ → List ℕ) (order rights : List ℕ) → order ≡ rights → flat_map h (flat_map (λ x. x ∷ []) order) ≡ flat_map h rights
+pub rows_of : (h : ℕ → List ℕ) (order rights : List ℕ) → order ≡ rights →
+    flat_map h (flat_map (λ x. x ∷ []) order) ≡ flat_map h rights
 rows_of h order rights same = one_each order ∙ ap (flat_map h) same
   where
     one_each : (xs : List ℕ) → flat_map h (flat_map (λ x. x ∷ []) xs) ≡ flat_map h xs

@@ -17,7 +17,8 @@ pub record IsRun (b : Basin) (series : Inflows) (records : List MonthRecord) : T
   pub balanced : AreBalanced (waters_of b series records)
 
 -- the text of a run is appended, or after a failure of the sink a front of it
-abbrev pub Reports : (List MonthRecord → List ℕ) → Basin → Inflows → Result (Unit {0}) ReportStop → Option (List ℕ) → Option (List ℕ) → Type 0
+abbrev pub Reports : (List MonthRecord → List ℕ) → Basin → Inflows → Result (Unit {0}) ReportStop → Option (List ℕ) →
+    Option (List ℕ) → Type 0
 Reports text b series (Ok _) old new =
     (records : List MonthRecord) × IsRun b series records × Appends old new (text records)
 Reports text b series (Err stop.SinkFailed) old new =

@@ -1,5 +1,6 @@
 -- The figures of a run.
-use Rattle.std.specs.Prelude.{◌≡◌, ℕ, ◌+◌, ◌-◌, ◌&&◌, List, map, find, sum, sum_by, count_by, slice_index, Option, option_map, nat_lt, nat_le, is_some}
+use Rattle.std.specs.Prelude.{◌≡◌, ℕ, ◌+◌, ◌-◌, ◌&&◌, List, map, find, sum, sum_by, count_by, slice_index, Option}
+use Rattle.std.specs.Prelude.{option_map, nat_lt, nat_le, is_some}
 use Rattle.std.specs.List.{list_all}
 use Rattle.water_text.specs.declared.month.Month.{Month}
 use Rattle.water_model.specs.Balance.{whole_inflow, diverted}
@@ -29,7 +30,9 @@ delivered records right = sum_by (λ m. slice_index m.delivered right) records
 -- the first month of greatest shortage, or none where the right was never short
 abbrev pub worst_month : List MonthRecord → ℕ → Option Month
 worst_month records right =
-    option_map (λ m. m.month) (find (λ m. nat_lt 0 (shortage m right) && list_all (λ k. nat_le (shortage k right) (shortage m right)) records) records)
+    option_map (λ m. m.month)
+    (find (λ m. nat_lt 0 (shortage m right) && list_all (λ k. nat_le (shortage k right) (shortage m right)) records)
+    records)
 
 -- the water of a run
 unfoldable pub waters_of : Basin → Inflows → List MonthRecord → Waters
@@ -47,8 +50,8 @@ waters_of b series records = record {
 abbrev pub AreBalanced : Waters → Type 0
 AreBalanced w = w.opening + w.inflows + w.returns ≡ w.closing + w.evaporated + w.diverted + w.out
 
--- counts of right-months, in which a month counts once for each right: in which a right was short, and in which it had a
--- calling right
+-- counts of right-months, in which a month counts once for each right: in which a right was short, and in which it had
+-- a calling right
 abbrev pub short_count : Basin → List MonthRecord → ℕ
 short_count b records = sum_by (λ right. short_months records right) (places_of b.rights)
 

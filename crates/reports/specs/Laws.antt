@@ -15,8 +15,8 @@ FiguresAreBalanced =
     (b : Basin) (series : Inflows) (records : List MonthRecord) → IsValidBasin b → IsPartialHistory b series records →
     AreBalanced (waters_of b series records)
 
--- One report. Two histories of one basin and series, with the reaches as their sets, have one report and one summary: which
--- of several flows was found does not show in them.
+-- One report. Two histories of one basin and series, with the reaches as their sets, have one report and one summary:
+-- which of several flows was found does not show in them.
 abbrev pub RunsHaveOneReport : Type 0
 RunsHaveOneReport =
     (b : Basin) (series : Inflows) (records others : List MonthRecord) (number size : ℕ) → IsValidBasin b →

@@ -9,7 +9,8 @@ use Rattle.water_model.specs.Places.{seniors_first}
 use Rattle.water_model.specs.declared.types.Basin.{Basin}
 use Rattle.water_model.specs.declared.types.Inflows.{Inflows}
 use Rattle.water_model.specs.declared.types.MonthRecord.{MonthRecord}
-use Rattle.reports.specs.Figures.{waters_of, short_months, wanted, delivered, worst_month, short_count, called_count, all_wanted, all_delivered}
+use Rattle.reports.specs.Figures.{waters_of, short_months, wanted, delivered, worst_month, short_count, called_count}
+use Rattle.reports.specs.Figures.{all_wanted, all_delivered}
 use Rattle.reports.specs.declared.waters.Waters.{Waters}
 
 -- a line: its fields with single spaces between them, and a line feed
@@ -30,7 +31,8 @@ right_row b records right = row (
 -- balance OPENING INFLOWS RETURNS CLOSING EVAPORATED DIVERTED OUT
 abbrev pub balance_row : Waters → List ℕ
 balance_row w = row (
-    codes "balance" ∷ decimal w.opening ∷ decimal w.inflows ∷ decimal w.returns ∷ decimal w.closing ∷ decimal w.evaporated
+    codes "balance" ∷ decimal w.opening ∷ decimal w.inflows ∷ decimal w.returns ∷ decimal w.closing ∷ decimal
+    w.evaporated
     ∷ decimal w.diverted ∷ decimal w.out ∷ [])
 
 abbrev pub done_row : Basin → List ℕ
@@ -48,7 +50,8 @@ report_text b series records =
 unfoldable pub trial_text : ℕ → ℕ → Basin → Inflows → List MonthRecord → List ℕ
 trial_text number size b series records =
     row (codes "trial" ∷ decimal number ∷ decimal size ∷ [])
-    ++ row (codes "size" ∷ decimal (length b.nodes) ∷ decimal (length b.links) ∷ decimal (length b.rights) ∷ decimal b.months ∷ [])
+    ++ row (codes "size" ∷ decimal (length b.nodes) ∷ decimal (length b.links) ∷ decimal (length b.rights) ∷ decimal
+    b.months ∷ [])
     ++ row (codes "wanted" ∷ decimal (all_wanted b records) ∷ [])
     ++ row (codes "delivered" ∷ decimal (all_delivered b records) ∷ [])
     ++ row (codes "short" ∷ decimal (short_count b records) ∷ [])

@@ -24,7 +24,9 @@ row_in b rights right = of_entry rights right (figures_row b right) []
 
 -- the row of the balance in two pieces
 unfoldable pub balance_front : Waters → List ℕ
-balance_front w = join_with_byte 32 (codes "balance" ∷ decimal w.opening ∷ decimal w.inflows ∷ decimal w.returns ∷ decimal w.closing ∷ [])
+balance_front w =
+    join_with_byte 32
+    (codes "balance" ∷ decimal w.opening ∷ decimal w.inflows ∷ decimal w.returns ∷ decimal w.closing ∷ [])
 
 unfoldable pub balance_rest : Waters → List ℕ
 balance_rest w = 32 ∷ row (decimal w.evaporated ∷ decimal w.diverted ∷ decimal w.out ∷ [])
@@ -50,10 +52,12 @@ made_rows number size b = trial_row number size ++ size_row b
 
 -- sums over all rights
 abbrev pub amount_rows : Totals → List ℕ
-amount_rows totals = row (codes "wanted" ∷ decimal totals.wanted ∷ []) ++ row (codes "delivered" ∷ decimal totals.delivered ∷ [])
+amount_rows totals =
+    row (codes "wanted" ∷ decimal totals.wanted ∷ []) ++ row (codes "delivered" ∷ decimal totals.delivered ∷ [])
 
 abbrev pub count_rows : Totals → ℕ → List ℕ
-count_rows totals called = row (codes "short" ∷ decimal totals.short_months ∷ []) ++ row (codes "called" ∷ decimal called ∷ [])
+count_rows totals called =
+    row (codes "short" ∷ decimal totals.short_months ∷ []) ++ row (codes "called" ∷ decimal called ∷ [])
 
 -- the summary by these
 abbrev pub summary_text : ℕ → ℕ → Basin → Totals → ℕ → Waters → List ℕ

@@ -77,8 +77,8 @@ fn tally_of<L: Ledger>(
     Ok(tally)
 }
 
-/// The tally of all months of a run of a basin with a series. AllocError comes where memory is lacking, before a month is
-/// solved.
+/// The tally of all months of a run of a basin with a series. AllocError comes where memory is lacking, before a month
+/// is solved.
 pub fn tally_run<L: Ledger>(
     alloc: Global,
     basin: &Basin,
@@ -163,8 +163,8 @@ fn trial_of<L: Ledger>(
     Ok(trial)
 }
 
-/// The trial of all months of a run of a basin with a series. AllocError comes where memory is lacking, before a month is
-/// solved.
+/// The trial of all months of a run of a basin with a series. AllocError comes where memory is lacking, before a month
+/// is solved.
 pub fn try_run<L: Ledger>(
     alloc: Global,
     basin: &Basin,

@@ -20,7 +20,8 @@ use water_model::types::{Basin, Inflows};
 /// Runs all months of a basin with a series, and then puts the report of the run.
 ///
 /// It takes memory before the first month is solved, and none behind that. OutOfMemory comes where that is lacking, and
-/// nothing was solved or put then; SinkFailed comes only where the sink counted a fault, and a front of the text stands.
+/// nothing was solved or put then; SinkFailed comes only where the sink counted a fault, and a front of the text
+/// stands.
 pub fn period_report<K: Sink, L: Ledger>(
     alloc: Global,
     basin: &Basin,
@@ -30,7 +31,8 @@ pub fn period_report<K: Sink, L: Ledger>(
 ) -> Result<(), ReportStop>
     requires basin { IsValidBasin basin.now }
     requires series { IsSeriesOf basin.now series.now }
-    ensures text { Reports (λ records. report_text basin.now series.now records) basin.now series.now result (K.taken sink.old) (K.taken sink.new) }
+    ensures text { Reports (λ records. report_text basin.now series.now records) basin.now series.now result
+        (K.taken sink.old) (K.taken sink.new) }
     ensures cause { HasCause (K.faults sink.old) (K.faults sink.new) (result ≡ Err SinkFailed) }
     ensures stays { result ≡ Err OutOfMemory → sink.new ≡ sink.old }
     ensures unsolved { result ≡ Err OutOfMemory → searches.new ≡ searches.old }

@@ -20,7 +20,8 @@ pub struct Tally {
 /// The figures of so many rights before the first month.
 fn first_figures(alloc: Global, count: usize) -> Result<Rows<RightFigures>, AllocError>
     ensures count { IfOk result (λ rights. length rights ≡ count) }
-    ensures each { IfOk result (λ rights. (right : ℕ) → right < count → slice_get rights right ≡ Some (figures_of [] right)) }
+    ensures each { IfOk result (λ rights. (right : ℕ) → right < count →
+        slice_get rights right ≡ Some (figures_of [] right)) }
 {
     let mut rights = Vec::with_capacity(alloc, count)?;
     for _right in 0..count {
@@ -33,9 +34,11 @@ fn first_figures(alloc: Global, count: usize) -> Result<Rows<RightFigures>, Allo
 fn add_rights(rights: &mut Rows<RightFigures>, month: &MonthRecord)
     requires want { length month.now.want ≡ length rights.old }
     requires delivered { length month.now.delivered ≡ length rights.old }
-    requires room { (right : ℕ) (figures : RightFigures) → slice_get rights.old right ≡ Some figures → HasRoom figures month.now right }
+    requires room { (right : ℕ) (figures : RightFigures) → slice_get rights.old right ≡ Some figures →
+        HasRoom figures month.now right }
     ensures count { length rights.new ≡ length rights.old }
-    ensures each { (records : List MonthRecord) (right : ℕ) → slice_get rights.old right ≡ Some (figures_of records right) →
+    ensures each { (records : List MonthRecord) (right : ℕ) →
+        slice_get rights.old right ≡ Some (figures_of records right) →
         slice_get rights.new right ≡ Some (figures_of (records ++ month.now ∷ []) right) }
 {
     for right in 0..rights.len() {

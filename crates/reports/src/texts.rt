@@ -48,7 +48,8 @@ fn put_rights<K: Sink>(
     requires roll { IsRollOf basin.now.rights roll.now }
     requires count { length rights.now ≡ length basin.now.rights }
     requires worst { All (λ f. IfSome f.worst IsMonth) rights.now }
-    ensures text { Puts (K.taken sink.old) (K.taken sink.new) result (flat_map (row_in basin.now rights.now) (seniors_first basin.now)) }
+    ensures text { Puts (K.taken sink.old) (K.taken sink.new) result
+        (flat_map (row_in basin.now rights.now) (seniors_first basin.now)) }
     ensures cause { HasCause (K.faults sink.old) (K.faults sink.new) (IsErr result) }
 {
     let order = roll.by_seniority();
@@ -106,7 +107,8 @@ fn put_counts<K: Sink>(sink: &mut K, totals: &Totals, called: u64) -> Result<(),
 
 /// Puts the rows of the sums over all rights.
 fn put_totals<K: Sink>(sink: &mut K, totals: &Totals, called: u64) -> Result<(), SinkFailed>
-    ensures text { Puts (K.taken sink.old) (K.taken sink.new) result (amount_rows totals.now ++ count_rows totals.now called) }
+    ensures text { Puts (K.taken sink.old) (K.taken sink.new) result
+        (amount_rows totals.now ++ count_rows totals.now called) }
     ensures cause { HasCause (K.faults sink.old) (K.faults sink.new) (IsErr result) }
 {
     put_amounts(sink, totals)?;
@@ -123,7 +125,8 @@ pub fn put_summary<K: Sink>(
     called: u64,
     waters: &Waters,
 ) -> Result<(), SinkFailed>
-    ensures text { Puts (K.taken sink.old) (K.taken sink.new) result (summary_text number size basin.now totals.now called waters.now) }
+    ensures text { Puts (K.taken sink.old) (K.taken sink.new) result
+        (summary_text number size basin.now totals.now called waters.now) }
     ensures cause { HasCause (K.faults sink.old) (K.faults sink.new) (IsErr result) }
 {
     put_made(sink, number, size, basin)?;

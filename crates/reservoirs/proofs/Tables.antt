@@ -1,5 +1,6 @@
 -- A list of points is an area table exactly where it has no fault.
-use Rattle.std.proofs.Common.{◌≡◌, ℕ, ◌+◌, ◌<◌, ◌≤◌, List, [], ◌∷◌, Option, None, Some, IfNone, sym, inl, inr, nat_le, nat_lt, true, false, arith, eqb, refl}
+use Rattle.std.proofs.Common.{◌≡◌, ℕ, ◌+◌, ◌<◌, ◌≤◌, List, [], ◌∷◌, Option, None, Some, IfNone, sym, inl, inr, nat_le}
+use Rattle.std.proofs.Common.{nat_lt, true, false, arith, eqb, refl}
 use Rattle.std.proofs.lemmas.Bool.{cases_Bool}
 use Rattle.std.proofs.lemmas.Bool.Decides.{nat_tests}
 use Rattle.water_model.specs.Valid.{IsAreaTable, RisesFrom}
@@ -17,7 +18,8 @@ at_least s t e = grind (arith, nat_tests)
 is_zero : (s : ℕ) → (eqb s 0) ≡ true → s ≡ 0
 is_zero s e = grind (arith, nat_tests)
 
-rises : (before : AreaPoint) (n : ℕ) (points : List AreaPoint) → fault_behind before n points ≡ None → RisesFrom before points
+rises : (before : AreaPoint) (n : ℕ) (points : List AreaPoint) → fault_behind before n points ≡ None →
+    RisesFrom before points
 rises before n [] e = tt
 rises before n (p ∷ points) e =
     elim (cases_Bool (nat_le p.storage before.storage)) [
@@ -88,6 +90,7 @@ refused_by points (AreaFalls n) h = sym h
 refused_by points OutOfMemory h = absurd (not_memory points (sym h))
 
 -- where the first fault is none, they are an area table
-pub sound_by : (points : List AreaPoint) (fault : Option TableRefused) → fault ≡ table_fault points → IfNone fault (IsAreaTable points)
+pub sound_by : (points : List AreaPoint) (fault : Option TableRefused) → fault ≡ table_fault points →
+    IfNone fault (IsAreaTable points)
 sound_by points None e = is_table points (sym e)
 sound_by points (Some found) e = tt

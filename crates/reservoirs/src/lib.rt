@@ -1,7 +1,8 @@
 //! Area tables of reservoirs: their areas, what evaporates, and what a reservoir closes with.
 #![tactic(auto)]
 
-ghost use Rattle.std.specs.Prelude.{◌≡◌, ◌+◌, ◌-◌, ◌*◌, ◌/◌, ◌^◌, ◌<◌, ◌≤◌, length, sum, All, None, IfNone, IfOk, OnOk, IfErr};
+ghost use Rattle.std.specs.Prelude.{◌≡◌, ◌+◌, ◌-◌, ◌*◌, ◌/◌, ◌^◌, ◌<◌, ◌≤◌, length, sum, All, None, IfNone, IfOk, OnOk};
+ghost use Rattle.std.specs.Prelude.{IfErr};
 ghost use Rattle.water_model.specs.Hydrology.{area_at, area_from, evaporation};
 ghost use Rattle.water_model.specs.Valid.{IsAreaTable, RisesFrom};
 ghost use Rattle.reservoirs.specs.AreaFaults.{table_fault, fault_behind, IsTableRefusal};
@@ -101,7 +102,8 @@ fn area_between(before: AreaPoint, after: AreaPoint, storage: u64) -> u64
     requires from { before.storage ≤ storage }
     requires below { storage < after.storage }
     requires rises { before.area ≤ after.area }
-    ensures { result ≡ before.area + (storage - before.storage) * (after.area - before.area) / (after.storage - before.storage) }
+    ensures { result ≡ before.area + (storage - before.storage) * (after.area - before.area) /
+        (after.storage - before.storage) }
 {
     let filled = u128::from(storage - before.storage);
     let rise = u128::from(after.area - before.area);

@@ -26,7 +26,8 @@ fronts_are_due b items valid = (
 )
 
 -- an item that is said and may come is answered
-pub may_come : (b : Basin) (before : List Item) (bytes : List ℕ) (item : Item) → item_of b bytes ≡ Ok item → IsFront b (before ++ item ∷ []) →
+pub may_come : (b : Basin) (before : List Item) (bytes : List ℕ) (item : Item) → item_of b bytes ≡ Ok item →
+    IsFront b (before ++ item ∷ []) →
     read_line b before bytes ≡ Ok item
 unfolding read_line
 may_come b before bytes item said front =
@@ -34,34 +35,43 @@ may_come b before bytes item said front =
     rw (said, t.1) refl
 
 -- what is answered is said, and may come
-has_come : (b : Basin) → IsValidBasin b → (before : List Item) (bytes : List ℕ) (item : Item) → read_line b before bytes ≡ Ok item →
+has_come : (b : Basin) → IsValidBasin b → (before : List Item) (bytes : List ℕ) (item : Item) →
+    read_line b before bytes ≡ Ok item →
     (item_of b bytes ≡ Ok item) × IsFront b (before ++ item ∷ [])
 unfolding read_line
 has_come b valid before bytes item h =
-    let t = through (item_of b bytes) (λ i. if is_some (due_after b (all_due b) (before ++ i ∷ [])) then Ok i else Err bad.OutOfPlace) item h in
+    let t = through (item_of b bytes)
+    (λ i. if is_some (due_after b (all_due b) (before ++ i ∷ [])) then Ok i else Err bad.OutOfPlace) item h in
     by_due t.0 (due_after b (all_due b) (before ++ t.0 ∷ [])) refl t.1 t.2
   where
     by_due : (i : Item) (o : Option Due) → due_after b (all_due b) (before ++ i ∷ []) ≡ o → item_of b bytes ≡ Ok i →
-        (if is_some o then Ok i else Err bad.OutOfPlace) ≡ Ok item → (item_of b bytes ≡ Ok item) × IsFront b (before ++ item ∷ [])
+        (if is_some o then Ok i else Err bad.OutOfPlace) ≡ Ok item → (item_of b bytes ≡ Ok item) ×
+        IsFront b (before ++ item ∷ [])
     by_due i None d said e = let never : Err bad.OutOfPlace ≡ Ok item = e in cc
     by_due i (Some t) d said e =
         let both : Ok i ≡ Ok item = e in
-        let is : i ≡ item = cc in
-        (said ∙ ap (λ x. Ok x) is, subst (λ (x : Item). IsFront b (before ++ x ∷ [])) is (due_front b valid.few.some_node (before ++ i ∷ []) t d))
+        let is : i ≡ item = cc in (
+          said ∙ ap (λ x. Ok x) is,
+          subst (λ (x : Item). IsFront b (before ++ x ∷ [])) is
+              (due_front b valid.few.some_node (before ++ i ∷ []) t d),
+        )
 
 pub fronts_are_accepted : FrontsAreAccepted
 fronts_are_accepted b before bytes item valid = (
-  λ h. (let c = has_come b valid before bytes item h in let s = item_is_said b bytes item c.0 in (s.spelled, s.of_text, c.1)),
+  λ h. (let c = has_come b valid before bytes item h in let s = item_is_said b bytes item c.0 in
+      (s.spelled, s.of_text, c.1)),
   λ h. may_come b before bytes item (ap (item_of b) h.0 ∙ item-line b valid item h.1) h.2,
 )
 
 -- what may not come is out of place
-may_not_come : (b : Basin) → IsValidBasin b → (before : List Item) (bytes : List ℕ) (item : Item) → item_of b bytes ≡ Ok item → (IsFront b (before ++ item ∷ []) → ⊥) →
+may_not_come : (b : Basin) → IsValidBasin b → (before : List Item) (bytes : List ℕ) (item : Item) →
+    item_of b bytes ≡ Ok item → (IsFront b (before ++ item ∷ []) → ⊥) →
     read_line b before bytes ≡ Err bad.OutOfPlace
 unfolding read_line
 may_not_come b valid before bytes item said never = by_due (due_after b (all_due b) (before ++ item ∷ [])) refl
   where
-    by_due : (o : Option Due) → due_after b (all_due b) (before ++ item ∷ []) ≡ o → read_line b before bytes ≡ Err bad.OutOfPlace
+    by_due : (o : Option Due) → due_after b (all_due b) (before ++ item ∷ []) ≡ o →
+        read_line b before bytes ≡ Err bad.OutOfPlace
     by_due None d = rw (said, d) refl
     by_due (Some t) d = absurd (never (due_front b valid.few.some_node (before ++ item ∷ []) t d))
 

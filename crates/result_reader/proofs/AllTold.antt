@@ -1,6 +1,9 @@
 -- A text's lines tell all numbers of its records.
-use Rattle.std.proofs.Common.{◌≡◌, ◌≢◌, ℕ, zero, suc, ◌+◌, ◌<◌, ◌≤◌, Bool, true, false, refl, sym, ap, subst, ◌∙◌, arith, inl, inr, List, [], ◌∷◌, ◌++◌, length, map, replicate, take, append_assoc, zero-add, length-append}
-use Rattle.std.specs.Prelude.{Option, Some, None, option_map, ◌⊎◌, is_some, slice_index, slice_get, slice_set, filter, unwrap_or, ◌==◌, ◌||◌, if◌then◌else◌}
+use Rattle.std.proofs.Common.{◌≡◌, ◌≢◌, ℕ, zero, suc, ◌+◌, ◌<◌, ◌≤◌, Bool, true, false, refl, sym, ap, subst, ◌∙◌}
+use Rattle.std.proofs.Common.{arith, inl, inr, List, [], ◌∷◌, ◌++◌, length, map, replicate, take, append_assoc}
+use Rattle.std.proofs.Common.{zero-add, length-append}
+use Rattle.std.specs.Prelude.{Option, Some, None, option_map, ◌⊎◌, is_some, slice_index, slice_get, slice_set, filter}
+use Rattle.std.specs.Prelude.{unwrap_or, ◌==◌, ◌||◌, if◌then◌else◌}
 use Rattle.std.specs.List.{list_any}
 use Rattle.std.proofs.lemmas.Bool.{cases_eq, cases_lt, cases_Bool}
 use Rattle.std.proofs.lemmas.Option.{slice_get_past}
@@ -10,7 +13,8 @@ use Rattle.water_model.proofs.Entries.{in_order-has}
 use Rattle.water_model.proofs.Order.{Has, filter-has, has-filter, seniors_have, seniors_below}
 use Rattle.water_model.specs.Basin.{taking_node, taking_node_of_kind, instream_link, link_of_kind}
 use Rattle.water_model.specs.History.{cut_of}
-use Rattle.water_model.specs.Hydrology.{returned_at, returned_by, used_of, used_by_volume, used_in_year, inflow_at, stored_at}
+use Rattle.water_model.specs.Hydrology.{returned_at, returned_by, used_of, used_by_volume, used_in_year, inflow_at}
+use Rattle.water_model.specs.Hydrology.{stored_at}
 use Rattle.water_model.specs.Lookups.{of_entry}
 use Rattle.water_model.specs.Entries.{count_in, in_order}
 use Rattle.water_model.specs.Places.{numbers_from, seniors_first}
@@ -39,20 +43,24 @@ zeros (suc n) (suc k) = zeros n k
 -- Lists of numbers.
 
 -- a list is told where each of its numbers is told or 0
-told_list : (xs zs : List ℕ) (n : ℕ) → length zs ≡ n → ((k : ℕ) → k < n → Has xs k ⊎ ((Has xs k → ⊥) × (slice_index zs k ≡ 0))) →
+told_list : (xs zs : List ℕ) (n : ℕ) → length zs ≡ n →
+    ((k : ℕ) → k < n → Has xs k ⊎ ((Has xs k → ⊥) × (slice_index zs k ≡ 0))) →
     set_all xs (λ k. slice_index zs k) (replicate n 0) ≡ zs
 told_list xs zs n len each =
     set_all-whole xs (replicate n 0) zs (length-replicate n 0 ∙ sym len) (λ k l. by_place k (each k (omega arith)))
   where
-    by_place : (k : ℕ) → Has xs k ⊎ ((Has xs k → ⊥) × (slice_index zs k ≡ 0)) → Has xs k ⊎ ((Has xs k → ⊥) × (slice_index (replicate n 0) k ≡ slice_index zs k))
+    by_place : (k : ℕ) → Has xs k ⊎ ((Has xs k → ⊥) × (slice_index zs k ≡ 0)) → Has xs k ⊎
+        ((Has xs k → ⊥) × (slice_index (replicate n 0) k ≡ slice_index zs k))
     by_place k (inl h) = inl h
     by_place k (inr (other, none)) = inr (other, zeros n k ∙ sym none)
 
 -- numbers that are equal at the places that are set
-set_all-same : (xs : List ℕ) (a c : ℕ → ℕ) (ys : List ℕ) → ((k : ℕ) → Has xs k → a k ≡ c k) → set_all xs a ys ≡ set_all xs c ys
+set_all-same : (xs : List ℕ) (a c : ℕ → ℕ) (ys : List ℕ) → ((k : ℕ) → Has xs k → a k ≡ c k) →
+    set_all xs a ys ≡ set_all xs c ys
 set_all-same [] a c ys h = refl
 set_all-same (x ∷ xs) a c ys h =
-    ap (λ n. set_all xs a (slice_set ys x n)) (h x (inl refl)) ∙ set_all-same xs a c (slice_set ys x (c x)) (λ k m. h k (inr m))
+    ap (λ n. set_all xs a (slice_set ys x n)) (h x (inl refl))
+    ∙ set_all-same xs a c (slice_set ys x (c x)) (λ k m. h k (inr m))
 
 -- a place that passes a test is told, and one that doesn't has 0
 by_filter : (p : ℕ → Bool) (xs zs : List ℕ) (k : ℕ) → Has xs k → (p k ≡ false → slice_index zs k ≡ 0) →
@@ -62,7 +70,8 @@ by_filter p xs zs k h none = elim (cases_Bool (p k)) [
   | inr fails ↦ inr (λ m. (let both : false ≡ true = sym fails ∙ (filter-has p xs k m).1 in cc), none fails)
 ]
 
-map-numbers : (f : ℕ → ℕ) (from n : ℕ) (ys : List ℕ) → length ys ≡ n → ((k : ℕ) → k < n → slice_index ys k ≡ f (from + k)) → map f (numbers_from from n) ≡ ys
+map-numbers : (f : ℕ → ℕ) (from n : ℕ) (ys : List ℕ) → length ys ≡ n →
+    ((k : ℕ) → k < n → slice_index ys k ≡ f (from + k)) → map f (numbers_from from n) ≡ ys
 unfolding numbers_from
 map-numbers f from zero [] e h = refl
 map-numbers f from zero (y ∷ ys) e h = absurd (omega arith)
@@ -92,30 +101,38 @@ set_other (x ∷ xs) zero (suc k) v h = refl
 set_other (x ∷ xs) (suc r) zero v h = refl
 set_other (x ∷ xs) (suc r) (suc k) v h = set_other xs r k v (λ e. h (ap suc e))
 
-put_one-keeps : (r k : ℕ) (cut : ℕ → Option (List Bool)) (ys : Sets) → k < length ys → set_in ys k ≡ cut k → set_in (put_one r (cut r) ys) k ≡ cut k
+put_one-keeps : (r k : ℕ) (cut : ℕ → Option (List Bool)) (ys : Sets) → k < length ys → set_in ys k ≡ cut k →
+    set_in (put_one r (cut r) ys) k ≡ cut k
 unfolding put_one
 put_one-keeps r k cut ys l h = by_set (cut r) refl
   where
     by_set : (o : Option (List Bool)) → cut r ≡ o → set_in (put_one r (cut r) ys) k ≡ cut k
     by_set None e = rw e h
     by_set (Some set) e = elim (cases_eq k r) [
-      | inl same ↦ rw e (ap (λ j. set_in (slice_set ys r (Some set)) j) same ∙ (entry_set ys r (Some set) (omega arith) ∙ (sym e ∙ ap cut (sym same))))
+      | inl same ↦
+          rw e (ap (λ j. set_in (slice_set ys r (Some set)) j) same
+          ∙ (entry_set ys r (Some set) (omega arith) ∙ (sym e ∙ ap cut (sym same))))
       | inr other ↦ rw e (set_other ys r k (Some set) other ∙ h)
     ]
 
-put_sets-keeps : (rs : List ℕ) (k : ℕ) (cut : ℕ → Option (List Bool)) (ys : Sets) → k < length ys → set_in ys k ≡ cut k → set_in (put_sets rs cut ys) k ≡ cut k
+put_sets-keeps : (rs : List ℕ) (k : ℕ) (cut : ℕ → Option (List Bool)) (ys : Sets) → k < length ys →
+    set_in ys k ≡ cut k → set_in (put_sets rs cut ys) k ≡ cut k
 put_sets-keeps [] k cut ys l h = h
 put_sets-keeps (r ∷ rs) k cut ys l h =
     ap (λ xs. set_in xs k) (put_sets-step r rs cut ys)
-    ∙ put_sets-keeps rs k cut (put_one r (cut r) ys) (omega (arith, length-put_one r (cut r) ys)) (put_one-keeps r k cut ys l h)
+    ∙ put_sets-keeps rs k cut (put_one r (cut r) ys) (omega (arith, length-put_one r (cut r) ys))
+    (put_one-keeps r k cut ys l h)
 
-put_one-here : (r k : ℕ) (cut : ℕ → Option (List Bool)) (ys : Sets) → k ≡ r → k < length ys → set_in ys k ≡ None → set_in (put_one r (cut r) ys) k ≡ cut k
+put_one-here : (r k : ℕ) (cut : ℕ → Option (List Bool)) (ys : Sets) → k ≡ r → k < length ys → set_in ys k ≡ None →
+    set_in (put_one r (cut r) ys) k ≡ cut k
 unfolding put_one
 put_one-here r k cut ys same l h = by_set (cut r) refl
   where
     by_set : (o : Option (List Bool)) → cut r ≡ o → set_in (put_one r (cut r) ys) k ≡ cut k
     by_set None e = rw e (h ∙ (sym e ∙ ap cut (sym same)))
-    by_set (Some set) e = rw e (ap (λ j. set_in (slice_set ys r (Some set)) j) same ∙ (entry_set ys r (Some set) (omega arith) ∙ (sym e ∙ ap cut (sym same))))
+    by_set (Some set) e =
+        rw e (ap (λ j. set_in (slice_set ys r (Some set)) j) same
+        ∙ (entry_set ys r (Some set) (omega arith) ∙ (sym e ∙ ap cut (sym same))))
 
 put_one-other : (r k : ℕ) (o : Option (List Bool)) (ys : Sets) → k ≢ r → set_in (put_one r o ys) k ≡ set_in ys k
 unfolding put_one
@@ -123,13 +140,18 @@ put_one-other r k None ys h = refl
 put_one-other r k (Some set) ys h = set_other ys r k (Some set) h
 
 -- a right whose set is put has it
-put_sets-has : (rs : List ℕ) (k : ℕ) (cut : ℕ → Option (List Bool)) (ys : Sets) → k < length ys → set_in ys k ≡ None → Has rs k → set_in (put_sets rs cut ys) k ≡ cut k
+put_sets-has : (rs : List ℕ) (k : ℕ) (cut : ℕ → Option (List Bool)) (ys : Sets) → k < length ys → set_in ys k ≡ None →
+    Has rs k → set_in (put_sets rs cut ys) k ≡ cut k
 put_sets-has [] k cut ys l h m = absurd m
 put_sets-has (r ∷ rs) k cut ys l h m =
     ap (λ xs. set_in xs k) (put_sets-step r rs cut ys)
     ∙ elim (cases_eq k r) [
-      | inl same ↦ put_sets-keeps rs k cut (put_one r (cut r) ys) (omega (arith, length-put_one r (cut r) ys)) (put_one-here r k cut ys same l h)
-      | inr other ↦ put_sets-has rs k cut (put_one r (cut r) ys) (omega (arith, length-put_one r (cut r) ys)) (put_one-other r k (cut r) ys other ∙ h) (behind m other)
+      | inl same ↦
+          put_sets-keeps rs k cut (put_one r (cut r) ys) (omega (arith, length-put_one r (cut r) ys))
+          (put_one-here r k cut ys same l h)
+      | inr other ↦
+          put_sets-has rs k cut (put_one r (cut r) ys) (omega (arith, length-put_one r (cut r) ys))
+          (put_one-other r k (cut r) ys other ∙ h) (behind m other)
     ]
   where
     behind : Has (r ∷ rs) k → k ≢ r → Has rs k
@@ -146,23 +168,28 @@ same_sets [] [] e h = refl
 same_sets [] (y ∷ ys) e h = absurd (omega arith)
 same_sets (x ∷ xs) [] e h = absurd (omega arith)
 same_sets (x ∷ xs) (y ∷ ys) e h =
-    ap (λ z. z ∷ xs) (h 0 (omega arith)) ∙ ap (λ zs. y ∷ zs) (same_sets xs ys (omega arith) (λ k l. h (suc k) (omega arith)))
+    ap (λ z. z ∷ xs) (h 0 (omega arith))
+    ∙ ap (λ zs. y ∷ zs) (same_sets xs ys (omega arith) (λ k l. h (suc k) (omega arith)))
 
 -- the sets of all rights
 all_sets : (rs : List ℕ) (n : ℕ) (ys : Sets) → length ys ≡ n → ((k : ℕ) → k < n → Has rs k) →
     put_sets rs (λ r. set_in ys r) (replicate n None) ≡ ys
 all_sets rs n ys e has =
     same_sets (put_sets rs (λ r. set_in ys r) (replicate n None)) ys (len ∙ sym e)
-    (λ k l. put_sets-has rs k (λ r. set_in ys r) (replicate n None) (omega (arith, len, length-replicate {A = Option (List Bool)} n None)) (no_sets n k) (has k (omega (arith, len))))
+    (λ k l. put_sets-has rs k (λ r. set_in ys r) (replicate n None)
+    (omega (arith, len, length-replicate {A = Option (List Bool)} n None)) (no_sets n k)
+    (has k (omega (arith, len))))
   where
     len : length (put_sets rs (λ r. set_in ys r) (replicate n None)) ≡ n
     len = length-put_sets rs (λ r. set_in ys r) (replicate n None) ∙ length-replicate n None
 
 -- Returns, use and takes that no line tells.
 
-none_passes : {X : Type 0} (p : X → Bool) (xs : List X) (k : ℕ) (x : X) → list_any p xs ≡ false → slice_get xs k ≡ Some x → p x ≡ false
+none_passes : {X : Type 0} (p : X → Bool) (xs : List X) (k : ℕ) (x : X) → list_any p xs ≡ false →
+    slice_get xs k ≡ Some x → p x ≡ false
 none_passes p [] k x h e = cc
-none_passes p (y ∷ ys) zero x h e = let same : Some y ≡ Some x = e in let is : y ≡ x = cc in rw (← is) (first (p y) (list_any p ys) h)
+none_passes p (y ∷ ys) zero x h e = let same : Some y ≡ Some x = e in let is : y ≡ x = cc in
+    rw (← is) (first (p y) (list_any p ys) h)
   where
     first : (q r : Bool) → q || r ≡ false → q ≡ false
     first true r g = cc
@@ -173,14 +200,19 @@ none_passes p (y ∷ ys) (suc k) x h e = none_passes p ys k x (second (p y) (lis
     second true r g = cc
     second false r g = g
 
-nothing_returns : (b : Basin) (deliveries : List (List ℕ)) (n i : ℕ) → list_any (λ row. row.node == n) b.returns ≡ false → returned_at b deliveries n i ≡ 0
+nothing_returns : (b : Basin) (deliveries : List (List ℕ)) (n i : ℕ) →
+    list_any (λ row. row.node == n) b.returns ≡ false → returned_at b deliveries n i ≡ 0
 nothing_returns b deliveries n i h =
-    total_zero (length b.returns) (λ k. of_entry b.returns k (λ row. if row.node == n then returned_by row deliveries i else 0) 0) (λ k l. at_row k (get_there b.returns k l))
+    total_zero (length b.returns)
+    (λ k. of_entry b.returns k (λ row. if row.node == n then returned_by row deliveries i else 0) 0)
+    (λ k l. at_row k (get_there b.returns k l))
   where
-    at_row : (k : ℕ) → (row : ReturnRow) × (slice_get b.returns k ≡ Some row) → of_entry b.returns k (λ row. if row.node == n then returned_by row deliveries i else 0) 0 ≡ 0
+    at_row : (k : ℕ) → (row : ReturnRow) × (slice_get b.returns k ≡ Some row) →
+        of_entry b.returns k (λ row. if row.node == n then returned_by row deliveries i else 0) 0 ≡ 0
     at_row k (row, is) = rw (is, none_passes (λ row. row.node == n) b.returns k row h is) refl
 
-pub nothing_used : (b : Basin) (deliveries : List (List ℕ)) (r i : ℕ) → of_entry b.rights r (λ right. is_some right.volume) false ≡ false → used_of b deliveries r i ≡ 0
+pub nothing_used : (b : Basin) (deliveries : List (List ℕ)) (r i : ℕ) →
+    of_entry b.rights r (λ right. is_some right.volume) false ≡ false → used_of b deliveries r i ≡ 0
 nothing_used b deliveries r i h = by_right (slice_get b.rights r) refl
   where
     by_volume : (o : Option ℕ) → is_some o ≡ false → used_by_volume o (used_in_year b deliveries r i) ≡ 0
@@ -207,13 +239,17 @@ no_link b r node h = by_right (slice_get b.rights r) refl
 -- The record of a month.
 
 -- a set is that of a short right
-pub has_set : (b : Basin) (series : Inflows) (before : List MonthRecord) (m : MonthRecord) → IsTextMonth b series before m → (r : ℕ) (set : List Bool) → cut_of m r ≡ Some set →
+pub has_set : (b : Basin) (series : Inflows) (before : List MonthRecord) (m : MonthRecord) →
+    IsTextMonth b series before m → (r : ℕ) (set : List Bool) → cut_of m r ≡ Some set →
     (r < length b.rights) × (length set ≡ length b.nodes) × (list_any (λ in_set. in_set) set ≡ true)
 has_set b series before m t r set e = by_range (cases_lt r (length b.rights))
   where
-    by_range : (r < length b.rights) ⊎ (length b.rights ≤ r) → (r < length b.rights) × (length set ≡ length b.nodes) × (list_any (λ in_set. in_set) set ≡ true)
+    by_range : (r < length b.rights) ⊎ (length b.rights ≤ r) → (r < length b.rights) × (length set ≡ length b.nodes) ×
+        (list_any (λ in_set. in_set) set ≡ true)
     by_range (inr beyond) =
-        let none : cut_of m r ≡ None = ap (λ (o : Option (Option (List Bool))). unwrap_or (option_map (λ s. s) o) None) (slice_get_past m.cuts.sets r (omega (arith, t.month.fits.cuts))) in
+        let none : cut_of m r ≡ None =
+        ap (λ (o : Option (Option (List Bool))). unwrap_or (option_map (λ s. s) o) None)
+        (slice_get_past m.cuts.sets r (omega (arith, t.month.fits.cuts))) in
         cc
     by_range (inl l) = elim (cases_lt (slice_index m.delivered r) (slice_index m.want r)) [
       | inl short ↦ (let s = t.sets.short r l short in
@@ -255,25 +291,41 @@ all_told b series before m t = record {
       (amounts_sized b series before m t.month q)
       (λ k l. by_filter (λ entry. has_line b q entry) (in_order (space_of q) b) (amounts_of q m) k
       (in_order-has (space_of q) b k l) (none_untold b series before m t.month q k l));
-  delivered = told_list (seniors_first b) m.delivered (length b.rights) t.month.fits.delivered (λ k l. inl (seniors_have b.rights k l));
-  want = told_list (seniors_first b) m.want (length b.rights) t.month.fits.want (λ k l. inl (seniors_have b.rights k l));
-  take = set_all-same (seniors_first b) (take_of b (λ r. slice_index m.delivered r)) (λ r. slice_index m.plan.take r) (replicate (length b.rights) 0) (λ k h. taken k (seniors_below b.rights k h))
-      ∙ told_list (seniors_first b) m.plan.take (length b.rights) t.month.plan.take_len (λ k l. inl (seniors_have b.rights k l));
+  delivered =
+      told_list (seniors_first b) m.delivered (length b.rights) t.month.fits.delivered
+      (λ k l. inl (seniors_have b.rights k l));
+  want = told_list (seniors_first b) m.want (length b.rights) t.month.fits.want
+      (λ k l. inl (seniors_have b.rights k l));
+  take = set_all-same (seniors_first b) (take_of b (λ r. slice_index m.delivered r)) (λ r. slice_index m.plan.take r)
+      (replicate (length b.rights) 0) (λ k h. taken k (seniors_below b.rights k h))
+      ∙ told_list (seniors_first b) m.plan.take (length b.rights) t.month.plan.take_len
+      (λ k l. inl (seniors_have b.rights k l));
   sets = all_sets (seniors_first b) (length b.rights) m.cuts.sets t.month.fits.cuts (λ k l. seniors_have b.rights k l);
   nodes = t.month.fits.cut_nodes;
-  supply = map-numbers (λ n. inflow_at b series n m.index + slice_index m.returned n + stored_at b m.opening m.evaporated n) 0 (length b.nodes) m.supply t.month.fits.supply
-      (λ k l. t.month.supply k l ∙ ap (λ n. inflow_at b series n m.index + slice_index m.returned n + stored_at b m.opening m.evaporated n) (sym (zero-add k)));
+  supply = map-numbers
+      (λ n. inflow_at b series n m.index + slice_index m.returned n + stored_at b m.opening m.evaporated n) 0
+      (length b.nodes) m.supply t.month.fits.supply
+      (λ k l. t.month.supply k l
+      ∙ ap (λ n. inflow_at b series n m.index + slice_index m.returned n + stored_at b m.opening m.evaporated n)
+      (sym (zero-add k)));
   sized = λ r set e. (has_set b series before m t r set e).1;
-  within = λ r set e. omega (arith, (has_set b series before m t r set e).0, length-replicate {A = Option (List Bool)} (length b.rights) None);
+  within = λ r set e. omega (
+    arith,
+    (has_set b series before m t r set e).0,
+    length-replicate {A = Option (List Bool)} (length b.rights)
+        None,
+  );
 }
   where
     taken : (k : ℕ) → k < length b.rights → take_of b (λ r. slice_index m.delivered r) k ≡ slice_index m.plan.take k
     taken k l = by_node (taking_node b k) refl
       where
-        by_node : (o : Option ℕ) → taking_node b k ≡ o → take_of b (λ r. slice_index m.delivered r) k ≡ slice_index m.plan.take k
+        by_node : (o : Option ℕ) → taking_node b k ≡ o →
+            take_of b (λ r. slice_index m.delivered r) k ≡ slice_index m.plan.take k
         by_node None e = rw e (sym (t.month.plan.instream k l e))
         by_node (Some node) e =
-            rw e (t.month.delivered k l ∙ ap (λ o. delivery_by_link o (slice_index m.want k) m.plan k) (no_link b k node e))
+            rw e (t.month.delivered k l
+            ∙ ap (λ o. delivery_by_link o (slice_index m.want k) m.plan k) (no_link b k node e))
 
 -- Records one behind another.
 
@@ -285,13 +337,16 @@ take_before : (before ms : List MonthRecord) → take (length before) (before ++
 take_before [] ms = refl
 take_before (x ∷ before) ms = ap (λ xs. x ∷ xs) (take_before before ms)
 
-pub month_of : (b : Basin) (series : Inflows) (records before ms : List MonthRecord) (m : MonthRecord) → AreTextMonths b series records → records ≡ before ++ m ∷ ms →
+pub month_of : (b : Basin) (series : Inflows) (records before ms : List MonthRecord) (m : MonthRecord) →
+    AreTextMonths b series records → records ≡ before ++ m ∷ ms →
     IsTextMonth b series before m
 month_of b series records before ms m are is =
-    subst (λ (xs : List MonthRecord). IsTextMonth b series xs m) (ap (take (length before)) is ∙ take_before before (m ∷ ms))
+    subst (λ (xs : List MonthRecord). IsTextMonth b series xs m)
+    (ap (take (length before)) is ∙ take_before before (m ∷ ms))
     (are.each (length before) m (ap (λ xs. slice_get xs (length before)) is ∙ get_behind before ms m))
 
-all_from : (b : Basin) (series : Inflows) (records before ms : List MonthRecord) → AreTextMonths b series records → records ≡ before ++ ms → AreAllTold b series (length before) ms
+all_from : (b : Basin) (series : Inflows) (records before ms : List MonthRecord) → AreTextMonths b series records →
+    records ≡ before ++ ms → AreAllTold b series (length before) ms
 all_from b series records before [] are is = tt
 all_from b series records before (m ∷ ms) are is =
     let t = month_of b series records before ms m are is in (
@@ -301,5 +356,6 @@ all_from b series records before (m ∷ ms) are is =
           (all_from b series records (before ++ m ∷ []) ms are (is ∙ sym (append_assoc before (m ∷ []) ms))),
     )
 
-pub are_all_told : (b : Basin) (series : Inflows) (records : List MonthRecord) → AreTextMonths b series records → AreAllTold b series 0 records
+pub are_all_told : (b : Basin) (series : Inflows) (records : List MonthRecord) → AreTextMonths b series records →
+    AreAllTold b series 0 records
 are_all_told b series records are = all_from b series records [] records are refl

@@ -71,11 +71,13 @@ unfolding has_shape read_month word_of item_with item_of read_line
 bad_month = refl
 
 other_month : read_line basin head (codes "month 1900-02") ≡ Err bad.OutOfPlace
-unfolding digits has_shape read_month numbers_from by_seniority is_same_shape fits due_in_month due word_of item_with item_of read_line
+unfolding digits has_shape read_month numbers_from by_seniority is_same_shape fits due_in_month due word_of item_with
+    item_of read_line
 other_month = refl
 
 its_month : read_line basin head (codes "month 1900-01") ≡ Ok (line.Month (record { year = 1900; month = 1 }))
-unfolding digits has_shape read_month numbers_from by_seniority is_same_shape fits due_in_month due word_of item_with item_of read_line
+unfolding digits has_shape read_month numbers_from by_seniority is_same_shape fits due_in_month due word_of item_with
+    item_of read_line
 its_month = refl
 
 leading_zero : read_line basin january (codes "flow a 060") ≡ Err bad.BadField
@@ -83,52 +85,66 @@ unfolding read_amount read_plain is_name word_of item_with item_of read_line
 leading_zero = refl
 
 later_link : read_line basin january (codes "flow b 0") ≡ Err bad.OutOfPlace
-unfolding digits read_amount read_plain is_name numbers_from by_seniority is_same_shape fits due_in_month due word_of item_with item_of read_line
+unfolding digits read_amount read_plain is_name numbers_from by_seniority is_same_shape fits due_in_month due word_of
+    item_with item_of read_line
 later_link = refl
 
 no_such_link : read_line basin january (codes "flow c 0") ≡ Err bad.OutOfPlace
-unfolding digits read_amount read_plain is_name numbers_from by_seniority is_same_shape fits due_in_month due word_of item_with item_of read_line
+unfolding digits read_amount read_plain is_name numbers_from by_seniority is_same_shape fits due_in_month due word_of
+    item_with item_of read_line
 no_such_link = refl
 
 its_link : read_line basin january (codes "flow a 60") ≡ Ok (line.Amount quantity.Flow 0 60)
-unfolding digits read_amount read_plain is_name numbers_from by_seniority is_same_shape fits due_in_month due word_of item_with item_of read_line
+unfolding digits read_amount read_plain is_name numbers_from by_seniority is_same_shape fits due_in_month due word_of
+    item_with item_of read_line
 its_link = refl
 
 -- behind the outflows: calls, and the nodes of their sets
 
 abbrev outflows : List Item
-outflows = january ++ line.Amount quantity.Flow 0 50 ∷ line.Amount quantity.Flow 1 0 ∷ line.Deliver 1 50 60 ∷ line.Deliver 0 0 50 ∷ line.Amount quantity.Outflow 2 0 ∷ []
+outflows =
+    january ++ line.Amount quantity.Flow 0 50 ∷ line.Amount quantity.Flow 1 0 ∷ line.Deliver 1 50 60 ∷ line.Deliver 0 0
+    50 ∷ line.Amount quantity.Outflow 2 0 ∷ []
 
 no_call : read_line basin outflows (codes "in top") ≡ Err bad.OutOfPlace
-unfolding digits is_name numbers_from by_seniority is_same_shape fits due_in_month due word_of item_with item_of read_line
+unfolding digits is_name numbers_from by_seniority is_same_shape fits due_in_month due word_of item_with item_of
+    read_line
 no_call = refl
 
 no_node : read_line basin (outflows ++ line.Call 1 ∷ []) (codes "end") ≡ Err bad.OutOfPlace
-unfolding digits is_name numbers_from by_seniority is_same_shape fits due_in_month due word_of item_with item_of read_line
+unfolding digits is_name numbers_from by_seniority is_same_shape fits due_in_month due word_of item_with item_of
+    read_line
 no_node = refl
 
 earlier_node : read_line basin (outflows ++ line.Call 1 ∷ line.Member 1 ∷ []) (codes "in top") ≡ Err bad.OutOfPlace
-unfolding digits is_name numbers_from by_seniority is_same_shape fits due_in_month due word_of item_with item_of read_line
+unfolding digits is_name numbers_from by_seniority is_same_shape fits due_in_month due word_of item_with item_of
+    read_line
 earlier_node = refl
 
-senior_behind_junior : read_line basin (outflows ++ line.Call 0 ∷ line.Member 1 ∷ []) (codes "call old") ≡ Err bad.OutOfPlace
-unfolding digits is_name numbers_from by_seniority is_same_shape fits due_in_month due word_of item_with item_of read_line
+senior_behind_junior : read_line basin (outflows ++ line.Call 0 ∷ line.Member 1 ∷ []) (codes "call old") ≡ Err
+    bad.OutOfPlace
+unfolding digits is_name numbers_from by_seniority is_same_shape fits due_in_month due word_of item_with item_of
+    read_line
 senior_behind_junior = refl
 
 junior_caller : read_line basin outflows (codes "called old new") ≡ Err bad.OutOfPlace
-unfolding digits is_name numbers_from by_seniority is_same_shape fits due_in_month due word_of item_with item_of read_line
+unfolding digits is_name numbers_from by_seniority is_same_shape fits due_in_month due word_of item_with item_of
+    read_line
 junior_caller = refl
 
 senior_caller : read_line basin outflows (codes "called new old") ≡ Ok (line.Called 0 1)
-unfolding digits is_name numbers_from by_seniority is_same_shape fits due_in_month due word_of item_with item_of read_line
+unfolding digits is_name numbers_from by_seniority is_same_shape fits due_in_month due word_of item_with item_of
+    read_line
 senior_caller = refl
 
 -- the end
 
 other_number : read_line basin (outflows ++ line.End ∷ []) (codes "done 2") ≡ Err bad.OutOfPlace
-unfolding digits read_amount read_plain numbers_from by_seniority is_same_shape fits due_in_month due word_of item_with item_of read_line
+unfolding digits read_amount read_plain numbers_from by_seniority is_same_shape fits due_in_month due word_of item_with
+    item_of read_line
 other_number = refl
 
 behind_the_end : read_line basin (outflows ++ line.End ∷ line.Done 1 ∷ []) (codes "river-result 1") ≡ Err bad.OutOfPlace
-unfolding digits read_amount read_plain numbers_from by_seniority is_same_shape fits due_in_month due word_of item_with item_of read_line
+unfolding digits read_amount read_plain numbers_from by_seniority is_same_shape fits due_in_month due word_of item_with
+    item_of read_line
 behind_the_end = refl

@@ -1,5 +1,6 @@
 -- A small machine that accepts the fronts of what fills the lines that are due.
-use Rattle.std.proofs.Common.{◌≡◌, ℕ, zero, suc, Bool, true, false, refl, sym, ◌∙◌, ap, subst, List, [], ◌∷◌, ◌++◌, map, length, inl, inr}
+use Rattle.std.proofs.Common.{◌≡◌, ℕ, zero, suc, Bool, true, false, refl, sym, ◌∙◌, ap, subst, List, [], ◌∷◌, ◌++◌, map}
+use Rattle.std.proofs.Common.{length, inl, inr}
 use Rattle.std.specs.Prelude.{◌&&◌, not, ◌⊎◌, Option, Some, None, if◌then◌else◌, ◌==◌, slice_index}
 use Rattle.std.specs.List.{list_all, list_any}
 use Rattle.std.specs.Option.{option_map_or}
@@ -8,7 +9,8 @@ use Rattle.water_model.specs.declared.quantity.Quantity.{Quantity}
 use Rattle.water_model.specs.declared.quantity.Quantity.TheVariants as quantity
 use Rattle.water_model.specs.declared.types.Basin.{Basin}
 use Rattle.water_model.specs.Places.{numbers_from, members_from}
-use Rattle.result_reader.specs.Form.{shape_of, number_of, key_of, is_same_shape, is_optional, is_allowed, fits, IsFollowedBy, Fills}
+use Rattle.result_reader.specs.Form.{shape_of, number_of, key_of, is_same_shape, is_optional, is_allowed, fits}
+use Rattle.result_reader.specs.Form.{IsFollowedBy, Fills}
 use Rattle.result_reader.specs.Due.{is_call, is_member, is_member_shape, opened, take_line, step}
 use Rattle.water_model.specs.declared.item.Item.{Item}
 use Rattle.water_model.specs.declared.item.Item.TheVariants as line
@@ -134,7 +136,8 @@ TakesOptional b ds i after = (rest : List Shape) × (after ≡ opened b i ++ res
 takes_optional : (b : Basin) (ds : List Shape) (i : Item) (after : List Shape) → is_optional (shape_of i) ≡ true →
     take_line b ds i ≡ Some after → TakesOptional b ds i after
 takes_optional b [] i after o h = cc
-takes_optional b (d ∷ ds) i after o h = by_fit (fits b d i) refl (is_optional d) refl (λ k. takes_optional b ds i after o k)
+takes_optional b (d ∷ ds) i after o h =
+    by_fit (fits b d i) refl (is_optional d) refl (λ k. takes_optional b ds i after o k)
   where
     by_fit : (f : Bool) → fits b d i ≡ f → (p : Bool) → is_optional d ≡ p →
         (take_line b ds i ≡ Some after → TakesOptional b ds i after) → TakesOptional b (d ∷ ds) i after
@@ -159,14 +162,16 @@ take_within b ds (e ∷ es) i less w h =
         ((xs : List Shape) → Within xs es → take_line b xs i ≡ Some less → TakesWithin b es i less) →
         TakesWithin b (e ∷ es) i less
     by_fit (inl (o, j)) true f p q further =
-        let t : TakesOptional b ds i less = takes_optional b ds i less (ap is_optional (sym (fits_shape b e i f)) ∙ o) h in (
+        let t : TakesOptional b ds i less =
+        takes_optional b ds i less (ap is_optional (sym (fits_shape b e i f)) ∙ o) h in (
           opened b i ++ es,
           take_fits b e es i f,
           subst (λ (xs : List Shape). Within xs (opened b i ++ es)) (sym t.1)
               (within_behind (opened b i) t.0 es (within_trans t.0 ds es t.2 j)),
         )
     by_fit (inr (rest, is, j)) true f p q further =
-        let same : Some (opened b i ++ rest) ≡ Some less = sym (take_fits b e rest i f) ∙ (sym (ap (λ xs. take_line b xs i) is) ∙ h) in
+        let same : Some (opened b i ++ rest) ≡ Some less =
+        sym (take_fits b e rest i f) ∙ (sym (ap (λ xs. take_line b xs i) is) ∙ h) in
         let less_is : opened b i ++ rest ≡ less = cc in (
           opened b i ++ es,
           take_fits b e es i f,
@@ -184,7 +189,9 @@ take_within b ds (e ∷ es) i less w h =
 within_optional : (ds es : List Shape) → Within ds es → list_all is_optional ds ≡ true → list_all is_optional es ≡ true
 within_optional ds [] w h = refl
 within_optional ds (e ∷ es) (inl (o, k)) h = rw o (within_optional ds es k h)
-within_optional ds (e ∷ es) (inr (rest, is, k)) h = both (is_optional e) (list_all is_optional rest) (list_all is_optional es) (sym (ap (list_all is_optional) is) ∙ h) (within_optional rest es k)
+within_optional ds (e ∷ es) (inr (rest, is, k)) h =
+    both (is_optional e) (list_all is_optional rest) (list_all is_optional es) (sym (ap (list_all is_optional) is) ∙ h)
+    (within_optional rest es k)
   where
     both : (p q t : Bool) → p && q ≡ true → (q ≡ true → t ≡ true) → p && t ≡ true
     both true q t h k = k h
@@ -192,7 +199,8 @@ within_optional ds (e ∷ es) (inr (rest, is, k)) h = both (is_optional e) (list
 
 -- Optional lines more take nothing away.
 
-pub accepts_step : (b : Basin) (must : Bool) (ds es : List Shape) (i : Item) (is : List Item) → step b must ds i ≡ Some es →
+pub accepts_step : (b : Basin) (must : Bool) (ds es : List Shape) (i : Item) (is : List Item) →
+    step b must ds i ≡ Some es →
     accepts b must ds (i ∷ is) ≡ accepts b (is_call i) es is
 accepts_step b must ds es i is h = rw h refl
 
@@ -208,26 +216,31 @@ step_shut b must ds i h = rw h refl
 abbrev pub StepsTo : Basin → Bool → List Shape → Item → List Item → Type 0
 StepsTo b must ds i is = (es : List Shape) × (step b must ds i ≡ Some es) × (accepts b (is_call i) es is ≡ true)
 
-pub steps_to : (b : Basin) (must : Bool) (ds : List Shape) (i : Item) (is : List Item) → accepts b must ds (i ∷ is) ≡ true →
+pub steps_to : (b : Basin) (must : Bool) (ds : List Shape) (i : Item) (is : List Item) →
+    accepts b must ds (i ∷ is) ≡ true →
     StepsTo b must ds i is
 steps_to b must ds i is h = by_step (step b must ds i) refl
   where
     by_step : (s : Option (List Shape)) → step b must ds i ≡ s → StepsTo b must ds i is
-    by_step None e = let no : false ≡ true = sym (ap (λ s. option_map_or (λ es. accepts b (is_call i) es is) s false) e) ∙ h in cc
+    by_step None e = let no : false ≡ true = sym (ap (λ s. option_map_or (λ es. accepts b (is_call i) es is) s false) e)
+        ∙ h in cc
     by_step (Some es) e = (es, e, sym (accepts_step b must ds es i is e) ∙ h)
 
 pub accepts_within : (b : Basin) (must : Bool) (ds es : List Shape) (items : List Item) → Within ds es →
     accepts b must ds items ≡ true → accepts b must es items ≡ true
-accepts_within b must ds es [] w h = both (not must) (list_all is_optional ds) (list_all is_optional es) h (within_optional ds es w)
+accepts_within b must ds es [] w h =
+    both (not must) (list_all is_optional ds) (list_all is_optional es) h (within_optional ds es w)
   where
     both : (p q t : Bool) → p && q ≡ true → (q ≡ true → t ≡ true) → p && t ≡ true
     both true q t h k = k h
     both false q t h k = h
 accepts_within b must ds es (i ∷ is) w h =
-    by_guard (must && not (is_member i)) refl (steps_to b must ds i is h) (λ xs cs j. accepts_within b (is_call i) xs cs is j)
+    by_guard (must && not (is_member i)) refl (steps_to b must ds i is h)
+    (λ xs cs j. accepts_within b (is_call i) xs cs is j)
   where
     by_guard : (g : Bool) → must && not (is_member i) ≡ g → StepsTo b must ds i is →
-        ((xs cs : List Shape) → Within xs cs → accepts b (is_call i) xs is ≡ true → accepts b (is_call i) cs is ≡ true) →
+        ((xs cs : List Shape) → Within xs cs → accepts b (is_call i) xs is ≡ true →
+        accepts b (is_call i) cs is ≡ true) →
         accepts b must es (i ∷ is) ≡ true
     by_guard true e s further = let none : None ≡ Some s.0 = sym (step_shut b must ds i e) ∙ s.1 in cc
     by_guard false e s further =
@@ -249,8 +262,10 @@ members_forward b ds others (true ∷ set) must k h some =
     accepts_step b must (shape.Member k ∷ (map (λ n. shape.Member n) (numbers_from (suc k) (length set)) ++ ds))
     (map (λ n. shape.Member n) (numbers_from (suc k) (length set)) ++ ds) (line.Member k)
     (map (λ n. line.Member n) (members_from (suc k) set) ++ others)
-    (step_open b must (shape.Member k ∷ (map (λ n. shape.Member n) (numbers_from (suc k) (length set)) ++ ds)) (line.Member k) (opens must)
-    ∙ take_fits b (shape.Member k) (map (λ n. shape.Member n) (numbers_from (suc k) (length set)) ++ ds) (line.Member k) (fits_itself b (line.Member k) refl))
+    (step_open b must (shape.Member k ∷ (map (λ n. shape.Member n) (numbers_from (suc k) (length set)) ++ ds))
+    (line.Member k) (opens must)
+    ∙ take_fits b (shape.Member k) (map (λ n. shape.Member n) (numbers_from (suc k) (length set)) ++ ds) (line.Member k)
+    (fits_itself b (line.Member k) refl))
     ∙ members_forward b ds others set false (suc k) h (λ no. cc)
   where
     opens : (m : Bool) → m && false ≡ false
@@ -268,7 +283,8 @@ members_forward b ds others (false ∷ set) must k h some =
 -- a line that isn't a `call` opens nothing
 pub data IsPlain (b : Basin) (i : Item) : Type 0 where
   call : (right : ℕ) → i ≡ line.Call right → IsPlain b i
-  other : opened b i ≡ [] → is_call i ≡ false → ((members : List Item) → IsFollowedBy b i members → members ≡ []) → IsFollowedBy b i [] → IsPlain b i
+  other : opened b i ≡ [] → is_call i ≡ false → ((members : List Item) → IsFollowedBy b i members → members ≡ []) →
+      IsFollowedBy b i [] → IsPlain b i
 
 pub plain : (b : Basin) (i : Item) → IsPlain b i
 plain b line.Title = other refl refl (λ m h. h) refl
@@ -282,22 +298,27 @@ plain b (line.Called right by') = other refl refl (λ m h. h) refl
 plain b line.End = other refl refl (λ m h. h) refl
 plain b (line.Done months) = other refl refl (λ m h. h) refl
 
-pub fills_accepted : (b : Basin) (ds : List Shape) (items : List Item) → Fills b ds items → accepts b false ds items ≡ true
+pub fills_accepted : (b : Basin) (ds : List Shape) (items : List Item) → Fills b ds items →
+    accepts b false ds items ≡ true
 fills_accepted b [] items h = rw h refl
 fills_accepted b (d ∷ ds) items (inl (o, h)) =
     accepts_within b false ds (d ∷ ds) items (inl (o, within_itself ds)) (fills_accepted b ds items h)
 fills_accepted b (d ∷ ds) items (inr (i, members, others, f, group, are, h)) =
     rw are (by_item (plain b i) (fills_accepted b ds others h))
   where
-    first : accepts b false (d ∷ ds) (i ∷ (members ++ others)) ≡ accepts b (is_call i) (opened b i ++ ds) (members ++ others)
+    first : accepts b false (d ∷ ds) (i ∷ (members ++ others)) ≡ accepts b (is_call i) (opened b i ++ ds)
+        (members ++ others)
     first = accepts_step b false (d ∷ ds) (opened b i ++ ds) i (members ++ others) (take_fits b d ds i f)
 
     by_item : IsPlain b i → accepts b false ds others ≡ true → accepts b false (d ∷ ds) (i ∷ (members ++ others)) ≡ true
-    by_item (call right is) rest = first ∙ behind_call right is (subst (λ (x : Item). IsFollowedBy b x members) is group) rest
+    by_item (call right is) rest =
+        first ∙ behind_call right is (subst (λ (x : Item). IsFollowedBy b x members) is group) rest
       where
-        behind_call : (right : ℕ) → i ≡ line.Call right → IsFollowedBy b (line.Call right) members → accepts b false ds others ≡ true →
+        behind_call : (right : ℕ) → i ≡ line.Call right → IsFollowedBy b (line.Call right) members →
+            accepts b false ds others ≡ true →
             accepts b (is_call i) (opened b i ++ ds) (members ++ others) ≡ true
-        behind_call right is (set, sized, some, named) rest = rw (is, named, ← sized) (members_forward b ds others set true 0 rest (λ t. some))
+        behind_call right is (set, sized, some, named) rest =
+            rw (is, named, ← sized) (members_forward b ds others set true 0 rest (λ t. some))
     by_item (other none still nothing _) rest = first ∙ rw (none, still, nothing members group) rest
 
 -- The members of a call, backward.
@@ -314,9 +335,12 @@ pub record SplitsAt (b : Basin) (ds : List Shape) (must : Bool) (k n : ℕ) (ite
   pub are : items ≡ map (λ n. line.Member n) (members_from k set) ++ others
   pub rest : accepts b false ds others ≡ true
 
-pub no_member_due : (b : Basin) (ds : List Shape) (i : Item) → has_no_members ds ≡ true → is_member i ≡ true → take_line b ds i ≡ None
+pub no_member_due : (b : Basin) (ds : List Shape) (i : Item) → has_no_members ds ≡ true → is_member i ≡ true →
+    take_line b ds i ≡ None
 no_member_due b [] i h m = refl
-no_member_due b (d ∷ ds) i h m = by_fit (fits b d i) refl (is_optional d) refl (no_member_due b ds i (second (not (is_member_shape d)) (has_no_members ds) h) m)
+no_member_due b (d ∷ ds) i h m =
+    by_fit (fits b d i) refl (is_optional d) refl
+    (no_member_due b ds i (second (not (is_member_shape d)) (has_no_members ds) h) m)
   where
     second : (p q : Bool) → p && q ≡ true → q ≡ true
     second true q h = h
@@ -338,7 +362,8 @@ no_member_due b (d ∷ ds) i h m = by_fit (fits b d i) refl (is_optional d) refl
     alike line.End = refl
     alike (line.Done months) = refl
 
-    by_fit : (f : Bool) → fits b d i ≡ f → (p : Bool) → is_optional d ≡ p → take_line b ds i ≡ None → take_line b (d ∷ ds) i ≡ None
+    by_fit : (f : Bool) → fits b d i ≡ f → (p : Bool) → is_optional d ≡ p → take_line b ds i ≡ None →
+        take_line b (d ∷ ds) i ≡ None
     by_fit true f p q rest =
         let member : is_member_shape d ≡ true = ap is_member_shape (fits_shape b d i f) ∙ (alike i ∙ m) in
         let not_member : not (is_member_shape d) ≡ true = first (not (is_member_shape d)) (has_no_members ds) h in
@@ -366,13 +391,15 @@ member_only b k i h = by_item i (fits_shape b (shape.Member k) i h)
 members_back : (b : Basin) (ds : List Shape) → has_no_members ds ≡ true → (n k : ℕ) (must : Bool) (items : List Item) →
     accepts b must (map (λ j. shape.Member j) (numbers_from k n) ++ ds) items ≡ true → SplitsAt b ds must k n items
 unfolding numbers_from members_from
-members_back b ds clean zero k false items h = record { set = []; sized = refl; some = λ no. cc; others = items; are = refl; rest = h }
+members_back b ds clean zero k false items h =
+    record { set = []; sized = refl; some = λ no. cc; others = items; are = refl; rest = h }
 members_back b ds clean zero k true [] h = let no : false ≡ true = h in cc
 members_back b ds clean zero k true (i ∷ is) h = by_step (steps_to b true ds i is h) (is_member i) refl
   where
     by_step : StepsTo b true ds i is → (m : Bool) → is_member i ≡ m → SplitsAt b ds true k zero (i ∷ is)
     by_step s true m =
-        let none : None ≡ Some s.0 = sym (no_member_due b ds i clean m) ∙ (sym (step_open b true ds i (ap not m)) ∙ s.1) in
+        let none : None ≡ Some s.0 =
+        sym (no_member_due b ds i clean m) ∙ (sym (step_open b true ds i (ap not m)) ∙ s.1) in
         cc
     by_step s false m =
         let none : None ≡ Some s.0 = sym (step_shut b true ds i (ap not m)) ∙ s.1 in
@@ -381,16 +408,35 @@ members_back b ds clean (suc n) k must [] h =
     skipped (members_back b ds clean n (suc k) must [] h)
   where
     skipped : SplitsAt b ds must (suc k) n [] → SplitsAt b ds must k (suc n) []
-    skipped s = record { set = false ∷ s.set; sized = ap suc s.sized; some = s.some; others = s.others; are = s.are; rest = s.rest }
+    skipped s =
+        record {
+          set = false ∷ s.set;
+          sized = ap suc s.sized;
+          some = s.some;
+          others = s.others;
+          are = s.are;
+          rest =
+              s.rest;
+        }
 members_back b ds clean (suc n) k must (i ∷ is) h =
-    by_fit (fits b (shape.Member k) i) refl (steps_to b must (shape.Member k ∷ (map (λ j. shape.Member j) (numbers_from (suc k) n) ++ ds)) i is h)
+    by_fit (fits b (shape.Member k) i) refl
+    (steps_to b must (shape.Member k ∷ (map (λ j. shape.Member j) (numbers_from (suc k) n) ++ ds)) i is h)
     (λ m xs j. members_back b ds clean n (suc k) m xs j) (must && not (is_member i)) refl
   where
     due_here : List Shape
     due_here = map (λ j. shape.Member j) (numbers_from (suc k) n) ++ ds
 
     skipped : SplitsAt b ds must (suc k) n (i ∷ is) → SplitsAt b ds must k (suc n) (i ∷ is)
-    skipped s = record { set = false ∷ s.set; sized = ap suc s.sized; some = s.some; others = s.others; are = s.are; rest = s.rest }
+    skipped s =
+        record {
+          set = false ∷ s.set;
+          sized = ap suc s.sized;
+          some = s.some;
+          others = s.others;
+          are = s.are;
+          rest =
+              s.rest;
+        }
 
     taken : i ≡ line.Member k → SplitsAt b ds false (suc k) n is → SplitsAt b ds must k (suc n) (i ∷ is)
     taken here s = record {
@@ -404,16 +450,22 @@ members_back b ds clean (suc n) k must (i ∷ is) h =
 
     by_fit : (f : Bool) → fits b (shape.Member k) i ≡ f →
         StepsTo b must (shape.Member k ∷ (map (λ j. shape.Member j) (numbers_from (suc k) n) ++ ds)) i is →
-        ((m : Bool) (xs : List Item) → accepts b m (map (λ j. shape.Member j) (numbers_from (suc k) n) ++ ds) xs ≡ true → SplitsAt b ds m (suc k) n xs) →
+        ((m : Bool) (xs : List Item) →
+        accepts b m (map (λ j. shape.Member j) (numbers_from (suc k) n) ++ ds) xs ≡ true →
+        SplitsAt b ds m (suc k) n xs) →
         (g : Bool) → must && not (is_member i) ≡ g → SplitsAt b ds must k (suc n) (i ∷ is)
     by_fit f e s further true g =
-        let none : None ≡ Some s.0 = sym (step_shut b must (shape.Member k ∷ (map (λ j. shape.Member j) (numbers_from (suc k) n) ++ ds)) i g) ∙ s.1 in cc
+        let none : None ≡ Some s.0 =
+        sym (step_shut b must (shape.Member k ∷ (map (λ j. shape.Member j) (numbers_from (suc k) n) ++ ds)) i g)
+        ∙ s.1 in cc
     by_fit true e s further false g =
         let here : i ≡ line.Member k = member_only b k i e in
-        let opens : opened b i ++ (map (λ j. shape.Member j) (numbers_from (suc k) n) ++ ds) ≡ map (λ j. shape.Member j) (numbers_from (suc k) n) ++ ds = rw here refl in
+        let opens : opened b i ++ (map (λ j. shape.Member j) (numbers_from (suc k) n) ++ ds) ≡ map (λ j. shape.Member j)
+        (numbers_from (suc k) n) ++ ds = rw here refl in
         let left : Some (opened b i ++ (map (λ j. shape.Member j) (numbers_from (suc k) n) ++ ds)) ≡ Some s.0 =
         sym (take_fits b (shape.Member k) (map (λ j. shape.Member j) (numbers_from (suc k) n) ++ ds) i e)
-        ∙ (sym (step_open b must (shape.Member k ∷ (map (λ j. shape.Member j) (numbers_from (suc k) n) ++ ds)) i g) ∙ s.1) in
+        ∙ (sym (step_open b must (shape.Member k ∷ (map (λ j. shape.Member j) (numbers_from (suc k) n) ++ ds)) i g)
+        ∙ s.1) in
         let is_left : s.0 ≡ map (λ j. shape.Member j) (numbers_from (suc k) n) ++ ds = cc in
         let plainly : is_call i ≡ false = ap is_call here in
         taken here (further false is (rw (← is_left, ← plainly) s.2))
@@ -421,8 +473,10 @@ members_back b ds clean (suc n) k must (i ∷ is) h =
         let left : step b must (map (λ j. shape.Member j) (numbers_from (suc k) n) ++ ds) i ≡ Some s.0 =
         step_open b must (map (λ j. shape.Member j) (numbers_from (suc k) n) ++ ds) i g
         ∙ (sym (take_skips b (shape.Member k) (map (λ j. shape.Member j) (numbers_from (suc k) n) ++ ds) i e refl)
-        ∙ (sym (step_open b must (shape.Member k ∷ (map (λ j. shape.Member j) (numbers_from (suc k) n) ++ ds)) i g) ∙ s.1)) in
-        skipped (further must (i ∷ is) (accepts_step b must (map (λ j. shape.Member j) (numbers_from (suc k) n) ++ ds) s.0 i is left ∙ s.2))
+        ∙ (sym (step_open b must (shape.Member k ∷ (map (λ j. shape.Member j) (numbers_from (suc k) n) ++ ds)) i g)
+        ∙ s.1)) in
+        skipped (further must (i ∷ is)
+        (accepts_step b must (map (λ j. shape.Member j) (numbers_from (suc k) n) ++ ds) s.0 i is left ∙ s.2))
 
 -- What is accepted fills.
 
@@ -431,7 +485,11 @@ pub accepted_fills : (b : Basin) (ds : List Shape) (items : List Item) → has_n
 accepted_fills b [] [] clean h = refl
 accepted_fills b [] (i ∷ is) clean h = let no : false ≡ true = h in cc
 accepted_fills b (d ∷ ds) [] clean h =
-    inl (first (is_optional d) (list_all is_optional ds) h, accepted_fills b ds [] (second (not (is_member_shape d)) (has_no_members ds) clean) (second (is_optional d) (list_all is_optional ds) h))
+    inl (
+      first (is_optional d) (list_all is_optional ds) h,
+      accepted_fills b ds [] (second (not (is_member_shape d)) (has_no_members ds) clean)
+          (second (is_optional d) (list_all is_optional ds) h),
+    )
   where
     second : (p q : Bool) → p && q ≡ true → q ≡ true
     second true q h = h
@@ -459,7 +517,8 @@ accepted_fills b (d ∷ ds) (i ∷ is) clean h =
         by_item : IsPlain b i → Fills b (d ∷ ds) (i ∷ is)
         by_item (call right here) =
             let split : SplitsAt b ds true 0 (length b.nodes) is =
-            members_back b ds (second (not (is_member_shape d)) (has_no_members ds) clean) (length b.nodes) 0 true is (rw here at left) in
+            members_back b ds (second (not (is_member_shape d)) (has_no_members ds) clean) (length b.nodes) 0 true is
+            (rw here at left) in
             inr (
               i,
               map (λ n. line.Member n) (members_from 0 split.set),

@@ -18,17 +18,20 @@ has_some (false ∷ set) zero h = cc
 has_some (false ∷ set) (suc k) h = has_some set k h
 
 -- a cut of a right has a node
-cut_has_some : (b : Basin) (taking link : Option ℕ) (cut : List Bool) → Separates b taking link cut → list_any (λ in_set. in_set) cut ≡ true
+cut_has_some : (b : Basin) (taking link : Option ℕ) (cut : List Bool) → Separates b taking link cut →
+    list_any (λ in_set. in_set) cut ≡ true
 cut_has_some b None None cut h = cc
 cut_has_some b (Some node) None cut h = has_some cut node h
-cut_has_some b taking (Some link) cut h = has_some cut (tail_of b link) (first (has cut (tail_of b link)) (not (has cut (head_of b link))) h.1)
+cut_has_some b taking (Some link) cut h =
+    has_some cut (tail_of b link) (first (has cut (tail_of b link)) (not (has cut (head_of b link))) h.1)
   where
     first : (p q : Bool) → p && q ≡ true → p ≡ true
     first true q g = refl
     first false q g = cc
 
 -- a record that follows others is one that a text tells, if its amounts are those of a text
-pub IsTextMonth-Follows : (b : Basin) (series : Inflows) (before : List MonthRecord) (m : MonthRecord) → Follows b series before m → HasTextAmounts m →
+pub IsTextMonth-Follows : (b : Basin) (series : Inflows) (before : List MonthRecord) (m : MonthRecord) →
+    Follows b series before m → HasTextAmounts m →
     IsTextMonth b series before m
 IsTextMonth-Follows b series before m f amounts = record {
   month = record {

@@ -1,5 +1,6 @@
 -- How many lines may still come.
-use Rattle.std.proofs.Common.{◌≡◌, ℕ, zero, suc, ◌+◌, ◌*◌, ◌^◌, ◌<◌, ◌≤◌, Bool, true, false, refl, sym, ap, ◌∙◌, arith, List, [], ◌∷◌, ◌++◌, length, map, length-append, mul_comm}
+use Rattle.std.proofs.Common.{◌≡◌, ℕ, zero, suc, ◌+◌, ◌*◌, ◌^◌, ◌<◌, ◌≤◌, Bool, true, false, refl, sym, ap, ◌∙◌, arith}
+use Rattle.std.proofs.Common.{List, [], ◌∷◌, ◌++◌, length, map, length-append, mul_comm}
 use Rattle.std.specs.Prelude.{Some, None, is_some, not, ◌&&◌, if◌then◌else◌}
 use Rattle.std.specs.List.{flat_map}
 use Rattle.std.proofs.Math.Nat.{mul-le-mul}
@@ -19,11 +20,13 @@ use Rattle.water_model.specs.declared.item.Section.TheVariants as section
 use Rattle.water_model.specs.declared.item.TheConstants.{SECTIONS}
 use Rattle.water_model.specs.declared.types.Basin.{Basin}
 use Rattle.result_reader.specs.Due.{is_member, opened, take_line, step}
-use Rattle.result_reader.specs.Form.{shape_of, is_optional, fits, shapes_at, shapes_in, due, due_in_month, due_for_month, due_from}
+use Rattle.result_reader.specs.Form.{shape_of, is_optional, fits, shapes_at, shapes_in, due, due_in_month}
+use Rattle.result_reader.specs.Form.{due_for_month, due_from}
 use Rattle.result_reader.specs.Standing.{most_for, most_lines}
 use Rattle.result_reader.specs.declared.shape.Shape.{Shape}
 use Rattle.result_reader.specs.declared.shape.Shape.TheVariants as shape
-use Rattle.result_reader.proofs.Grammar.{fits_shape, take_fits, take_skips, take_stops, step_open, step_shut, plain, IsPlain, call, other}
+use Rattle.result_reader.proofs.Grammar.{fits_shape, take_fits, take_skips, take_stops, step_open, step_shut, plain}
+use Rattle.result_reader.proofs.Grammar.{IsPlain, call, other}
 
 -- each line that is due is at least one line
 most_for-some : (b : Basin) (d : Shape) → 1 ≤ most_for b d
@@ -39,9 +42,12 @@ most_for-some b shape.End = omega arith
 most_for-some b (shape.Done months) = omega arith
 
 -- so many lines for each entry of a list
-most_lines-map : (b : Basin) (f : ℕ → Shape) (n : ℕ) → ((x : ℕ) → most_for b (f x) ≡ n) → (xs : List ℕ) → most_lines b (map f xs) ≡ n * length xs
+most_lines-map : (b : Basin) (f : ℕ → Shape) (n : ℕ) → ((x : ℕ) → most_for b (f x) ≡ n) → (xs : List ℕ) →
+    most_lines b (map f xs) ≡ n * length xs
 most_lines-map b f n h [] = omega arith
-most_lines-map b f n h (x ∷ xs) = sum_by-cons (most_for b) (f x) (map f xs) ∙ more (most_for b (f x)) (most_lines b (map f xs)) (length xs) (h x) (most_lines-map b f n h xs)
+most_lines-map b f n h (x ∷ xs) =
+    sum_by-cons (most_for b) (f x) (map f xs)
+    ∙ more (most_for b (f x)) (most_lines b (map f xs)) (length xs) (h x) (most_lines-map b f n h xs)
   where
     more : (w m k : ℕ) → w ≡ n → m ≡ n * k → w + m ≡ n * suc k
     more w m k e g = omega arith
@@ -51,26 +57,35 @@ opened-fewer : (b : Basin) (i : Item) → most_lines b (opened b i) + 1 ≤ most
 opened-fewer b i = by_item (plain b i)
   where
     by_item : IsPlain b i → most_lines b (opened b i) + 1 ≤ most_for b (shape_of i)
-    by_item (call right is) = rw is (omega (arith, most_lines-map b (λ n. shape.Member n) 1 (λ n. refl) (numbers_from 0 (length b.nodes)), length-numbers_from 0 (length b.nodes)))
+    by_item (call right is) =
+        rw is (omega (
+          arith,
+          most_lines-map b (λ n. shape.Member n) 1 (λ n. refl) (numbers_from 0 (length b.nodes)),
+          length-numbers_from 0 (length b.nodes),
+        ))
     by_item (other none still nothing empty) = rw none (most_for-some b (shape_of i))
 
-take_line-fewer : (b : Basin) (ds : List Shape) (i : Item) (es : List Shape) → take_line b ds i ≡ Some es → most_lines b es + 1 ≤ most_lines b ds
+take_line-fewer : (b : Basin) (ds : List Shape) (i : Item) (es : List Shape) → take_line b ds i ≡ Some es →
+    most_lines b es + 1 ≤ most_lines b ds
 take_line-fewer b [] i es h = let none : None ≡ Some es = h in cc
 take_line-fewer b (d ∷ ds) i es h = by_fit (fits b d i) refl (is_optional d) refl (take_line-fewer b ds i es)
   where
-    by_fit : (f : Bool) → fits b d i ≡ f → (p : Bool) → is_optional d ≡ p → (take_line b ds i ≡ Some es → most_lines b es + 1 ≤ most_lines b ds) →
+    by_fit : (f : Bool) → fits b d i ≡ f → (p : Bool) → is_optional d ≡ p →
+        (take_line b ds i ≡ Some es → most_lines b es + 1 ≤ most_lines b ds) →
         most_lines b es + 1 ≤ most_lines b (d ∷ ds)
     by_fit true f p q further =
         let same : Some (opened b i ++ ds) ≡ Some es = sym (take_fits b d ds i f) ∙ h in
         let is : opened b i ++ ds ≡ es = cc in
-        rw (← is, sum_by-append (most_for b) (opened b i) ds, sum_by-cons (most_for b) d ds, fits_shape b d i f) (omega (arith, opened-fewer b i))
+        rw (← is, sum_by-append (most_for b) (opened b i) ds, sum_by-cons (most_for b) d ds, fits_shape b d i f)
+        (omega (arith, opened-fewer b i))
     by_fit false f true q further =
         let fewer = further (sym (take_skips b d ds i f q) ∙ h) in
         rw (sum_by-cons (most_for b) d ds) (omega arith)
     by_fit false f false q further = let none : None ≡ Some es = sym (take_stops b d ds i f q) ∙ h in cc
 
 -- with each line that comes fewer are left
-pub step-fewer : (b : Basin) (must : Bool) (ds : List Shape) (i : Item) (es : List Shape) → step b must ds i ≡ Some es → most_lines b es + 1 ≤ most_lines b ds
+pub step-fewer : (b : Basin) (must : Bool) (ds : List Shape) (i : Item) (es : List Shape) → step b must ds i ≡ Some es →
+    most_lines b es + 1 ≤ most_lines b ds
 step-fewer b must ds i es h = by_guard (must && not (is_member i)) refl
   where
     by_guard : (g : Bool) → must && not (is_member i) ≡ g → most_lines b es + 1 ≤ most_lines b ds
@@ -83,7 +98,8 @@ step-fewer b must ds i es h = by_guard (must && not (is_member i)) refl
 abbrev Exceeds : Basin → List Shape → ℕ → Type 0
 Exceeds b ds n = most_lines b ds ≡ length ds + n
 
-exceed_both : (b : Basin) (ds es : List Shape) (n m : ℕ) → Exceeds b ds n → Exceeds b es m → Exceeds b (ds ++ es) (n + m)
+exceed_both : (b : Basin) (ds es : List Shape) (n m : ℕ) → Exceeds b ds n → Exceeds b es m →
+    Exceeds b (ds ++ es) (n + m)
 exceed_both b ds es n m h k = sum_by-append (most_for b) ds es ∙ omega (arith, length-append ds es)
 
 -- so many more for an entry of a section: for a right that may have a `call` the nodes
@@ -133,7 +149,8 @@ exceed_sections b (k ∷ ks) =
     (exceed_sections b ks)
 
 -- what is due in a month: a line for each, and for each right that may have a `call` the nodes
-pub most_in_month : (b : Basin) → most_lines b (due_in_month b) ≡ length (due_in_month b) + length b.nodes * length b.rights
+pub most_in_month : (b : Basin) →
+    most_lines b (due_in_month b) ≡ length (due_in_month b) + length b.nodes * length b.rights
 unfolding due_in_month
 most_in_month b =
     exceed_both b (flat_map (λ k. shapes_in k b) SECTIONS) (shape.End ∷ []) (more_in b SECTIONS) 0
@@ -188,33 +205,40 @@ few_due b valid =
     )
 
 -- what is due in a run
-months : (b : Basin) (n from count : ℕ) → most_lines b (due_in_month b) ≡ n → most_lines b (flat_map (due_for_month b) (numbers_from from count)) ≡ count * (1 + n)
+months : (b : Basin) (n from count : ℕ) → most_lines b (due_in_month b) ≡ n →
+    most_lines b (flat_map (due_for_month b) (numbers_from from count)) ≡ count * (1 + n)
 unfolding numbers_from
 months b n from zero h = omega arith
 months b n from (suc count) h =
     sum_by-append (most_for b) (due_for_month b from) (flat_map (due_for_month b) (numbers_from (suc from) count))
-    ∙ more (most_lines b (due_for_month b from)) (most_lines b (flat_map (due_for_month b) (numbers_from (suc from) count)))
-    (sum_by-cons (most_for b) (shape.Month (run_month b from)) (due_in_month b) ∙ ap (λ k. 1 + k) h) (months b n (suc from) count h)
+    ∙ more (most_lines b (due_for_month b from))
+    (most_lines b (flat_map (due_for_month b) (numbers_from (suc from) count)))
+    (sum_by-cons (most_for b) (shape.Month (run_month b from)) (due_in_month b) ∙ ap (λ k. 1 + k) h)
+    (months b n (suc from) count h)
   where
     more : (x y : ℕ) → x ≡ 1 + n → y ≡ count * (1 + n) → x + y ≡ suc count * (1 + n)
     more x y e g = omega arith
 
-pub most_in_run : (b : Basin) (n : ℕ) → most_lines b (due_in_month b) ≡ n → most_lines b (due b) ≡ b.months * (1 + n) + 3
+pub most_in_run : (b : Basin) (n : ℕ) → most_lines b (due_in_month b) ≡ n →
+    most_lines b (due b) ≡ b.months * (1 + n) + 3
 unfolding due
 most_in_run b n h =
     sum_by-cons (most_for b) shape.Title (shape.Run ∷ due_from b 0 b.months)
     ∙ (ap (λ k. 1 + k) (sum_by-cons (most_for b) shape.Run (due_from b 0 b.months)
-    ∙ ap (λ k. 1 + k) (sum_by-append (most_for b) (flat_map (due_for_month b) (numbers_from 0 b.months)) (shape.Done b.months ∷ [])))
+    ∙ ap (λ k. 1 + k)
+    (sum_by-append (most_for b) (flat_map (due_for_month b) (numbers_from 0 b.months)) (shape.Done b.months ∷ [])))
     ∙ last (most_lines b (flat_map (due_for_month b) (numbers_from 0 b.months))) (months b n 0 b.months h))
   where
     last : (x : ℕ) → x ≡ b.months * (1 + n) → 1 + (1 + (x + 1)) ≡ b.months * (1 + n) + 3
     last x e = omega arith
 
 -- a bound on a run's lines
-pub most_of_run : (b : Basin) (dues count nodes rights : ℕ) → dues ≡ length (due_in_month b) → count ≡ b.months → nodes ≡ length b.nodes → rights ≡ length b.rights →
+pub most_of_run : (b : Basin) (dues count nodes rights : ℕ) → dues ≡ length (due_in_month b) → count ≡ b.months →
+    nodes ≡ length b.nodes → rights ≡ length b.rights →
     most_lines b (due b) ≡ count * (1 + dues + rights * nodes) + 3
 most_of_run b dues count nodes rights d m n r =
-    most_in_run b (length (due_in_month b) + length b.nodes * length b.rights) (most_in_month b) ∙ rw (d, m, n, r) (same b.months (length (due_in_month b)) (length b.nodes) (length b.rights))
+    most_in_run b (length (due_in_month b) + length b.nodes * length b.rights) (most_in_month b)
+    ∙ rw (d, m, n, r) (same b.months (length (due_in_month b)) (length b.nodes) (length b.rights))
   where
     same : (m d n r : ℕ) → m * (1 + (d + n * r)) + 3 ≡ m * (1 + d + r * n) + 3
     same m d n r = ap (λ k. m * k + 3) (let p : n * r ≡ r * n = mul_comm n r in omega arith)

@@ -1,5 +1,6 @@
 -- The `in` lines that may come.
-use Rattle.std.proofs.Common.{◌≡◌, ℕ, zero, suc, ◌+◌, ◌-◌, ◌<◌, ◌≤◌, Bool, true, false, refl, sym, ap, ◌∙◌, arith, inl, inr, List, [], ◌∷◌, ◌++◌, length, drop, add-one, map}
+use Rattle.std.proofs.Common.{◌≡◌, ℕ, zero, suc, ◌+◌, ◌-◌, ◌<◌, ◌≤◌, Bool, true, false, refl, sym, ap, ◌∙◌, arith, inl}
+use Rattle.std.proofs.Common.{inr, List, [], ◌∷◌, ◌++◌, length, drop, add-one, map}
 use Rattle.std.specs.Prelude.{Option, Some, None, ◌&&◌, not}
 use Rattle.std.proofs.lemmas.Bool.{cases_order}
 use Rattle.water_model.specs.declared.types.Basin.{Basin}
@@ -14,7 +15,8 @@ use Rattle.result_reader.specs.declared.shape.Shape.{Shape}
 use Rattle.result_reader.specs.declared.shape.Shape.TheVariants as shape
 use Rattle.result_reader.specs.declared.place.Place.{Place}
 use Rattle.result_reader.specs.declared.place.Place.TheVariants as place
-use Rattle.result_reader.proofs.Grammar.{member_only, fits_itself, take_fits, take_skips, step_open, has_no_members, no_member_due, plain, IsPlain, call, other}
+use Rattle.result_reader.proofs.Grammar.{member_only, fits_itself, take_fits, take_skips, step_open, has_no_members}
+use Rattle.result_reader.proofs.Grammar.{no_member_due, plain, IsPlain, call, other}
 use Rattle.result_reader.proofs.Fronts.{from_no_members, in_month_no_members, append_no_members}
 
 fits_not : (b : Basin) (k : ℕ) (i : Item) → (i ≡ line.Member k → ⊥) → fits b (shape.Member k) i ≡ false
@@ -29,7 +31,8 @@ pub skip_members : (b : Basin) (ds : List Shape) (i : Item) → is_member i ≡ 
 unfolding numbers_from
 skip_members b ds i h zero k = refl
 skip_members b ds i h (suc n) k =
-    take_skips b (shape.Member k) (map (λ j. shape.Member j) (numbers_from (suc k) n) ++ ds) i (fits_not b k i other) refl
+    take_skips b (shape.Member k) (map (λ j. shape.Member j) (numbers_from (suc k) n) ++ ds) i (fits_not b k i other)
+    refl
     ∙ skip_members b ds i h n (suc k)
   where
     other : i ≡ line.Member k → ⊥
@@ -40,29 +43,43 @@ pub member_before : (b : Basin) (ds : List Shape) (j n k : ℕ) → j < k →
 unfolding numbers_from
 member_before b ds j zero k l = refl
 member_before b ds j (suc n) k l =
-    take_skips b (shape.Member k) (map (λ j. shape.Member j) (numbers_from (suc k) n) ++ ds) (line.Member j) (fits_not b k (line.Member j) other) refl
+    take_skips b (shape.Member k) (map (λ j. shape.Member j) (numbers_from (suc k) n) ++ ds) (line.Member j)
+    (fits_not b k (line.Member j) other) refl
     ∙ member_before b ds j n (suc k) (omega arith)
   where
     other : line.Member j ≡ line.Member k → ⊥
     other is = let same : j ≡ k = cc in omega arith
 
 pub member_found : (b : Basin) (ds : List Shape) (j n k m : ℕ) → k ≤ j → j + suc m ≡ k + n →
-    take_line b (map (λ j. shape.Member j) (numbers_from k n) ++ ds) (line.Member j) ≡ Some (map (λ j. shape.Member j) (numbers_from (j + 1) m) ++ ds)
+    take_line b (map (λ j. shape.Member j) (numbers_from k n) ++ ds) (line.Member j) ≡ Some
+    (map (λ j. shape.Member j) (numbers_from (j + 1) m) ++ ds)
 unfolding numbers_from
 member_found b ds j zero k m l e = absurd (omega arith)
 member_found b ds j (suc n) k m l e = elim (cases_order k j) [
   | inl same ↦ here same
-  | inr o ↦ elim o [ inl below ↦ skipped below ∙ member_found b ds j n (suc k) m (omega arith) (omega arith) | inr above ↦ absurd (omega arith) ]
+  | inr o ↦
+      elim o [
+        | inl below ↦ skipped below ∙ member_found b ds j n (suc k) m (omega arith) (omega arith)
+        | inr above ↦
+            absurd (omega arith)
+      ]
 ]
   where
-    here : k ≡ j → take_line b (shape.Member k ∷ (map (λ j. shape.Member j) (numbers_from (suc k) n) ++ ds)) (line.Member j) ≡ Some (map (λ j. shape.Member j) (numbers_from (j + 1) m) ++ ds)
+    here : k ≡ j →
+        take_line b (shape.Member k ∷ (map (λ j. shape.Member j) (numbers_from (suc k) n) ++ ds)) (line.Member j) ≡ Some
+        (map (λ j. shape.Member j) (numbers_from (j + 1) m) ++ ds)
     here same =
         let count : m ≡ n = omega arith in
-        rw (← same, count, add-one k) (take_fits b (shape.Member k) (map (λ j. shape.Member j) (numbers_from (suc k) n) ++ ds) (line.Member k) (fits_itself b (line.Member k) refl))
+        rw (← same, count, add-one k)
+        (take_fits b (shape.Member k) (map (λ j. shape.Member j) (numbers_from (suc k) n) ++ ds) (line.Member k)
+        (fits_itself b (line.Member k) refl))
 
-    skipped : k < j → take_line b (shape.Member k ∷ (map (λ j. shape.Member j) (numbers_from (suc k) n) ++ ds)) (line.Member j) ≡ take_line b (map (λ j. shape.Member j) (numbers_from (suc k) n) ++ ds) (line.Member j)
+    skipped : k < j →
+        take_line b (shape.Member k ∷ (map (λ j. shape.Member j) (numbers_from (suc k) n) ++ ds))
+        (line.Member j) ≡ take_line b (map (λ j. shape.Member j) (numbers_from (suc k) n) ++ ds) (line.Member j)
     skipped below =
-        take_skips b (shape.Member k) (map (λ j. shape.Member j) (numbers_from (suc k) n) ++ ds) (line.Member j) (fits_not b k (line.Member j) other) refl
+        take_skips b (shape.Member k) (map (λ j. shape.Member j) (numbers_from (suc k) n) ++ ds) (line.Member j)
+        (fits_not b k (line.Member j) other) refl
       where
         other : line.Member j ≡ line.Member k → ⊥
         other is = let same : j ≡ k = cc in omega arith
@@ -77,11 +94,13 @@ drop_no_members (d ∷ ds) (suc k) h = drop_no_members ds k (second (not (is_mem
     second true q h = h
     second false q h = cc
 
-pub place_no_members : (b : Basin) (dues : List Shape) (p : Place) → dues ≡ due_in_month b → has_no_members (due_at b dues p) ≡ true
+pub place_no_members : (b : Basin) (dues : List Shape) (p : Place) → dues ≡ due_in_month b →
+    has_no_members (due_at b dues p) ≡ true
 place_no_members b dues place.Title is = from_no_members b 0 (b.months - 0)
 place_no_members b dues place.Run is = from_no_members b 0 (b.months - 0)
 place_no_members b dues (place.Month begun at) is =
-    append_no_members (drop at dues) (months_due b begun) (drop_no_members dues at (ap has_no_members is ∙ in_month_no_members b))
+    append_no_members (drop at dues) (months_due b begun)
+    (drop_no_members dues at (ap has_no_members is ∙ in_month_no_members b))
     (from_no_members b begun (b.months - begun))
 place_no_members b dues place.After is = refl
 
@@ -97,7 +116,8 @@ member_step b ds must next node l k =
     step_open b must (members_due b (Some next) ++ ds) (line.Member node) (may_come must)
     ∙ member_found b ds node (length b.nodes - next) next (length b.nodes - (node + 1)) l (omega arith)
 
-pub member_too_early : (b : Basin) (ds : List Shape) (must : Bool) (next node : ℕ) → node < next → has_no_members ds ≡ true →
+pub member_too_early : (b : Basin) (ds : List Shape) (must : Bool) (next node : ℕ) → node < next →
+    has_no_members ds ≡ true →
     step b must (members_due b (Some next) ++ ds) (line.Member node) ≡ None
 member_too_early b ds must next node l clean =
     step_open b must (members_due b (Some next) ++ ds) (line.Member node) (may_come must)
@@ -117,7 +137,8 @@ pub call_opens : (b : Basin) (i : Item) → is_call i ≡ true → opened b i �
 call_opens b i h = by_item (plain b i)
   where
     by_item : IsPlain b i → opened b i ≡ members_due b (Some 0)
-    by_item (call right is) = ap (opened b) is ∙ ap (λ n. map (λ j. shape.Member j) (numbers_from 0 n)) (whole (length b.nodes))
+    by_item (call right is) =
+        ap (opened b) is ∙ ap (λ n. map (λ j. shape.Member j) (numbers_from 0 n)) (whole (length b.nodes))
       where
         whole : (n : ℕ) → n ≡ n - 0
         whole n = omega arith

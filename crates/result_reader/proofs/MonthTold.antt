@@ -1,5 +1,6 @@
 -- A month's lines tell its record.
-use Rattle.std.proofs.Common.{◌≡◌, ℕ, ◌+◌, ◌<◌, Bool, refl, sym, ap, subst, ◌∙◌, arith, List, [], ◌∷◌, ◌++◌, length, map, fold}
+use Rattle.std.proofs.Common.{◌≡◌, ℕ, ◌+◌, ◌<◌, Bool, refl, sym, ap, subst, ◌∙◌, arith, List, [], ◌∷◌, ◌++◌, length}
+use Rattle.std.proofs.Common.{map, fold}
 use Rattle.std.specs.Prelude.{Option, Some, None, is_some, slice_index, slice_set, if◌then◌else◌}
 use Rattle.std.specs.List.{flat_map}
 use Rattle.std.proofs.Math.ListN.{length-set}
@@ -116,16 +117,25 @@ tells_calls b series cut sized (r ∷ rs) t within =
   where
     by_set : (o : Option (List Bool)) → cut r ≡ o →
         ((u : Told) → ((s : ℕ) (set : List Bool) → cut s ≡ Some set → s < length u.now.cuts.sets) →
-        Tells b series u (flat_map (λ r. call_items r (cut r)) rs) (with_sets u.now (put_sets rs cut u.now.cuts.sets))) →
-        Tells b series t (call_items r (cut r) ++ flat_map (λ r. call_items r (cut r)) rs) (with_sets t.now (put_sets (r ∷ rs) cut t.now.cuts.sets))
+        Tells b series u (flat_map (λ r. call_items r (cut r)) rs) (with_sets u.now (put_sets rs cut u.now.cuts.sets)))
+        →
+        Tells b series t (call_items r (cut r) ++ flat_map (λ r. call_items r (cut r)) rs)
+        (with_sets t.now (put_sets (r ∷ rs) cut t.now.cuts.sets))
     by_set None e further = rw e (further t within)
     by_set (Some set) e further =
         let behind : Told = record (put_cut t r set) { calling = Some r } in
-        let told : fold (tell b series) t (call_items r (Some set)) ≡ behind = tell_call b series r set t (within r set e) (sized r set e) in
-        let rest = further behind (λ s other i. omega (arith, within s other i, length-set t.now.cuts.sets r (Some set))) in
+        let told : fold (tell b series) t (call_items r (Some set)) ≡ behind =
+        tell_call b series r set t (within r set e) (sized r set e) in
+        let rest =
+        further behind (λ s other i. omega (arith, within s other i, length-set t.now.cuts.sets r (Some set))) in
         rw e (record {
-          now_is = ap (λ u. u.now) (fold-both (tell b series) t (call_items r (Some set)) (flat_map (λ r. call_items r (cut r)) rs) ∙ ap (λ u. fold (tell b series) u (flat_map (λ r. call_items r (cut r)) rs)) told) ∙ rest.now_is;
-          months_are = ap (λ u. u.months) (fold-both (tell b series) t (call_items r (Some set)) (flat_map (λ r. call_items r (cut r)) rs) ∙ ap (λ u. fold (tell b series) u (flat_map (λ r. call_items r (cut r)) rs)) told) ∙ rest.months_are;
+          now_is = ap (λ u. u.now)
+              (fold-both (tell b series) t (call_items r (Some set)) (flat_map (λ r. call_items r (cut r)) rs)
+              ∙ ap (λ u. fold (tell b series) u (flat_map (λ r. call_items r (cut r)) rs)) told) ∙ rest.now_is;
+          months_are =
+              ap (λ u. u.months)
+              (fold-both (tell b series) t (call_items r (Some set)) (flat_map (λ r. call_items r (cut r)) rs)
+              ∙ ap (λ u. fold (tell b series) u (flat_map (λ r. call_items r (cut r)) rs)) told) ∙ rest.months_are;
         })
 
 -- `called` lines change nothing of the month
@@ -134,7 +144,8 @@ pub makes_called : (b : Basin) (series : Inflows) (caller_of : ℕ → Option �
 makes_called b series caller_of [] t = record { now_is = refl; months_are = refl }
 makes_called b series caller_of (r ∷ rs) t = by_caller (caller_of r) refl (λ u. makes_called b series caller_of rs u)
   where
-    by_caller : (o : Option ℕ) → caller_of r ≡ o → ((u : Told) → Tells b series u (flat_map (λ r. called_items r (caller_of r)) rs) u.now) →
+    by_caller : (o : Option ℕ) → caller_of r ≡ o →
+        ((u : Told) → Tells b series u (flat_map (λ r. called_items r (caller_of r)) rs) u.now) →
         Tells b series t (called_items r (caller_of r) ++ flat_map (λ r. called_items r (caller_of r)) rs) t.now
     by_caller None e further = rw e (further t)
     by_caller (Some caller) e further =

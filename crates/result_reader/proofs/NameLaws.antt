@@ -1,5 +1,7 @@
 -- Names and their places.
-use Rattle.std.proofs.Common.{◌≡◌, ◌≢◌, ℕ, zero, suc, ◌+◌, ◌<◌, ◌≤◌, List, [], ◌∷◌, ◌++◌, length, Bool, true, false, Option, Some, None, is_some, if◌then◌else◌, refl, sym, ap, subst, ◌∙◌, inl, inr, arith, add-one}
+use Rattle.std.proofs.Common.{◌≡◌, ◌≢◌, ℕ, zero, suc, ◌+◌, ◌<◌, ◌≤◌, List, [], ◌∷◌, ◌++◌, length, Bool, true, false}
+use Rattle.std.proofs.Common.{Option, Some, None, is_some, if◌then◌else◌, refl, sym, ap, subst, ◌∙◌, inl, inr, arith}
+use Rattle.std.proofs.Common.{add-one}
 use Rattle.std.specs.Prelude.{find, slice_get, All}
 use Rattle.std.proofs.lemmas.Bool.{cases_Bool, cases_lt, cases_order, false≢true}
 use Rattle.std.proofs.lemmas.List.Folds.{find-append}
@@ -27,7 +29,8 @@ bytes_eq-sym xs ys =
     elim (cases_Bool (bytes_eq xs ys)) [
       | inl same ↦ same ∙ sym ((bytes_eq-Decides ys xs).1 (sym ((bytes_eq-Decides xs ys).0 same)))
       | inr other ↦ elim (cases_Bool (bytes_eq ys xs)) [
-        | inl same ↦ absurd (false≢true (sym other ∙ (bytes_eq-Decides xs ys).1 (sym ((bytes_eq-Decides ys xs).0 same))))
+        | inl same ↦
+            absurd (false≢true (sym other ∙ (bytes_eq-Decides xs ys).1 (sym ((bytes_eq-Decides ys xs).0 same))))
         | inr same ↦ other ∙ sym same
       ]
     ]
@@ -38,7 +41,8 @@ none_there (Some n) h = cc
 
 -- a name that was not kept is kept from now on
 pub added : {S : Type 0} (t : Bor (List ℕ)) (old new : IndexMap (Bor (List ℕ)) ℕ S) (place : ℕ) →
-    UpdatesBy (λ x y. bytes_eq x.now y.now) (λ k. bytes_eq t.now k.now) old new (Some place) → is_some (get_by (λ k. bytes_eq t.now k.now) old) ≡ false →
+    UpdatesBy (λ x y. bytes_eq x.now y.now) (λ k. bytes_eq t.now k.now) old new (Some place) →
+    is_some (get_by (λ k. bytes_eq t.now k.now) old) ≡ false →
     (q : List ℕ) → kept_at new q ≡ option_or (kept_at old q) (if bytes_eq q t.now then Some place else None)
 added t old new place updates absent q =
     let there = hash_map_updates_str t.now old new (Some place) updates q in
@@ -59,7 +63,8 @@ added t old new place updates absent q =
 numbers_more : (from n : ℕ) → numbers_from from (suc n) ≡ numbers_from from n ++ (from + n) ∷ []
 unfolding numbers_from
 numbers_more from zero = ap (λ k. k ∷ []) (omega arith)
-numbers_more from (suc n) = ap (λ xs. from ∷ xs) (numbers_more (suc from) n ∙ ap (λ k. numbers_from (suc from) n ++ k ∷ []) (omega arith))
+numbers_more from (suc n) =
+    ap (λ xs. from ∷ xs) (numbers_more (suc from) n ∙ ap (λ k. numbers_from (suc from) n ++ k ∷ []) (omega arith))
 
 -- the first of some places that passes a test, and of one place more
 pub found-more : (p : ℕ → Bool) (i : ℕ) (before after : Option ℕ) → before ≡ find p (numbers_from 0 i) →
@@ -68,10 +73,13 @@ found-more p i before after h k =
     k
     ∙ (ap (λ o. option_or o (if p i then Some i else None)) h
     ∙ (sym (find-append p (numbers_from 0 i) (i ∷ []))
-    ∙ ap (find p) (sym (ap (numbers_from 0) (add-one i) ∙ (numbers_more 0 i ∙ ap (λ n. numbers_from 0 i ++ n ∷ []) (omega arith))))))
+    ∙ ap (find p)
+    (sym (ap (numbers_from 0) (add-one i)
+    ∙ (numbers_more 0 i ∙ ap (λ n. numbers_from 0 i ++ n ∷ []) (omega arith))))))
 
 -- an empty map keeps no name
-pub kept-none : {S : Type 0} (places : IndexMap (Bor (List ℕ)) ℕ S) (q : List ℕ) → places.entries ≡ [] → kept_at places q ≡ None
+pub kept-none : {S : Type 0} (places : IndexMap (Bor (List ℕ)) ℕ S) (q : List ℕ) → places.entries ≡ [] →
+    kept_at places q ≡ None
 kept-none places q e = rw e refl
 
 -- Names of a valid basin.
@@ -95,14 +103,16 @@ name_is b valid space.Links at l =
     rw n.1 (all_at (λ l. IsValidLink b l) b.links at n.0 valid.links n.1).name
 name_is b valid space.Reservoirs at l =
     let v = get_there b.reservoirs at l in
-    let n = get_there b.nodes v.0.node (all_at (λ v. IsValidReservoir b v) b.reservoirs at v.0 valid.reservoirs v.1).node in
+    let n = get_there b.nodes v.0.node
+    (all_at (λ v. IsValidReservoir b v) b.reservoirs at v.0 valid.reservoirs v.1).node in
     rw (v.1, n.1) (all_at IsValidNode b.nodes v.0.node n.0 valid.nodes n.1).name
 name_is b valid space.Rights at l =
     let n = get_there b.rights at l in
     rw n.1 (all_at (λ r. IsValidRight b r) b.rights at n.0 valid.rights n.1).name
 
 -- no two reservoirs have one name, since each stands at a node of its own
-reservoirs_differ : (b : Basin) → IsValidBasin b → (i j : ℕ) → i < j → j < length b.reservoirs → reservoir_name b i ≢ reservoir_name b j
+reservoirs_differ : (b : Basin) → IsValidBasin b → (i j : ℕ) → i < j → j < length b.reservoirs →
+    reservoir_name b i ≢ reservoir_name b j
 reservoirs_differ b valid i j l h same =
     valid.names.reservoirs i j l h (rw (v.1, w.1) (ap (λ n. Some n) (one_node v.0.node w.0.node first second names)))
   where
@@ -130,28 +140,38 @@ reservoirs_differ b valid i j l h same =
       ]
     ]
 
-names_differ : (b : Basin) → IsValidBasin b → (s : Space) (i j : ℕ) → i < j → j < count_in s b → name_in s b i ≢ name_in s b j
+names_differ : (b : Basin) → IsValidBasin b → (s : Space) (i j : ℕ) → i < j → j < count_in s b →
+    name_in s b i ≢ name_in s b j
 names_differ b valid space.Nodes i j l h = valid.names.nodes i j l h
 names_differ b valid space.Links i j l h = valid.names.links i j l h
 names_differ b valid space.Reservoirs i j l h = reservoirs_differ b valid i j l h
 names_differ b valid space.Rights i j l h = valid.names.rights i j l h
 
 -- the first of some places that passes a test
-found-at : (p : ℕ → Bool) (at : ℕ) → p at ≡ true → (from n : ℕ) → from ≤ at → at < from + n → ((k : ℕ) → from ≤ k → k < at → p k ≡ false) →
+found-at : (p : ℕ → Bool) (at : ℕ) → p at ≡ true → (from n : ℕ) → from ≤ at → at < from + n →
+    ((k : ℕ) → from ≤ k → k < at → p k ≡ false) →
     find p (numbers_from from n) ≡ Some at
 unfolding numbers_from
 found-at p at here from zero low high before = absurd (omega arith)
 found-at p at here from (suc n) low high before = elim (cases_lt from at) [
   | inl below ↦ (let fails : p from ≡ false = before from (omega arith) below in
       rw fails (found-at p at here (suc from) n (omega arith) (omega arith) (λ k l m. before k (omega arith) m)))
-  | inr past ↦ (let is : from ≡ at = omega arith in let passes : p from ≡ true = rw is here in rw passes (ap (λ k. Some k) is))
+  | inr past ↦
+      (let is : from ≡ at = omega arith in let passes : p from ≡ true = rw is here in rw passes (ap (λ k. Some k) is))
 ]
 
 -- the name of an entry names it
-pub named-at : (b : Basin) → IsValidBasin b → (s : Space) (at : ℕ) → at < count_in s b → named b s (name_in s b at) ≡ Some at
+pub named-at : (b : Basin) → IsValidBasin b → (s : Space) (at : ℕ) → at < count_in s b →
+    named b s (name_in s b at) ≡ Some at
 named-at b valid s at l =
-    found-at (λ k. bytes_eq (name_in s b at) (name_in s b k)) at ((bytes_eq-Decides (name_in s b at) (name_in s b at)).1 refl) 0 (count_in s b) (omega arith) (omega arith)
+    found-at (λ k. bytes_eq (name_in s b at) (name_in s b k)) at
+    ((bytes_eq-Decides (name_in s b at) (name_in s b at)).1 refl) 0 (count_in s b) (omega arith) (omega arith)
     (λ k low below. apart (name_in s b at) (name_in s b k) (λ e. names_differ b valid s k at below l (sym e)))
   where
     apart : (xs ys : List ℕ) → xs ≢ ys → bytes_eq xs ys ≡ false
-    apart xs ys h = elim (cases_Bool (bytes_eq xs ys)) [ inl same ↦ absurd (h ((bytes_eq-Decides xs ys).0 same)) | inr other ↦ other ]
+    apart xs ys h =
+        elim (cases_Bool (bytes_eq xs ys)) [
+          | inl same ↦ absurd (h ((bytes_eq-Decides xs ys).0 same))
+          | inr other ↦
+              other
+        ]

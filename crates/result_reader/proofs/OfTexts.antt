@@ -1,5 +1,6 @@
 -- The lines of records are lines that a text may have.
-use Rattle.std.proofs.Common.{◌≡◌, ℕ, suc, ◌+◌, ◌<◌, ◌≤◌, ◌^◌, Bool, true, false, refl, sym, ap, subst, ◌∙◌, arith, inl, inr, List, [], ◌∷◌, ◌++◌, length, map, append_assoc, length-append}
+use Rattle.std.proofs.Common.{◌≡◌, ℕ, suc, ◌+◌, ◌<◌, ◌≤◌, ◌^◌, Bool, true, false, refl, sym, ap, subst, ◌∙◌, arith, inl}
+use Rattle.std.proofs.Common.{inr, List, [], ◌∷◌, ◌++◌, length, map, append_assoc, length-append}
 use Rattle.std.specs.Prelude.{Option, Some, None, slice_index, if◌then◌else◌}
 use Rattle.std.specs.List.{flat_map}
 use Rattle.water_model.proofs.Histories.{IsMonth-run_month}
@@ -10,7 +11,8 @@ use Rattle.water_model.specs.Entries.{count_in, in_order}
 use Rattle.water_model.specs.History.{cut_of}
 use Rattle.water_model.specs.Places.{members_from, seniors_first}
 use Rattle.water_model.specs.Quantities.{amounts_of, has_line, space_of}
-use Rattle.water_model.specs.Text.{calls, calling_right, call_items, called_items, section_space, lines_at, lines_in, month_lines, items_of_month, items_of}
+use Rattle.water_model.specs.Text.{calls, calling_right, call_items, called_items, section_space, lines_at, lines_in}
+use Rattle.water_model.specs.Text.{month_lines, items_of_month, items_of}
 use Rattle.water_model.specs.Valid.{IsValidBasin}
 use Rattle.water_model.specs.declared.item.Item.{Item}
 use Rattle.water_model.specs.declared.item.Item.TheVariants as line
@@ -54,9 +56,11 @@ members-below from (true ∷ set) k (inl is) = omega arith
 members-below from (true ∷ set) k (inr h) = omega (arith, members-below (suc from) set k h)
 members-below from (false ∷ set) k h = omega (arith, members-below (suc from) set k h)
 
-caller_below : (b : Basin) (m : MonthRecord) (r caller : ℕ) → calling_right b m r ≡ Some caller → caller < length b.rights
+caller_below : (b : Basin) (m : MonthRecord) (r caller : ℕ) → calling_right b m r ≡ Some caller →
+    caller < length b.rights
 unfolding calling_right
-caller_below b m r caller e = seniors_below b.rights caller (find-passes (λ c. calls b m r c) (seniors_first b) caller e).1
+caller_below b m r caller e =
+    seniors_below b.rights caller (find-passes (λ c. calls b m r c) (seniors_first b) caller e).1
 
 call_of_text : (b : Basin) (series : Inflows) (before : List MonthRecord) (m : MonthRecord) →
     IsTextMonth b series before m → (r : ℕ) → r < length b.rights → AreOfText b (call_items r (cut_of m r))
@@ -132,7 +136,8 @@ month_of_text b series before m valid t l = (
     month : IsMonth m.month
     month = subst IsMonth (sym t.month.month) (IsMonth-run_month b m.index valid.run (omega (arith, t.month.index)))
 
-months_of_text : (b : Basin) (series : Inflows) (records before ms : List MonthRecord) → IsValidBasin b → AreTextMonths b series records → records ≡ before ++ ms →
+months_of_text : (b : Basin) (series : Inflows) (records before ms : List MonthRecord) → IsValidBasin b →
+    AreTextMonths b series records → records ≡ before ++ ms →
     AreOfText b (flat_map (items_of_month b) ms)
 months_of_text b series records before [] valid are is = tt
 months_of_text b series records before (m ∷ ms) valid are is =
@@ -143,12 +148,14 @@ months_of_text b series records before (m ∷ ms) valid are is =
     few : length before < b.months
     few = omega (arith, are.within, ap length is, length-append before (m ∷ ms))
 
-pub records_of_text : (b : Basin) (series : Inflows) (records : List MonthRecord) → IsValidBasin b → AreTextMonths b series records → AreOfText b (items_of b records)
+pub records_of_text : (b : Basin) (series : Inflows) (records : List MonthRecord) → IsValidBasin b →
+    AreTextMonths b series records → AreOfText b (items_of b records)
 records_of_text b series records valid are = (
   record { of_basin = tt; numbers = tt },
   (
     record { of_basin = valid.run.first; numbers = (valid.run.months.0, valid.run.months.1) },
-    are_both b (flat_map (items_of_month b) records) (line.Done b.months ∷ []) (months_of_text b series records [] records valid are refl)
+    are_both b (flat_map (items_of_month b) records) (line.Done b.months ∷ [])
+        (months_of_text b series records [] records valid are refl)
         (record { of_basin = tt; numbers = (valid.run.months.0, valid.run.months.1) }, tt),
   ),
 )

@@ -21,7 +21,8 @@ one_item b valid i j o p e =
     let same : Ok i ≡ Ok j = sym (item-line b valid i o) ∙ (ap (item_of b) e ∙ item-line b valid j p) in cc
 
 -- lines that are the same are of the same items
-one_items : (b : Basin) → IsValidBasin b → (xs ys : List Item) → AreOfText b xs → AreOfText b ys → map (line_of b) xs ≡ map (line_of b) ys → xs ≡ ys
+one_items : (b : Basin) → IsValidBasin b → (xs ys : List Item) → AreOfText b xs → AreOfText b ys →
+    map (line_of b) xs ≡ map (line_of b) ys → xs ≡ ys
 one_items b valid [] [] g k e = refl
 one_items b valid [] (y ∷ ys) g k e = cc
 one_items b valid (x ∷ xs) [] g k e = cc
@@ -33,7 +34,8 @@ one_items b valid (x ∷ xs) (y ∷ ys) g k e =
     cc
 
 -- the bytes of a text, cut at the line feeds, are its lines
-pub lines_of_bytes : (b : Basin) → IsValidBasin b → (xs : List Item) → AreOfText b xs → cut_at 10 (flat_map (whole_line b) xs) ≡ map (line_of b) xs ++ [] ∷ []
+pub lines_of_bytes : (b : Basin) → IsValidBasin b → (xs : List Item) → AreOfText b xs →
+    cut_at 10 (flat_map (whole_line b) xs) ≡ map (line_of b) xs ++ [] ∷ []
 lines_of_bytes b valid [] g = refl
 lines_of_bytes b valid (x ∷ xs) g =
     ap (cut_at 10) (append_assoc (line_of b x) (10 ∷ []) (flat_map (whole_line b) xs))
@@ -60,4 +62,5 @@ texts_have_one_reading b series records others valid are be e =
     one_reading_of_items b series records others (are_all_told b series records are) (are_all_told b series others be)
     (one_items b valid (items_of b records) (items_of b others) first second
     (before_last (map (line_of b) (items_of b records)) (map (line_of b) (items_of b others)) []
-    (sym (lines_of_bytes b valid (items_of b records) first) ∙ (ap (cut_at 10) e ∙ lines_of_bytes b valid (items_of b others) second))))
+    (sym (lines_of_bytes b valid (items_of b records) first)
+    ∙ (ap (cut_at 10) e ∙ lines_of_bytes b valid (items_of b others) second))))

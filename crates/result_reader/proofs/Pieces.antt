@@ -1,5 +1,6 @@
 -- What stands between the spaces of a line.
-use Rattle.std.proofs.Common.{◌≡◌, ℕ, ◌+◌, ◌-◌, ◌<◌, ◌≤◌, Bool, true, false, refl, sym, ap, ◌∙◌, arith, List, [], ◌∷◌, length, take, drop, Some, None, cond}
+use Rattle.std.proofs.Common.{◌≡◌, ℕ, ◌+◌, ◌-◌, ◌<◌, ◌≤◌, Bool, true, false, refl, sym, ap, ◌∙◌, arith, List, [], ◌∷◌}
+use Rattle.std.proofs.Common.{length, take, drop, Some, None, cond}
 use Rattle.std.specs.Prelude.{Err, ◌==◌, nat_lt}
 use Rattle.std.specs.List.{slice_split, onto_first, position, position_or_len}
 use Rattle.std.proofs.lemmas.Bool.Decides.{nat_tests}
@@ -13,7 +14,8 @@ pub some_piece : (bytes : List ℕ) → no_field (pieces_of bytes) ≡ Err bad.B
 some_piece [] = refl
 some_piece (c ∷ cs) = by_test (c == 32) (pieces_of cs)
   where
-    by_test : (t : Bool) (parts : List (List ℕ)) → no_field (cond t ([] ∷ parts) (onto_first c parts)) ≡ Err bad.BadField
+    by_test : (t : Bool) (parts : List (List ℕ)) →
+        no_field (cond t ([] ∷ parts) (onto_first c parts)) ≡ Err bad.BadField
     by_test true parts = refl
     by_test false [] = refl
     by_test false (part ∷ parts) = refl
@@ -23,7 +25,8 @@ uncut : {X : Type 0} (p : X → Bool) (xs : List X) → length xs ≤ position_o
 uncut p [] h = refl
 uncut p (x ∷ xs) h = by_test (p x) refl (uncut p xs)
   where
-    by_test : (t : Bool) → p x ≡ t → (length xs ≤ position_or_len p xs → slice_split p xs ≡ xs ∷ []) → slice_split p (x ∷ xs) ≡ (x ∷ xs) ∷ []
+    by_test : (t : Bool) → p x ≡ t → (length xs ≤ position_or_len p xs → slice_split p xs ≡ xs ∷ []) →
+        slice_split p (x ∷ xs) ≡ (x ∷ xs) ∷ []
     by_test true e further = let here : position_or_len p (x ∷ xs) ≡ 0 = rw e refl in absurd (omega arith)
     by_test false e further =
         let here : position_or_len p (x ∷ xs) ≡ 1 + position_or_len p xs = rw e refl in

@@ -1,5 +1,6 @@
 -- The steps of a reader's place.
-use Rattle.std.proofs.Common.{◌≡◌, ℕ, zero, suc, ◌+◌, ◌-◌, ◌<◌, ◌≤◌, Bool, true, false, refl, sym, ap, subst, ◌∙◌, arith, [], ◌∷◌, ◌++◌, add-one, append_assoc}
+use Rattle.std.proofs.Common.{◌≡◌, ℕ, zero, suc, ◌+◌, ◌-◌, ◌<◌, ◌≤◌, Bool, true, false, refl, sym, ap, subst, ◌∙◌}
+use Rattle.std.proofs.Common.{arith, [], ◌∷◌, ◌++◌, add-one, append_assoc}
 use Rattle.std.specs.Prelude.{Some, None, IsTrue, ◌↔◌}
 use Rattle.std.specs.List.{flat_map}
 use Rattle.water_model.specs.Hydrology.{run_month}
@@ -21,7 +22,8 @@ same_result r a b h = by_both r refl (is_same_shape a b) refl
     by_both false e false f = e ∙ sym f
     by_both true e false f =
         let same : a ≡ b = h.0 e in
-        let itself : is_same_shape a b ≡ true = subst (λ (x : Shape). is_same_shape a x ≡ true) same (same_shape_itself a) in cc
+        let itself : is_same_shape a b ≡ true =
+        subst (λ (x : Shape). is_same_shape a x ≡ true) same (same_shape_itself a) in cc
     by_both false e true f = let yes : r ≡ true = h.1 (same_shape_is a b f) in cc
 
 -- the first of what is due behind some months
@@ -32,30 +34,43 @@ month_is_due b begun l = by_count (b.months - begun) (omega arith)
   where
     by_count : (n : ℕ) → b.months - begun ≡ n →
         flat_map (due_for_month b) (numbers_from begun (b.months - begun)) ++ shape.Done b.months ∷ []
-        ≡ shape.Month (run_month b begun) ∷ (due_in_month b ++ (flat_map (due_for_month b) (numbers_from (begun + 1) (b.months - (begun + 1))) ++ shape.Done b.months ∷ []))
+        ≡ shape.Month
+        (run_month b begun) ∷
+        (due_in_month
+        b ++ (flat_map (due_for_month b) (numbers_from (begun + 1) (b.months - (begun + 1))) ++ shape.Done
+        b.months ∷ []))
     by_count zero e = absurd (omega arith)
     by_count (suc n) e =
         let rest : b.months - (begun + 1) ≡ n = omega arith in
-        rw (e, rest, add-one begun) (ap (λ xs. shape.Month (run_month b begun) ∷ xs) (append_assoc (due_in_month b) (flat_map (due_for_month b) (numbers_from (suc begun) n)) (shape.Done b.months ∷ [])))
+        rw (e, rest, add-one begun)
+        (ap (λ xs. shape.Month (run_month b begun) ∷ xs)
+        (append_assoc (due_in_month b) (flat_map (due_for_month b) (numbers_from (suc begun) n))
+        (shape.Done b.months ∷ [])))
 
 pub done_is_due : (b : Basin) (begun : ℕ) → b.months ≤ begun → months_due b begun ≡ shape.Done b.months ∷ []
 unfolding numbers_from
 done_is_due b begun l = let none : b.months - begun ≡ 0 = omega arith in rw none refl
 
-pub month_taken : (b : Basin) (begun : ℕ) (i : Item) → begun < b.months → fits b (shape.Month (run_month b begun)) i ≡ true →
+pub month_taken : (b : Basin) (begun : ℕ) (i : Item) → begun < b.months →
+    fits b (shape.Month (run_month b begun)) i ≡ true →
     take_line b (months_due b begun) i ≡ Some (opened b i ++ (due_in_month b ++ months_due b (begun + 1)))
 month_taken b begun i l f =
-    ap (λ xs. take_line b xs i) (month_is_due b begun l) ∙ take_fits b (shape.Month (run_month b begun)) (due_in_month b ++ months_due b (begun + 1)) i f
+    ap (λ xs. take_line b xs i) (month_is_due b begun l)
+    ∙ take_fits b (shape.Month (run_month b begun)) (due_in_month b ++ months_due b (begun + 1)) i f
 
-pub month_refused : (b : Basin) (begun : ℕ) (i : Item) → begun < b.months → fits b (shape.Month (run_month b begun)) i ≡ false →
+pub month_refused : (b : Basin) (begun : ℕ) (i : Item) → begun < b.months →
+    fits b (shape.Month (run_month b begun)) i ≡ false →
     take_line b (months_due b begun) i ≡ None
 month_refused b begun i l f =
-    ap (λ xs. take_line b xs i) (month_is_due b begun l) ∙ take_stops b (shape.Month (run_month b begun)) (due_in_month b ++ months_due b (begun + 1)) i f refl
+    ap (λ xs. take_line b xs i) (month_is_due b begun l)
+    ∙ take_stops b (shape.Month (run_month b begun)) (due_in_month b ++ months_due b (begun + 1)) i f refl
 
 pub done_taken : (b : Basin) (begun : ℕ) (i : Item) → b.months ≤ begun → fits b (shape.Done b.months) i ≡ true →
     take_line b (months_due b begun) i ≡ Some (opened b i ++ [])
-done_taken b begun i l f = ap (λ xs. take_line b xs i) (done_is_due b begun l) ∙ take_fits b (shape.Done b.months) [] i f
+done_taken b begun i l f =
+    ap (λ xs. take_line b xs i) (done_is_due b begun l) ∙ take_fits b (shape.Done b.months) [] i f
 
 pub done_refused : (b : Basin) (begun : ℕ) (i : Item) → b.months ≤ begun → fits b (shape.Done b.months) i ≡ false →
     take_line b (months_due b begun) i ≡ None
-done_refused b begun i l f = ap (λ xs. take_line b xs i) (done_is_due b begun l) ∙ take_stops b (shape.Done b.months) [] i f refl
+done_refused b begun i l f =
+    ap (λ xs. take_line b xs i) (done_is_due b begun l) ∙ take_stops b (shape.Done b.months) [] i f refl

@@ -1,5 +1,6 @@
 -- What is read is what the line says.
-use Rattle.std.proofs.Common.{◌≡◌, subst, ℕ, ◌^◌, ◌<◌, ◌≤◌, Bool, true, false, refl, sym, ap, ◌∙◌, arith, List, [], ◌∷◌, length, Option, Some, None}
+use Rattle.std.proofs.Common.{◌≡◌, subst, ℕ, ◌^◌, ◌<◌, ◌≤◌, Bool, true, false, refl, sym, ap, ◌∙◌, arith, List, [], ◌∷◌}
+use Rattle.std.proofs.Common.{length, Option, Some, None}
 use Rattle.std.specs.Prelude.{Result, Ok, Err, nat_le, nat_lt, codes, if◌then◌else◌}
 use Rattle.std.specs.Fmt.{decimal}
 use Rattle.std.specs.List.{join_with_byte}
@@ -26,7 +27,9 @@ use Rattle.water_model.specs.declared.space.Space.TheVariants as space
 use Rattle.water_model.specs.declared.types.Basin.{Basin}
 use Rattle.result_reader.specs.Names.{named}
 use Rattle.result_reader.specs.OfText.{IsOfText}
-use Rattle.result_reader.specs.Reading.{pieces_of, and_then, no_field, one_field, two_fields, three_fields, name_field, month_field, amount_field, count_field, entry_named, item_with, item_in, item_of}
+use Rattle.result_reader.specs.Reading.{pieces_of, and_then, no_field, one_field, two_fields, three_fields, name_field}
+use Rattle.result_reader.specs.Reading.{month_field, amount_field, count_field, entry_named, item_with, item_in}
+use Rattle.result_reader.specs.Reading.{item_of}
 use Rattle.result_reader.specs.Words.{spelling_of, word_of}
 use Rattle.result_reader.specs.declared.bad_line.BadLine.{BadLine}
 use Rattle.result_reader.specs.declared.bad_line.BadLine.TheVariants as bad
@@ -35,7 +38,8 @@ use Rattle.result_reader.specs.declared.words.Word.TheVariants as word
 use Rattle.result_reader.proofs.WordLaws.{word_spelled}
 
 -- a good answer comes from good answers
-pub through : {X Y : Type 0} (r : Result X BadLine) (f : X → Result Y BadLine) (y : Y) → and_then r f ≡ Ok y → (x : X) × (r ≡ Ok x) × (f x ≡ Ok y)
+pub through : {X Y : Type 0} (r : Result X BadLine) (f : X → Result Y BadLine) (y : Y) → and_then r f ≡ Ok y → (x : X) ×
+    (r ≡ Ok x) × (f x ≡ Ok y)
 through (Ok x) f y h = (x, refl, h)
 through (Err why) f y h = let never : Err why ≡ Ok y = h in cc
 
@@ -65,7 +69,8 @@ two_fields-Ok (x ∷ fields) f h =
     let is : (x, t.0) ≡ f = cc in
     ap (λ xs. x ∷ xs) (one_field-Ok fields t.0 t.1) ∙ ap (λ (g : List ℕ × List ℕ). g.0 ∷ g.1 ∷ []) is
 
-three_fields-Ok : (fields : List (List ℕ)) (f : List ℕ × List ℕ × List ℕ) → three_fields fields ≡ Ok f → fields ≡ f.0 ∷ f.1 ∷ f.2 ∷ []
+three_fields-Ok : (fields : List (List ℕ)) (f : List ℕ × List ℕ × List ℕ) → three_fields fields ≡ Ok f →
+    fields ≡ f.0 ∷ f.1 ∷ f.2 ∷ []
 three_fields-Ok [] f h = cc
 three_fields-Ok (x ∷ fields) f h =
     let t = through (two_fields fields) (λ g. Ok (x, g.0, g.1)) f h in
@@ -88,7 +93,8 @@ amount_field-Ok field n h =
 
 count_field-Ok : (field : List ℕ) (n : ℕ) → count_field field ≡ Ok n → (field ≡ decimal n) × (1 ≤ n) × (n ≤ 1200)
 count_field-Ok field n h =
-    let t = through (ok_or (read_plain field 1200) bad.BadField) (λ count. if nat_le 1 count then Ok count else Err bad.BadField) n h in
+    let t = through (ok_or (read_plain field 1200) bad.BadField)
+    (λ count. if nat_le 1 count then Ok count else Err bad.BadField) n h in
     let r = plain_is_read field 1200 t.0 (ok_or-Ok (read_plain field 1200) bad.BadField t.0 t.1) in
     let s = by_test t.0 (nat_le 1 t.0) refl t.2 in
     (r.spelled ∙ ap decimal s.0, s.1, omega (arith, r.within, s.0))
@@ -109,8 +115,11 @@ month_field-Ok field m h =
 entry_named-Ok : (b : Basin) (space : Space) (name : List ℕ) (at : ℕ) → entry_named b space name ≡ Ok at →
     (name ≡ name_in space b at) × (at < count_in space b)
 entry_named-Ok b space name at h =
-    let f = find-passes (λ at. bytes_eq name (name_in space b at)) (numbers_from 0 (count_in space b)) at (ok_or-Ok (named b space name) bad.OutOfPlace at h) in
-    ((bytes_eq-Decides name (name_in space b at)).0 f.0, omega (arith, (numbers_from-below 0 (count_in space b) at f.1).1))
+    let f = find-passes (λ at. bytes_eq name (name_in space b at)) (numbers_from 0 (count_in space b)) at
+    (ok_or-Ok (named b space name) bad.OutOfPlace at h) in (
+      (bytes_eq-Decides name (name_in space b at)).0 f.0,
+      omega (arith, (numbers_from-below 0 (count_in space b) at f.1).1),
+    )
 
 -- Word by word.
 
@@ -120,7 +129,8 @@ record Says (b : Basin) (w : Word) (fields : List (List ℕ)) (i : Item) : Type 
   of_text : IsOfText b i
 
 -- the same for an item that is known
-says : (b : Basin) (w : Word) (fields xs : List (List ℕ)) (i j : Item) → fields ≡ xs → spelling_of w ∷ xs ≡ fields_of b i → IsOfText b i → i ≡ j → Says b w fields j
+says : (b : Basin) (w : Word) (fields xs : List (List ℕ)) (i j : Item) → fields ≡ xs →
+    spelling_of w ∷ xs ≡ fields_of b i → IsOfText b i → i ≡ j → Says b w fields j
 says b w fields xs i j are spelled of_text same = subst (λ (k : Item). Says b w fields k) same (record {
   spelled = ap (λ ys. spelling_of w ∷ ys) are ∙ spelled;
   of_text = of_text;
@@ -135,15 +145,19 @@ three x x' y y' z z' e f g = rw (e, f, g) refl
 Ok-same : {X : Type 0} (x y : X) → (let r : Result X BadLine = Ok x in r) ≡ Ok y → x ≡ y
 Ok-same x y h = cc
 
-item_with-Ok : (b : Basin) (w : Word) (fields : List (List ℕ)) (i : Item) → item_with b w fields ≡ Ok i → Says b w fields i
+item_with-Ok : (b : Basin) (w : Word) (fields : List (List ℕ)) (i : Item) → item_with b w fields ≡ Ok i →
+    Says b w fields i
 unfolding item_with fields_of
 item_with-Ok b word.Title fields i h =
     let x = through (one_field fields) _ i h in
     by_test x.0 (bytes_eq x.0 (codes "1")) refl (one_field-Ok fields x.0 x.1) x.2
   where
-    by_test : (x : List ℕ) (t : Bool) → bytes_eq x (codes "1") ≡ t → fields ≡ x ∷ [] → (if t then Ok line.Title else Err bad.BadField) ≡ Ok i → Says b word.Title fields i
+    by_test : (x : List ℕ) (t : Bool) → bytes_eq x (codes "1") ≡ t → fields ≡ x ∷ [] →
+        (if t then Ok line.Title else Err bad.BadField) ≡ Ok i → Says b word.Title fields i
     by_test x true e are g =
-        says b word.Title fields (codes "1" ∷ []) line.Title i (are ∙ ap (λ y. y ∷ []) ((bytes_eq-Decides x (codes "1")).0 e)) refl (record { of_basin = tt; numbers = tt }) (Ok-same line.Title i g)
+        says b word.Title fields (codes "1" ∷ []) line.Title i
+        (are ∙ ap (λ y. y ∷ []) ((bytes_eq-Decides x (codes "1")).0 e)) refl
+        (record { of_basin = tt; numbers = tt }) (Ok-same line.Title i g)
     by_test x false e are g = cc
 item_with-Ok b word.Run fields i h =
     let f = through (two_fields fields) _ i h in
@@ -151,13 +165,15 @@ item_with-Ok b word.Run fields i h =
     let n = through (count_field f.0.1) _ i m.2 in
     let month = month_field-Ok f.0.0 m.0 m.1 in
     let count = count_field-Ok f.0.1 n.0 n.1 in
-    says b word.Run fields (month_digits m.0 ∷ decimal n.0 ∷ []) (line.Run m.0 n.0) i (two_fields-Ok fields f.0 f.1 ∙ two _ _ _ _ month.0 count.0) refl
+    says b word.Run fields (month_digits m.0 ∷ decimal n.0 ∷ []) (line.Run m.0 n.0) i
+    (two_fields-Ok fields f.0 f.1 ∙ two _ _ _ _ month.0 count.0) refl
     (record { of_basin = month.1; numbers = (count.1, count.2) }) (Ok-same _ i n.2)
 item_with-Ok b word.Month fields i h =
     let x = through (one_field fields) _ i h in
     let m = through (month_field x.0) _ i x.2 in
     let month = month_field-Ok x.0 m.0 m.1 in
-    says b word.Month fields (month_digits m.0 ∷ []) (line.Month m.0) i (one_field-Ok fields x.0 x.1 ∙ ap (λ y. y ∷ []) month.0) refl
+    says b word.Month fields (month_digits m.0 ∷ []) (line.Month m.0) i
+    (one_field-Ok fields x.0 x.1 ∙ ap (λ y. y ∷ []) month.0) refl
     (record { of_basin = month.1; numbers = tt }) (Ok-same _ i m.2)
 item_with-Ok b (word.Amount q) fields i h =
     let f = through (two_fields fields) _ i h in
@@ -178,22 +194,26 @@ item_with-Ok b word.Deliver fields i h =
     let number = amount_field-Ok f.0.1 n.0 n.1 in
     let want = amount_field-Ok f.0.2 w.0 w.1 in
     let entry = entry_named-Ok b space.Rights name.0 at.0 at.1 in
-    says b word.Deliver fields (name_in space.Rights b at.0 ∷ decimal n.0 ∷ decimal w.0 ∷ []) (line.Deliver at.0 n.0 w.0) i
-    (three_fields-Ok fields f.0 f.1 ∙ three _ _ _ _ _ _ (name_field-Ok f.0.0 name.0 name.1 ∙ entry.0) number.0 want.0) refl
+    says b word.Deliver fields (name_in space.Rights b at.0 ∷ decimal n.0 ∷ decimal w.0 ∷ [])
+    (line.Deliver at.0 n.0 w.0) i
+    (three_fields-Ok fields f.0 f.1 ∙ three _ _ _ _ _ _ (name_field-Ok f.0.0 name.0 name.1 ∙ entry.0) number.0 want.0)
+    refl
     (record { of_basin = entry.1; numbers = (number.1, want.1) }) (Ok-same _ i at.2)
 item_with-Ok b word.Call fields i h =
     let x = through (one_field fields) _ i h in
     let name = through (name_field x.0) _ i x.2 in
     let at = through (entry_named b space.Rights name.0) _ i name.2 in
     let entry = entry_named-Ok b space.Rights name.0 at.0 at.1 in
-    says b word.Call fields (name_in space.Rights b at.0 ∷ []) (line.Call at.0) i (one_field-Ok fields x.0 x.1 ∙ ap (λ y. y ∷ []) (name_field-Ok x.0 name.0 name.1 ∙ entry.0)) refl
+    says b word.Call fields (name_in space.Rights b at.0 ∷ []) (line.Call at.0) i
+    (one_field-Ok fields x.0 x.1 ∙ ap (λ y. y ∷ []) (name_field-Ok x.0 name.0 name.1 ∙ entry.0)) refl
     (record { of_basin = entry.1; numbers = tt }) (Ok-same _ i at.2)
 item_with-Ok b word.Member fields i h =
     let x = through (one_field fields) _ i h in
     let name = through (name_field x.0) _ i x.2 in
     let at = through (entry_named b space.Nodes name.0) _ i name.2 in
     let entry = entry_named-Ok b space.Nodes name.0 at.0 at.1 in
-    says b word.Member fields (name_in space.Nodes b at.0 ∷ []) (line.Member at.0) i (one_field-Ok fields x.0 x.1 ∙ ap (λ y. y ∷ []) (name_field-Ok x.0 name.0 name.1 ∙ entry.0)) refl
+    says b word.Member fields (name_in space.Nodes b at.0 ∷ []) (line.Member at.0) i
+    (one_field-Ok fields x.0 x.1 ∙ ap (λ y. y ∷ []) (name_field-Ok x.0 name.0 name.1 ∙ entry.0)) refl
     (record { of_basin = entry.1; numbers = tt }) (Ok-same _ i at.2)
 item_with-Ok b word.Called fields i h =
     let f = through (two_fields fields) _ i h in
@@ -203,17 +223,22 @@ item_with-Ok b word.Called fields i h =
     let by' = through (entry_named b space.Rights other.0) _ i at.2 in
     let entry = entry_named-Ok b space.Rights name.0 at.0 at.1 in
     let caller = entry_named-Ok b space.Rights other.0 by'.0 by'.1 in
-    says b word.Called fields (name_in space.Rights b at.0 ∷ name_in space.Rights b by'.0 ∷ []) (line.Called at.0 by'.0) i
-    (two_fields-Ok fields f.0 f.1 ∙ two _ _ _ _ (name_field-Ok f.0.0 name.0 name.1 ∙ entry.0) (name_field-Ok f.0.1 other.0 other.1 ∙ caller.0)) refl
+    says b word.Called fields (name_in space.Rights b at.0 ∷ name_in space.Rights b by'.0 ∷ []) (line.Called at.0 by'.0)
+    i
+    (two_fields-Ok fields f.0 f.1
+    ∙ two _ _ _ _ (name_field-Ok f.0.0 name.0 name.1 ∙ entry.0) (name_field-Ok f.0.1 other.0 other.1 ∙ caller.0))
+    refl
     (record { of_basin = (entry.1, caller.1); numbers = tt }) (Ok-same _ i by'.2)
 item_with-Ok b word.End fields i h =
     let x = through (no_field fields) _ i h in
-    says b word.End fields [] line.End i (no_field-Ok fields x.0 x.1) refl (record { of_basin = tt; numbers = tt }) (Ok-same _ i x.2)
+    says b word.End fields [] line.End i (no_field-Ok fields x.0 x.1) refl (record { of_basin = tt; numbers = tt })
+    (Ok-same _ i x.2)
 item_with-Ok b word.Done fields i h =
     let x = through (one_field fields) _ i h in
     let n = through (count_field x.0) _ i x.2 in
     let count = count_field-Ok x.0 n.0 n.1 in
-    says b word.Done fields (decimal n.0 ∷ []) (line.Done n.0) i (one_field-Ok fields x.0 x.1 ∙ ap (λ y. y ∷ []) count.0) refl
+    says b word.Done fields (decimal n.0 ∷ []) (line.Done n.0) i
+    (one_field-Ok fields x.0 x.1 ∙ ap (λ y. y ∷ []) count.0) refl
     (record { of_basin = tt; numbers = (count.1, count.2) }) (Ok-same _ i n.2)
 
 -- The bytes.
@@ -231,14 +256,19 @@ item_is_said b bytes i h = by_length (nat_lt 128 (length bytes)) refl h
     short : (n : ℕ) → nat_lt 128 n ≡ false → n ≤ 128
     short n e = grind (arith, nat_tests)
 
-    by_pieces : (pieces : List (List ℕ)) → pieces_of bytes ≡ pieces → item_in b pieces ≡ Ok i → (pieces ≡ fields_of b i) × IsOfText b i
+    by_pieces : (pieces : List (List ℕ)) → pieces_of bytes ≡ pieces → item_in b pieces ≡ Ok i →
+        (pieces ≡ fields_of b i) × IsOfText b i
     by_pieces [] are g = cc
     by_pieces (first ∷ fields) are g =
         let w = through (ok_or (word_of first) bad.UnknownWord) (λ w. item_with b w fields) i g in
-        let s = item_with-Ok b w.0 fields i w.2 in
-        (ap (λ x. x ∷ fields) (word_spelled first w.0 (ok_or-Ok (word_of first) bad.UnknownWord w.0 w.1)) ∙ s.spelled, s.of_text)
+        let s = item_with-Ok b w.0 fields i w.2 in (
+          ap (λ x. x ∷ fields) (word_spelled first w.0 (ok_or-Ok (word_of first) bad.UnknownWord w.0 w.1))
+              ∙ s.spelled,
+          s.of_text,
+        )
 
-    by_length : (t : Bool) → nat_lt 128 (length bytes) ≡ t → (if t then Err bad.OverLong else item_in b (pieces_of bytes)) ≡ Ok i → IsSaying b bytes i
+    by_length : (t : Bool) → nat_lt 128 (length bytes) ≡ t →
+        (if t then Err bad.OverLong else item_in b (pieces_of bytes)) ≡ Ok i → IsSaying b bytes i
     by_length true e g = cc
     by_length false e g =
         let p = by_pieces (pieces_of bytes) refl g in

@@ -1,5 +1,6 @@
 -- A small basin that is valid: a spring above an outlet, and a river between them.
-use Rattle.std.proofs.Common.{◌≡◌, ◌≢◌, ℕ, zero, suc, ◌<◌, ◌≤◌, ◌^◌, true, false, refl, ap, arith, List, [], ◌∷◌, get_or, replicate}
+use Rattle.std.proofs.Common.{◌≡◌, ◌≢◌, ℕ, zero, suc, ◌<◌, ◌≤◌, ◌^◌, true, false, refl, ap, arith, List, [], ◌∷◌}
+use Rattle.std.proofs.Common.{get_or, replicate}
 use Rattle.std.specs.Prelude.{All, codes}
 use Rattle.std.specs.Str.{bytes_eq}
 use Rattle.std.proofs.lemmas.List.{get_or-replicate, length-replicate}
@@ -44,7 +45,8 @@ small = basin_of (spring (codes "top") ∷ outlet (codes "sea") ∷ []) (river (
 monthly : (n : ℕ) → n ≤ 10 ^ 9 → IsMonthly (10 ^ 9) (replicate 12 n)
 monthly n h = record {
   twelve = length-replicate 12 n;
-  each = λ k d l. (let is : get_or (replicate 12 n) k d ≡ n = get_or-replicate 12 k n d (omega (arith, length-replicate 12 n)) in omega arith);
+  each = λ k d l. (let is : get_or (replicate 12 n) k d ≡ n =
+      get_or-replicate 12 k n d (omega (arith, length-replicate 12 n)) in omega arith);
 }
 
 small_nodes : All IsValidNode small.nodes
@@ -100,7 +102,14 @@ small_is_valid = record {
     months = (omega arith, omega arith);
     ends = omega arith;
   };
-  few = record { some_node = omega arith; nodes = omega arith; links = omega arith; rights = omega arith; rows = λ r l. absurd (omega arith) };
+  few = record {
+    some_node = omega arith;
+    nodes = omega arith;
+    links = omega arith;
+    rights = omega arith;
+    rows =
+        λ r l. absurd (omega arith);
+  };
   nodes = small_nodes;
   links = small_links;
   reservoirs = λ k d l. absurd (omega arith);
@@ -122,7 +131,8 @@ small_is_valid = record {
   };
 }
 
-pub small_valid : (top sea a : List ℕ) (nodes : List Node) (links : List Link) (reservoirs : List Reservoir) (rights : List Right) (returns : List ReturnRow) →
+pub small_valid : (top sea a : List ℕ) (nodes : List Node) (links : List Link) (reservoirs : List Reservoir)
+    (rights : List Right) (returns : List ReturnRow) →
     top ≡ codes "top" → sea ≡ codes "sea" → a ≡ codes "a" →
     nodes ≡ spring top ∷ outlet sea ∷ [] → links ≡ river a ∷ [] → reservoirs ≡ [] → rights ≡ [] → returns ≡ [] →
     IsValidBasin (basin_of nodes links reservoirs rights returns)

@@ -1,5 +1,6 @@
 -- What is spelled is read.
-use Rattle.std.proofs.Common.{◌≡◌, ℕ, ◌+◌, ◌/◌, ◌%◌, ◌^◌, ◌<◌, ◌≤◌, Bool, true, false, refl, sym, ap, ◌∙◌, arith, List, [], ◌∷◌, ◌++◌, length, length-append, cond}
+use Rattle.std.proofs.Common.{◌≡◌, ℕ, ◌+◌, ◌/◌, ◌%◌, ◌^◌, ◌<◌, ◌≤◌, Bool, true, false, refl, sym, ap, ◌∙◌, arith, List}
+use Rattle.std.proofs.Common.{[], ◌∷◌, ◌++◌, length, length-append, cond}
 use Rattle.std.specs.Prelude.{Some, Ok, not, ◌&&◌, ◌==◌, nat_le, nat_lt, codes}
 use Rattle.std.specs.Fmt.{decimal}
 use Rattle.std.specs.List.{list_all, join_with_byte, slice_split, onto_first}
@@ -45,26 +46,31 @@ cut-one : (byte : ℕ) (x : List ℕ) → lacks byte x ≡ true → cut_at byte 
 cut-one byte [] h = refl
 cut-one byte (c ∷ cs) h = by_test (c == byte) refl (both (not (c == byte)) (lacks byte cs) h) (cut-one byte cs)
   where
-    by_test : (t : Bool) → (c == byte) ≡ t → (not (c == byte) ≡ true) × (lacks byte cs ≡ true) → (lacks byte cs ≡ true → cut_at byte cs ≡ cs ∷ []) →
+    by_test : (t : Bool) → (c == byte) ≡ t → (not (c == byte) ≡ true) × (lacks byte cs ≡ true) →
+        (lacks byte cs ≡ true → cut_at byte cs ≡ cs ∷ []) →
         cond (c == byte) ([] ∷ cut_at byte cs) (onto_first c (cut_at byte cs)) ≡ (c ∷ cs) ∷ []
     by_test true e h further = let never : false ≡ true = sym (ap not e) ∙ h.0 in cc
     by_test false e h further = rw e (ap (onto_first c) (further h.1))
 
-pub cut-first : (byte : ℕ) (x rest : List ℕ) → lacks byte x ≡ true → cut_at byte (x ++ (byte ∷ rest)) ≡ x ∷ cut_at byte rest
+pub cut-first : (byte : ℕ) (x rest : List ℕ) → lacks byte x ≡ true →
+    cut_at byte (x ++ (byte ∷ rest)) ≡ x ∷ cut_at byte rest
 cut-first byte [] rest h = let here : (byte == byte) ≡ true = same byte in rw here refl
   where
     same : (n : ℕ) → (n == n) ≡ true
     same n = grind (arith, nat_tests)
-cut-first byte (c ∷ cs) rest h = by_test (c == byte) refl (both (not (c == byte)) (lacks byte cs) h) (cut-first byte cs rest)
+cut-first byte (c ∷ cs) rest h =
+    by_test (c == byte) refl (both (not (c == byte)) (lacks byte cs) h) (cut-first byte cs rest)
   where
     by_test : (t : Bool) → (c == byte) ≡ t → (not (c == byte) ≡ true) × (lacks byte cs ≡ true) →
         (lacks byte cs ≡ true → cut_at byte (cs ++ (byte ∷ rest)) ≡ cs ∷ cut_at byte rest) →
-        cond (c == byte) ([] ∷ cut_at byte (cs ++ (byte ∷ rest))) (onto_first c (cut_at byte (cs ++ (byte ∷ rest)))) ≡ (c ∷ cs) ∷ cut_at byte rest
+        cond (c == byte) ([] ∷ cut_at byte (cs ++ (byte ∷ rest)))
+        (onto_first c (cut_at byte (cs ++ (byte ∷ rest)))) ≡ (c ∷ cs) ∷ cut_at byte rest
     by_test true e h further = let never : false ≡ true = sym (ap not e) ∙ h.0 in cc
     by_test false e h further = rw e (ap (onto_first c) (further h.1))
 
 -- the pieces of joined fields are the fields
-pieces-join : (x : List ℕ) (xs : List (List ℕ)) → list_all (lacks 32) (x ∷ xs) ≡ true → pieces_of (join_with_byte 32 (x ∷ xs)) ≡ x ∷ xs
+pieces-join : (x : List ℕ) (xs : List (List ℕ)) → list_all (lacks 32) (x ∷ xs) ≡ true →
+    pieces_of (join_with_byte 32 (x ∷ xs)) ≡ x ∷ xs
 pieces-join x [] h = cut-one 32 x (both (lacks 32 x) true h).0
 pieces-join x (y ∷ ys) h =
     let two = both (lacks 32 x) (list_all (lacks 32) (y ∷ ys)) h in
@@ -84,7 +90,8 @@ plain-lacks byte low (c ∷ cs) h =
     apart : (c : ℕ) → nat_le 45 c ≡ true → not (c == byte) ≡ true
     apart c e = grind (arith, nat_tests)
 
-plain-all : (byte : ℕ) → byte < 45 → (xs : List (List ℕ)) → list_all is_plain xs ≡ true → list_all (lacks byte) xs ≡ true
+plain-all : (byte : ℕ) → byte < 45 → (xs : List (List ℕ)) → list_all is_plain xs ≡ true →
+    list_all (lacks byte) xs ≡ true
 plain-all byte low [] h = refl
 plain-all byte low (x ∷ xs) h =
     let two = both (is_plain x) (list_all is_plain xs) h in
@@ -161,7 +168,8 @@ word_read quantity.Closing = refl
 fields_plain : (b : Basin) → IsValidBasin b → (i : Item) → IsOfText b i → list_all is_plain (fields_of b i) ≡ true
 unfolding fields_of
 fields_plain b valid line.Title o = refl
-fields_plain b valid (line.Run first months) o = rw (month_plain first o.of_basin, decimal_plain months (omega (arith, o.numbers))) refl
+fields_plain b valid (line.Run first months) o =
+    rw (month_plain first o.of_basin, decimal_plain months (omega (arith, o.numbers))) refl
 fields_plain b valid (line.Month month) o = rw (month_plain month o.of_basin) refl
 fields_plain b valid (line.Amount q entry amount) o =
     rw (
@@ -171,10 +179,15 @@ fields_plain b valid (line.Amount q entry amount) o =
     )
     refl
 fields_plain b valid (line.Deliver right amount want) o =
-    rw (entry_plain b valid space.Rights right o.of_basin, decimal_plain amount (omega (arith, o.numbers.0)), decimal_plain want (omega (arith, o.numbers.1))) refl
+    rw (
+      entry_plain b valid space.Rights right o.of_basin,
+      decimal_plain amount (omega (arith, o.numbers.0)),
+      decimal_plain want (omega (arith, o.numbers.1)),
+    ) refl
 fields_plain b valid (line.Call right) o = rw (entry_plain b valid space.Rights right o.of_basin) refl
 fields_plain b valid (line.Member node) o = rw (entry_plain b valid space.Nodes node o.of_basin) refl
-fields_plain b valid (line.Called right by') o = rw (entry_plain b valid space.Rights right o.of_basin.0, entry_plain b valid space.Rights by' o.of_basin.1) refl
+fields_plain b valid (line.Called right by') o =
+    rw (entry_plain b valid space.Rights right o.of_basin.0, entry_plain b valid space.Rights by' o.of_basin.1) refl
 fields_plain b valid line.End o = refl
 fields_plain b valid (line.Done months) o = rw (decimal_plain months (omega (arith, o.numbers))) refl
 
@@ -191,11 +204,13 @@ some_fields b (line.Called right by') = omega arith
 some_fields b line.End = omega arith
 some_fields b (line.Done months) = omega arith
 
-line_pieces : (b : Basin) (i : Item) → list_all (lacks 32) (fields_of b i) ≡ true → pieces_of (line_of b i) ≡ fields_of b i
+line_pieces : (b : Basin) (i : Item) → list_all (lacks 32) (fields_of b i) ≡ true →
+    pieces_of (line_of b i) ≡ fields_of b i
 unfolding line_of
 line_pieces b i h = by_fields (fields_of b i) h (some_fields b i)
   where
-    by_fields : (xs : List (List ℕ)) → list_all (lacks 32) xs ≡ true → 0 < length xs → pieces_of (join_with_byte 32 xs) ≡ xs
+    by_fields : (xs : List (List ℕ)) → list_all (lacks 32) xs ≡ true → 0 < length xs →
+        pieces_of (join_with_byte 32 xs) ≡ xs
     by_fields [] h l = absurd (omega arith)
     by_fields (x ∷ xs) h l = pieces-join x xs h
 
@@ -203,7 +218,9 @@ line_pieces b i h = by_fields (fields_of b i) h (some_fields b i)
 
 name_short : (bytes : List ℕ) → is_name bytes ≡ true → length bytes ≤ 32
 unfolding is_name
-name_short bytes h = at_most (length bytes) (both (nat_le (length bytes) 32) (list_all is_name_byte bytes) (both (nat_le 1 (length bytes)) _ h).1).0
+name_short bytes h =
+    at_most (length bytes)
+    (both (nat_le (length bytes) 32) (list_all is_name_byte bytes) (both (nat_le 1 (length bytes)) _ h).1).0
   where
     at_most : (n : ℕ) → nat_le n 32 ≡ true → n ≤ 32
     at_most n e = grind (arith, nat_tests)
@@ -217,28 +234,51 @@ number_short n h = decimal_short n (omega arith)
 two_short : (w x : List ℕ) (n k : ℕ) → length w ≤ n → length x ≤ k → n + k < 128 → length (w ++ 32 ∷ x) ≤ 128
 two_short w x n k h l m = omega (arith, length-append w (32 ∷ x))
 
-three_short : (w x y : List ℕ) (n k : ℕ) → length w ≤ 12 → length x ≤ n → length y ≤ k → n + k ≤ 100 → length (w ++ 32 ∷ (x ++ 32 ∷ y)) ≤ 128
+three_short : (w x y : List ℕ) (n k : ℕ) → length w ≤ 12 → length x ≤ n → length y ≤ k → n + k ≤ 100 →
+    length (w ++ 32 ∷ (x ++ 32 ∷ y)) ≤ 128
 three_short w x y n k h l m f = omega (arith, length-append w (32 ∷ (x ++ 32 ∷ y)), length-append x (32 ∷ y))
 
-four_short : (w x y z : List ℕ) → length w ≤ 12 → length x ≤ 32 → length y ≤ 20 → length z ≤ 20 → length (w ++ 32 ∷ (x ++ 32 ∷ (y ++ 32 ∷ z))) ≤ 128
-four_short w x y z h l m f = omega (arith, length-append w (32 ∷ (x ++ 32 ∷ (y ++ 32 ∷ z))), length-append x (32 ∷ (y ++ 32 ∷ z)), length-append y (32 ∷ z))
+four_short : (w x y z : List ℕ) → length w ≤ 12 → length x ≤ 32 → length y ≤ 20 → length z ≤ 20 →
+    length (w ++ 32 ∷ (x ++ 32 ∷ (y ++ 32 ∷ z))) ≤ 128
+four_short w x y z h l m f =
+    omega (
+      arith,
+      length-append w (32 ∷ (x ++ 32 ∷ (y ++ 32 ∷ z))),
+      length-append x (32 ∷ (y ++ 32 ∷ z)),
+      length-append y (32 ∷ z),
+    )
 
 pub line_short : (b : Basin) → IsValidBasin b → (i : Item) → IsOfText b i → length (line_of b i) ≤ 128
 unfolding line_of fields_of
 line_short b valid line.Title o = omega arith
 line_short b valid (line.Run first months) o =
-    three_short (codes "run") (month_digits first) (decimal months) 7 20 (omega arith) (omega (arith, length-month_digits first o.of_basin)) (number_short months (omega (arith, o.numbers))) (omega arith)
-line_short b valid (line.Month month) o = two_short (codes "month") (month_digits month) 12 7 (omega arith) (omega (arith, length-month_digits month o.of_basin)) (omega arith)
+    three_short (codes "run") (month_digits first) (decimal months) 7 20 (omega arith)
+    (omega (arith, length-month_digits first o.of_basin)) (number_short months (omega (arith, o.numbers)))
+    (omega arith)
+line_short b valid (line.Month month) o =
+    two_short (codes "month") (month_digits month) 12 7 (omega arith)
+    (omega (arith, length-month_digits month o.of_basin)) (omega arith)
 line_short b valid (line.Amount q entry amount) o =
     three_short (amount_word q) (name_in (space_of q) b entry) (decimal amount) 32 20 (word_short q)
     (entry_short b valid (space_of q) entry o.of_basin) (number_short amount o.numbers) (omega arith)
 line_short b valid (line.Deliver right amount want) o =
-    four_short (codes "deliver") (name_in space.Rights b right) (decimal amount) (decimal want) (omega arith) (entry_short b valid space.Rights right o.of_basin) (number_short amount o.numbers.0) (number_short want o.numbers.1)
-line_short b valid (line.Call right) o = two_short (codes "call") (name_in space.Rights b right) 12 32 (omega arith) (entry_short b valid space.Rights right o.of_basin) (omega arith)
-line_short b valid (line.Member node) o = two_short (codes "in") (name_in space.Nodes b node) 12 32 (omega arith) (entry_short b valid space.Nodes node o.of_basin) (omega arith)
-line_short b valid (line.Called right by') o = three_short (codes "called") (name_in space.Rights b right) (name_in space.Rights b by') 32 32 (omega arith) (entry_short b valid space.Rights right o.of_basin.0) (entry_short b valid space.Rights by' o.of_basin.1) (omega arith)
+    four_short (codes "deliver") (name_in space.Rights b right) (decimal amount) (decimal want) (omega arith)
+    (entry_short b valid space.Rights right o.of_basin) (number_short amount o.numbers.0)
+    (number_short want o.numbers.1)
+line_short b valid (line.Call right) o =
+    two_short (codes "call") (name_in space.Rights b right) 12 32 (omega arith)
+    (entry_short b valid space.Rights right o.of_basin) (omega arith)
+line_short b valid (line.Member node) o =
+    two_short (codes "in") (name_in space.Nodes b node) 12 32 (omega arith)
+    (entry_short b valid space.Nodes node o.of_basin) (omega arith)
+line_short b valid (line.Called right by') o =
+    three_short (codes "called") (name_in space.Rights b right) (name_in space.Rights b by') 32 32 (omega arith)
+    (entry_short b valid space.Rights right o.of_basin.0) (entry_short b valid space.Rights by' o.of_basin.1)
+    (omega arith)
 line_short b valid line.End o = omega arith
-line_short b valid (line.Done months) o = two_short (codes "done") (decimal months) 12 20 (omega arith) (number_short months (omega (arith, o.numbers))) (omega arith)
+line_short b valid (line.Done months) o =
+    two_short (codes "done") (decimal months) 12 20 (omega arith) (number_short months (omega (arith, o.numbers)))
+    (omega arith)
 
 -- The fields are read.
 
@@ -246,12 +286,14 @@ amount_read : (n : ℕ) → n ≤ 10 ^ 15 → read_plain (decimal n) (10 ^ 15) �
 amount_read n h = read_plain-decimal n (10 ^ 15) h (omega arith)
 
 count_read : (n : ℕ) → 1 ≤ n → n ≤ 1200 → count_field (decimal n) ≡ Ok n
-count_read n low high = let some : nat_le 1 n ≡ true = grind (arith, nat_tests) in rw (read_plain-decimal n 1200 high (omega arith), some) refl
+count_read n low high = let some : nat_le 1 n ≡ true = grind (arith, nat_tests) in
+    rw (read_plain-decimal n 1200 high (omega arith), some) refl
 
 item_in-fields : (b : Basin) → IsValidBasin b → (i : Item) → IsOfText b i → item_in b (fields_of b i) ≡ Ok i
 unfolding fields_of word_of item_with
 item_in-fields b valid line.Title o = refl
-item_in-fields b valid (line.Run first months) o = rw (read_month-month_digits first o.of_basin, count_read months o.numbers.0 o.numbers.1) refl
+item_in-fields b valid (line.Run first months) o =
+    rw (read_month-month_digits first o.of_basin, count_read months o.numbers.0 o.numbers.1) refl
 item_in-fields b valid (line.Month month) o = rw (read_month-month_digits month o.of_basin) refl
 item_in-fields b valid (line.Amount q entry amount) o =
     rw (
@@ -261,11 +303,23 @@ item_in-fields b valid (line.Amount q entry amount) o =
       named-at b valid (space_of q) entry o.of_basin,
     ) refl
 item_in-fields b valid (line.Deliver right amount want) o =
-    rw (name_is b valid space.Rights right o.of_basin, amount_read amount o.numbers.0, amount_read want o.numbers.1, named-at b valid space.Rights right o.of_basin) refl
-item_in-fields b valid (line.Call right) o = rw (name_is b valid space.Rights right o.of_basin, named-at b valid space.Rights right o.of_basin) refl
-item_in-fields b valid (line.Member node) o = rw (name_is b valid space.Nodes node o.of_basin, named-at b valid space.Nodes node o.of_basin) refl
+    rw (
+      name_is b valid space.Rights right o.of_basin,
+      amount_read amount o.numbers.0,
+      amount_read want o.numbers.1,
+      named-at b valid space.Rights right o.of_basin,
+    ) refl
+item_in-fields b valid (line.Call right) o =
+    rw (name_is b valid space.Rights right o.of_basin, named-at b valid space.Rights right o.of_basin) refl
+item_in-fields b valid (line.Member node) o =
+    rw (name_is b valid space.Nodes node o.of_basin, named-at b valid space.Nodes node o.of_basin) refl
 item_in-fields b valid (line.Called right by') o =
-    rw (name_is b valid space.Rights right o.of_basin.0, name_is b valid space.Rights by' o.of_basin.1, named-at b valid space.Rights right o.of_basin.0, named-at b valid space.Rights by' o.of_basin.1) refl
+    rw (
+      name_is b valid space.Rights right o.of_basin.0,
+      name_is b valid space.Rights by' o.of_basin.1,
+      named-at b valid space.Rights right o.of_basin.0,
+      named-at b valid space.Rights by' o.of_basin.1,
+    ) refl
 item_in-fields b valid line.End o = refl
 item_in-fields b valid (line.Done months) o = rw (count_read months o.numbers.0 o.numbers.1) refl
 
@@ -273,7 +327,11 @@ item_in-fields b valid (line.Done months) o = rw (count_read months o.numbers.0 
 pub item-line : (b : Basin) → IsValidBasin b → (i : Item) → IsOfText b i → item_of b (line_of b i) ≡ Ok i
 unfolding item_of
 item-line b valid i o =
-    rw (not_long (length (line_of b i)) (line_short b valid i o), line_pieces b i (plain-all 32 (omega arith) (fields_of b i) (fields_plain b valid i o))) (item_in-fields b valid i o)
+    rw (
+      not_long (length (line_of b i)) (line_short b valid i o),
+      line_pieces b i (plain-all 32 (omega arith) (fields_of b i) (fields_plain b valid i o)),
+    )
+    (item_in-fields b valid i o)
   where
     not_long : (n : ℕ) → n ≤ 128 → nat_lt 128 n ≡ false
     not_long n h = grind (arith, nat_tests)
@@ -281,11 +339,13 @@ item-line b valid i o =
 -- A line has no line feed.
 pub line_lacks_feed : (b : Basin) → IsValidBasin b → (i : Item) → IsOfText b i → lacks 10 (line_of b i) ≡ true
 unfolding line_of
-line_lacks_feed b valid i o = joined (fields_of b i) (plain-all 10 (omega arith) (fields_of b i) (fields_plain b valid i o))
+line_lacks_feed b valid i o =
+    joined (fields_of b i) (plain-all 10 (omega arith) (fields_of b i) (fields_plain b valid i o))
   where
     joined : (xs : List (List ℕ)) → list_all (lacks 10) xs ≡ true → lacks 10 (join_with_byte 32 xs) ≡ true
     joined [] h = refl
     joined (x ∷ []) h = (both (lacks 10 x) true h).0
     joined (x ∷ y ∷ ys) h =
         let two = both (lacks 10 x) (list_all (lacks 10) (y ∷ ys)) h in
-        list_all-append (λ c. not (c == 10)) x (32 ∷ join_with_byte 32 (y ∷ ys)) ∙ rw (two.0, joined (y ∷ ys) two.1) refl
+        list_all-append (λ c. not (c == 10)) x (32 ∷ join_with_byte 32 (y ∷ ys))
+        ∙ rw (two.0, joined (y ∷ ys) two.1) refl

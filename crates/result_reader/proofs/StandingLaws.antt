@@ -31,7 +31,8 @@ pub all_due_first : (b : Basin) (dues : List Shape) →
     all_due b ≡ due_of b dues (record { place = place.Title; next_member = None; must = false })
 unfolding due
 all_due_first b dues =
-    ap (λ n. let d : Due = record { must = false; dues = shape.Title ∷ shape.Run ∷ due_from b 0 n } in d) (whole b.months)
+    ap (λ n. let d : Due = record { must = false; dues = shape.Title ∷ shape.Run ∷ due_from b 0 n } in
+    d) (whole b.months)
   where
     whole : (n : ℕ) → n ≡ n - 0
     whole n = omega arith
@@ -45,14 +46,17 @@ due_behind b dues p items i s stands e =
     ∙ ap (λ o. option_and_then (λ ds. Some (record { must = is_call i; dues = ds })) o) e
 
 -- A line that says nothing is refused.
-pub line_refused : (b : Basin) (dues : List Shape) (p : Progress) (left : ℕ) (r : ReaderSeen) (bytes : List ℕ) (why : BadLine) →
-    seen b dues p left ≡ r → item_of b bytes ≡ Err why → (items : List Item) → StandsFor r items → Err why ≡ read_line r.basin items bytes
+pub line_refused : (b : Basin) (dues : List Shape) (p : Progress) (left : ℕ) (r : ReaderSeen) (bytes : List ℕ)
+    (why : BadLine) →
+    seen b dues p left ≡ r → item_of b bytes ≡ Err why → (items : List Item) → StandsFor r items →
+    Err why ≡ read_line r.basin items bytes
 unfolding read_line
 line_refused b dues p left r bytes why is h items stands =
     subst (λ (s : ReaderSeen). Err why ≡ read_line s.basin items bytes) is (rw h refl)
 
 -- A line whose item may not come is out of place.
-pub line_blocked : (b : Basin) (dues : List Shape) (p : Progress) (left : ℕ) (r : ReaderSeen) (bytes : List ℕ) (i : Item) →
+pub line_blocked : (b : Basin) (dues : List Shape) (p : Progress) (left : ℕ) (r : ReaderSeen) (bytes : List ℕ)
+    (i : Item) →
     seen b dues p left ≡ r → item_of b bytes ≡ Ok i → IsNextProgress b dues p i None →
     (items : List Item) → StandsFor r items → Err bad.OutOfPlace ≡ read_line r.basin items bytes
 unfolding read_line
@@ -63,42 +67,51 @@ line_blocked b dues p left r bytes i is h next items =
     here stands = rw (h, due_behind b dues p items i None stands next) refl
 
 -- what is said of a line that is accepted
-pub record IsTaken (b : Basin) (r : ReaderSeen) (bytes : List ℕ) (i : Item) (after : Due) (items : List Item) : Type 0 where
-  pub answer : Ok i ≡ read_line r.basin items bytes
-  pub behind : due_after b (all_due b) (items ++ i ∷ []) ≡ Some after
+pub record IsTaken (b : Basin) (r : ReaderSeen) (bytes : List ℕ) (i : Item) (after : Due) (items : List Item) : Type 0
+  where
+    pub answer : Ok i ≡ read_line r.basin items bytes
+    pub behind : due_after b (all_due b) (items ++ i ∷ []) ≡ Some after
 
 -- A line whose item may come is accepted.
-pub line_taken : (b : Basin) (dues : List Shape) (p next : Progress) (left : ℕ) (r : ReaderSeen) (bytes : List ℕ) (i : Item) →
+pub line_taken : (b : Basin) (dues : List Shape) (p next : Progress) (left : ℕ) (r : ReaderSeen) (bytes : List ℕ)
+    (i : Item) →
     seen b dues p left ≡ r → item_of b bytes ≡ Ok i → IsNextProgress b dues p i (Some next) →
     (items : List Item) → StandsFor r items → IsTaken b r bytes i (due_of b dues next) items
 unfolding read_line
 line_taken b dues p next left r bytes i is h step items =
     subst (λ (s : ReaderSeen). StandsFor s items → IsTaken b s bytes i (due_of b dues next) items) is here
   where
-    here : due_after b (all_due b) items ≡ Some (due_of b dues p) → IsTaken b (seen b dues p left) bytes i (due_of b dues next) items
+    here : due_after b (all_due b) items ≡ Some (due_of b dues p) →
+        IsTaken b (seen b dues p left) bytes i (due_of b dues next) items
     here stands =
-        let behind : due_after b (all_due b) (items ++ i ∷ []) ≡ Some (record { must = is_call i; dues = dues_of b dues next }) =
+        let behind : due_after b (all_due b) (items ++ i ∷ []) ≡ Some
+        (record { must = is_call i; dues = dues_of b dues next }) =
         due_behind b dues p items i (Some (dues_of b dues next)) stands step.0 in
         record {
           answer = rw (h, behind) refl;
-          behind = behind ∙ ap (λ m. let d : Due = record { must = m; dues = dues_of b dues next } in Some d) (sym step.1);
+          behind = behind ∙ ap (λ m. let d : Due = record { must = m; dues = dues_of b dues next } in
+              Some d) (sym step.1);
         }
 
 -- a progress is that of the reader's own list
-pub next_along : (b : Basin) (ds dues : List Shape) (p : Progress) (i : Item) (o : Option Progress) → ds ≡ dues → IsNextProgress b ds p i o → IsNextProgress b dues p i o
+pub next_along : (b : Basin) (ds dues : List Shape) (p : Progress) (i : Item) (o : Option Progress) → ds ≡ dues →
+    IsNextProgress b ds p i o → IsNextProgress b dues p i o
 next_along b ds dues p i o is h = subst (λ (xs : List Shape). IsNextProgress b xs p i o) is h
 
 -- so many lines are left behind it
-pub next_left : (b : Basin) (dues : List Shape) (p next : Progress) (i : Item) (left : ℕ) → most_lines b (dues_of b dues p) ≤ left →
+pub next_left : (b : Basin) (dues : List Shape) (p next : Progress) (i : Item) (left : ℕ) →
+    most_lines b (dues_of b dues p) ≤ left →
     IsNextProgress b dues p i (Some next) → most_lines b (dues_of b dues next) + 1 ≤ left
 next_left b dues p next i left h step =
     omega (arith, step-fewer b p.must (dues_of b dues p) i (dues_of b dues next) step.0)
 
 -- a reader that accepted nothing
-pub reader_first : (b c : Basin) (dues : List Shape) (left : ℕ) → c ≡ b → IsValidBasin b → dues ≡ due_in_month b → most_lines b (due b) ≤ left →
+pub reader_first : (b c : Basin) (dues : List Shape) (left : ℕ) → c ≡ b → IsValidBasin b → dues ≡ due_in_month b →
+    most_lines b (due b) ≤ left →
     IsReader c dues (record { place = place.Title; next_member = None; must = false }) left
 reader_first b c dues left is valid are most =
-    subst (λ (x : Basin). IsReader x dues (record { place = place.Title; next_member = None; must = false }) left) (sym is) (record {
+    subst (λ (x : Basin). IsReader x dues (record { place = place.Title; next_member = None; must = false }) left)
+    (sym is) (record {
       valid = valid;
       dues_are = are;
       progress = record { place = tt; member = tt; must = λ no. cc };
@@ -106,7 +119,8 @@ reader_first b c dues left is valid are most =
     })
 
 -- what is said is spelled
-pub said_along : (b : Basin) (dues : List Shape) (p : Progress) (left : ℕ) (r : ReaderSeen) (bytes : List ℕ) (i : Item) → seen b dues p left ≡ r →
+pub said_along : (b : Basin) (dues : List Shape) (p : Progress) (left : ℕ) (r : ReaderSeen) (bytes : List ℕ)
+    (i : Item) → seen b dues p left ≡ r →
     item_of b bytes ≡ Ok i → (bytes ≡ line_of r.basin i) × IsOfText r.basin i
 said_along b dues p left r bytes i is h =
     let s = item_is_said b bytes i h in

@@ -1,5 +1,6 @@
 -- What the lines of a month tell.
-use Rattle.std.proofs.Common.{◌≡◌, ℕ, zero, suc, ◌<◌, Bool, true, false, refl, sym, ap, ◌∙◌, arith, inl, inr, List, [], ◌∷◌, ◌++◌, length, map, fold, replicate, append_assoc, length-append}
+use Rattle.std.proofs.Common.{◌≡◌, ℕ, zero, suc, ◌<◌, Bool, true, false, refl, sym, ap, ◌∙◌, arith, inl, inr, List, []}
+use Rattle.std.proofs.Common.{◌∷◌, ◌++◌, length, map, fold, replicate, append_assoc, length-append}
 use Rattle.std.specs.Prelude.{Option, Some, None, option_map, ◌⊎◌, slice_index, slice_set}
 use Rattle.std.proofs.Math.ListN.{length-set}
 use Rattle.std.proofs.lemmas.Bool.{cases_eq}
@@ -26,33 +27,42 @@ length-set_all [] a ys = refl
 length-set_all (x ∷ xs) a ys = length-set_all xs a (slice_set ys x (a x)) ∙ length-set ys x (a x)
 
 -- at a place that is set stands its number, and at each other place what stood there
-pub set_all-other : (xs : List ℕ) (a : ℕ → ℕ) (ys : List ℕ) (k : ℕ) → (Has xs k → ⊥) → slice_index (set_all xs a ys) k ≡ slice_index ys k
+pub set_all-other : (xs : List ℕ) (a : ℕ → ℕ) (ys : List ℕ) (k : ℕ) → (Has xs k → ⊥) →
+    slice_index (set_all xs a ys) k ≡ slice_index ys k
 set_all-other [] a ys k h = refl
 set_all-other (x ∷ xs) a ys k h =
     set_all-other xs a (slice_set ys x (a x)) k (λ j. h (inr j)) ∙ get_or-set_other ys x k (a x) 0 (λ e. h (inl e))
 
-set_all-keeps : (xs : List ℕ) (a : ℕ → ℕ) (ys : List ℕ) (k : ℕ) → k < length ys → slice_index ys k ≡ a k → slice_index (set_all xs a ys) k ≡ a k
+set_all-keeps : (xs : List ℕ) (a : ℕ → ℕ) (ys : List ℕ) (k : ℕ) → k < length ys → slice_index ys k ≡ a k →
+    slice_index (set_all xs a ys) k ≡ a k
 set_all-keeps [] a ys k l h = h
 set_all-keeps (x ∷ xs) a ys k l h =
-    set_all-keeps xs a (slice_set ys x (a x)) k (omega (arith, length-set ys x (a x))) (elim (cases_eq k x) [ inl e ↦ here e | inr n ↦ get_or-set_other ys x k (a x) 0 n ∙ h ])
+    set_all-keeps xs a (slice_set ys x (a x)) k (omega (arith, length-set ys x (a x)))
+    (elim (cases_eq k x) [ inl e ↦ here e | inr n ↦ get_or-set_other ys x k (a x) 0 n ∙ h ])
   where
     here : k ≡ x → slice_index (slice_set ys x (a x)) k ≡ a k
     here e = get_or-set_at ys x k (a x) 0 e (omega arith) ∙ ap a (sym e)
 
-pub set_all-has : (xs : List ℕ) (a : ℕ → ℕ) (ys : List ℕ) (k : ℕ) → k < length ys → Has xs k → slice_index (set_all xs a ys) k ≡ a k
+pub set_all-has : (xs : List ℕ) (a : ℕ → ℕ) (ys : List ℕ) (k : ℕ) → k < length ys → Has xs k →
+    slice_index (set_all xs a ys) k ≡ a k
 set_all-has [] a ys k l h = absurd h
-set_all-has (x ∷ xs) a ys k l (inr h) = set_all-has xs a (slice_set ys x (a x)) k (omega (arith, length-set ys x (a x))) h
+set_all-has (x ∷ xs) a ys k l (inr h) =
+    set_all-has xs a (slice_set ys x (a x)) k (omega (arith, length-set ys x (a x))) h
 set_all-has (x ∷ xs) a ys k l (inl e) =
-    set_all-keeps xs a (slice_set ys x (a x)) k (omega (arith, length-set ys x (a x))) (get_or-set_at ys x k (a x) 0 e (omega arith) ∙ ap a (sym e))
+    set_all-keeps xs a (slice_set ys x (a x)) k (omega (arith, length-set ys x (a x)))
+    (get_or-set_at ys x k (a x) 0 e (omega arith) ∙ ap a (sym e))
 
 -- a list whose numbers are all set is the list of these numbers
-pub set_all-whole : (xs ys zs : List ℕ) → length ys ≡ length zs → ((k : ℕ) → k < length zs → Has xs k ⊎ ((Has xs k → ⊥) × (slice_index ys k ≡ slice_index zs k))) →
+pub set_all-whole : (xs ys zs : List ℕ) → length ys ≡ length zs →
+    ((k : ℕ) → k < length zs → Has xs k ⊎ ((Has xs k → ⊥) × (slice_index ys k ≡ slice_index zs k))) →
     set_all xs (λ k. slice_index zs k) ys ≡ zs
 set_all-whole xs ys zs len each =
     same_number_lists (set_all xs (λ k. slice_index zs k) ys) zs (length-set_all xs (λ k. slice_index zs k) ys ∙ len)
-    (λ k l. by_place k (omega (arith, length-set_all xs (λ k. slice_index zs k) ys)) (each k (omega (arith, length-set_all xs (λ k. slice_index zs k) ys))))
+    (λ k l. by_place k (omega (arith, length-set_all xs (λ k. slice_index zs k) ys))
+    (each k (omega (arith, length-set_all xs (λ k. slice_index zs k) ys))))
   where
-    by_place : (k : ℕ) → k < length ys → Has xs k ⊎ ((Has xs k → ⊥) × (slice_index ys k ≡ slice_index zs k)) → slice_index (set_all xs (λ k. slice_index zs k) ys) k ≡ slice_index zs k
+    by_place : (k : ℕ) → k < length ys → Has xs k ⊎ ((Has xs k → ⊥) × (slice_index ys k ≡ slice_index zs k)) →
+        slice_index (set_all xs (λ k. slice_index zs k) ys) k ≡ slice_index zs k
     by_place k l (inl h) = set_all-has xs (λ k. slice_index zs k) ys k l h
     by_place k l (inr (other, same)) = set_all-other xs (λ k. slice_index zs k) ys k other ∙ same
 
@@ -62,19 +72,22 @@ pub fold-both : {A B : Type 0} (f : A → B → A) (t : A) (xs ys : List B) → 
 fold-both f t [] ys = refl
 fold-both f t (x ∷ xs) ys = fold-both f (f t x) xs ys
 
-slice_set-behind : (front rest : List Bool) (x y : Bool) → slice_set (front ++ x ∷ rest) (length front) y ≡ front ++ y ∷ rest
+slice_set-behind : (front rest : List Bool) (x y : Bool) →
+    slice_set (front ++ x ∷ rest) (length front) y ≡ front ++ y ∷ rest
 slice_set-behind [] rest x y = refl
 slice_set-behind (z ∷ front) rest x y = ap (λ xs. z ∷ xs) (slice_set-behind front rest x y)
 
 abbrev pub Sets : Type 0
 Sets = List (Option (List Bool))
 
-pub entry_set : (xs : Sets) (k : ℕ) (v : Option (List Bool)) → k < length xs → of_entry (slice_set xs k v) k (λ s. s) None ≡ v
+pub entry_set : (xs : Sets) (k : ℕ) (v : Option (List Bool)) → k < length xs →
+    of_entry (slice_set xs k v) k (λ s. s) None ≡ v
 entry_set [] k v l = absurd (omega arith)
 entry_set (x ∷ xs) zero v l = refl
 entry_set (x ∷ xs) (suc k) v l = entry_set xs k v (omega arith)
 
-set_entry : (xs : Sets) (k : ℕ) (v : Option (List Bool)) → k < length xs → of_entry xs k (λ s. s) None ≡ v → slice_set xs k v ≡ xs
+set_entry : (xs : Sets) (k : ℕ) (v : Option (List Bool)) → k < length xs → of_entry xs k (λ s. s) None ≡ v →
+    slice_set xs k v ≡ xs
 set_entry [] k v l h = absurd (omega arith)
 set_entry (x ∷ xs) zero v l h = ap (λ y. y ∷ xs) (sym h)
 set_entry (x ∷ xs) (suc k) v l h = ap (λ ys. x ∷ ys) (set_entry xs k v (omega arith) h)
@@ -89,40 +102,54 @@ abbrev pub put_cut : Told → ℕ → List Bool → Told
 put_cut t right set = record t { now = record t.now { cuts = with_set t.now.cuts right (Some set) } }
 
 -- the `in` lines of a set, behind those of its front
-tell_members : (b : Basin) (series : Inflows) (right : ℕ) (set front : List Bool) (k : ℕ) (t : Told) → t.calling ≡ Some right → length front ≡ k →
+tell_members : (b : Basin) (series : Inflows) (right : ℕ) (set front : List Bool) (k : ℕ) (t : Told) →
+    t.calling ≡ Some right → length front ≡ k →
     right < length t.now.cuts.sets → set_of t.now.cuts right ≡ Some (front ++ replicate (length set) false) →
     fold (tell b series) t (map (λ n. line.Member n) (members_from k set)) ≡ put_cut t right (front ++ set)
 unfolding members_from
 tell_members b series right [] front k t c n l h =
-    ap (λ xs. record t { now = record t.now { cuts = record t.now.cuts { sets = xs } } }) (sym (set_entry t.now.cuts.sets right (Some (front ++ [])) l h))
+    ap (λ xs. record t { now = record t.now { cuts = record t.now.cuts { sets = xs } } })
+    (sym (set_entry t.now.cuts.sets right (Some (front ++ [])) l h))
 tell_members b series right (true ∷ set) front k t c n l h =
     ap (λ u. fold (tell b series) u (map (λ n. line.Member n) (members_from (suc k) set))) told
-    ∙ (tell_members b series right set (front ++ true ∷ []) (suc k) (put_cut t right (front ++ true ∷ replicate (length set) false)) c
-    (omega (arith, length-append front (true ∷ []))) (omega (arith, length-set t.now.cuts.sets right (Some (front ++ true ∷ replicate (length set) false))))
-    (entry_set t.now.cuts.sets right (Some (front ++ true ∷ replicate (length set) false)) l ∙ ap (λ xs. Some xs) (sym (append_assoc front (true ∷ []) (replicate (length set) false))))
+    ∙ (tell_members b series right set (front ++ true ∷ []) (suc k)
+    (put_cut t right (front ++ true ∷ replicate (length set) false)) c
+    (omega (arith, length-append front (true ∷ [])))
+    (omega (arith, length-set t.now.cuts.sets right (Some (front ++ true ∷ replicate (length set) false))))
+    (entry_set t.now.cuts.sets right (Some (front ++ true ∷ replicate (length set) false)) l
+    ∙ ap (λ xs. Some xs) (sym (append_assoc front (true ∷ []) (replicate (length set) false))))
     ∙ (ap (λ xs. record t { now = record t.now { cuts = record t.now.cuts { sets = xs } } })
-    (set_twice t.now.cuts.sets right (Some (front ++ true ∷ replicate (length set) false)) (Some ((front ++ true ∷ []) ++ set)))
+    (set_twice t.now.cuts.sets right (Some (front ++ true ∷ replicate (length set) false))
+    (Some ((front ++ true ∷ []) ++ set)))
     ∙ ap (λ xs. put_cut t right xs) (append_assoc front (true ∷ []) set)))
   where
-    placed : slice_set (front ++ false ∷ replicate (length set) false) k true ≡ front ++ true ∷ replicate (length set) false
+    placed : slice_set (front ++ false ∷ replicate (length set) false) k true ≡ front ++ true ∷ replicate (length set)
+        false
     placed = rw (← n) (slice_set-behind front (replicate (length set) false) false true)
 
     told : with_member t t.calling k ≡ put_cut t right (front ++ true ∷ replicate (length set) false)
     told =
         ap (λ o. with_member t o k) c
-        ∙ (ap (λ o. record t { now = record t.now { cuts = with_set t.now.cuts right (option_map (λ xs. slice_set xs k true) o) } }) h
+        ∙ (ap (λ o. record t {
+          now =
+              record t.now { cuts = with_set t.now.cuts right (option_map (λ xs. slice_set xs k true) o) };
+        }) h
         ∙ ap (λ xs. put_cut t right xs) placed)
 tell_members b series right (false ∷ set) front k t c n l h =
-    tell_members b series right set (front ++ false ∷ []) (suc k) t c (omega (arith, length-append front (false ∷ []))) l
+    tell_members b series right set (front ++ false ∷ []) (suc k) t c (omega (arith, length-append front (false ∷ [])))
+    l
     (h ∙ ap (λ xs. Some xs) (sym (append_assoc front (false ∷ []) (replicate (length set) false))))
     ∙ ap (λ xs. put_cut t right xs) (append_assoc front (false ∷ []) set)
 
 -- the lines of one right's set
-pub tell_call : (b : Basin) (series : Inflows) (right : ℕ) (set : List Bool) (t : Told) → right < length t.now.cuts.sets → length set ≡ length b.nodes →
+pub tell_call : (b : Basin) (series : Inflows) (right : ℕ) (set : List Bool) (t : Told) →
+    right < length t.now.cuts.sets → length set ≡ length b.nodes →
     fold (tell b series) t (call_items right (Some set)) ≡ record (put_cut t right set) { calling = Some right }
 tell_call b series right set t l sized =
-    tell_members b series right set [] 0 (record (put_cut t right (replicate (length b.nodes) false)) { calling = Some right }) refl refl
+    tell_members b series right set [] 0
+    (record (put_cut t right (replicate (length b.nodes) false)) { calling = Some right }) refl refl
     (omega (arith, length-set t.now.cuts.sets right (Some (replicate (length b.nodes) false))))
-    (entry_set t.now.cuts.sets right (Some (replicate (length b.nodes) false)) l ∙ ap (λ n. Some (replicate n false)) (sym sized))
+    (entry_set t.now.cuts.sets right (Some (replicate (length b.nodes) false)) l
+    ∙ ap (λ n. Some (replicate n false)) (sym sized))
     ∙ ap (λ xs. record t { now = record t.now { cuts = record t.now.cuts { sets = xs } }; calling = Some right })
     (set_twice t.now.cuts.sets right (Some (replicate (length b.nodes) false)) (Some set))

@@ -1,5 +1,6 @@
 -- The text of records has the form.
-use Rattle.std.proofs.Common.{◌≡◌, ℕ, suc, Bool, true, false, refl, sym, ap, subst, ◌∙◌, arith, inl, inr, List, [], ◌∷◌, ◌++◌, length, map, append-nil, append_assoc, length-append}
+use Rattle.std.proofs.Common.{◌≡◌, ℕ, suc, Bool, true, false, refl, sym, ap, subst, ◌∙◌, arith, inl, inr, List, [], ◌∷◌}
+use Rattle.std.proofs.Common.{◌++◌, length, map, append-nil, append_assoc, length-append}
 use Rattle.std.specs.Prelude.{Option, Some, None, is_some, find, ◌&&◌, nat_lt, slice_index, if◌then◌else◌}
 use Rattle.std.specs.List.{flat_map, list_any}
 use Rattle.std.specs.Option.{option_map_or}
@@ -12,7 +13,8 @@ use Rattle.water_model.specs.History.{cut_of}
 use Rattle.water_model.specs.Places.{numbers_from, members_from, seniors_first}
 use Rattle.water_model.specs.Quantities.{amounts_of, has_line}
 use Rattle.water_model.specs.Spelling.{line_of}
-use Rattle.water_model.specs.Text.{calls, calling_right, call_items, called_items, section_space, lines_at, lines_in, month_lines, items_of_month, items_of}
+use Rattle.water_model.specs.Text.{calls, calling_right, call_items, called_items, section_space, lines_at, lines_in}
+use Rattle.water_model.specs.Text.{month_lines, items_of_month, items_of}
 use Rattle.water_model.specs.declared.item.Item.{Item}
 use Rattle.water_model.specs.declared.item.Item.TheVariants as line
 use Rattle.water_model.specs.declared.item.Section.{Section}
@@ -21,7 +23,8 @@ use Rattle.water_model.specs.declared.item.TheConstants.{SECTIONS}
 use Rattle.water_model.specs.declared.types.Basin.{Basin}
 use Rattle.water_model.specs.declared.types.Inflows.{Inflows}
 use Rattle.water_model.specs.declared.types.MonthRecord.{MonthRecord}
-use Rattle.result_reader.specs.Form.{shape_of, is_allowed, fits, IsFollowedBy, Fills, shapes_at, shapes_in, due_in_month, due_for_month, due}
+use Rattle.result_reader.specs.Form.{shape_of, is_allowed, fits, IsFollowedBy, Fills, shapes_at, shapes_in}
+use Rattle.result_reader.specs.Form.{due_in_month, due_for_month, due}
 use Rattle.result_reader.specs.Laws.{TextsAreAccepted}
 use Rattle.result_reader.specs.OfText.{IsOfText}
 use Rattle.result_reader.specs.Records.{IsTextMonth, AreTextMonths}
@@ -33,7 +36,8 @@ use Rattle.result_reader.proofs.Grammar.{fits_itself}
 use Rattle.result_reader.proofs.OfTexts.{AreOfText, records_of_text}
 use Rattle.result_reader.proofs.Spelled.{item-line}
 
-pub fills_both : (b : Basin) (ds es : List Shape) (items others : List Item) → Fills b ds items → Fills b es others → Fills b (ds ++ es) (items ++ others)
+pub fills_both : (b : Basin) (ds es : List Shape) (items others : List Item) → Fills b ds items → Fills b es others →
+    Fills b (ds ++ es) (items ++ others)
 fills_both b [] es items others h k = rw h k
 fills_both b (d ∷ ds) es items others (inl (o, h)) k = inl (o, fills_both b ds es items others h k)
 fills_both b (d ∷ ds) es items others (inr (i, members, rest, f, group, are, h)) k =
@@ -125,12 +129,14 @@ month_fills b m caller_of i is h =
 
 -- The callers of a record are such as a text may have.
 
-not_called : (b : Basin) (m : MonthRecord) (r : ℕ) (xs : List ℕ) → is_some (taking_node b r) ≡ false → find (λ caller. calls b m r caller) xs ≡ None
+not_called : (b : Basin) (m : MonthRecord) (r : ℕ) (xs : List ℕ) → is_some (taking_node b r) ≡ false →
+    find (λ caller. calls b m r caller) xs ≡ None
 unfolding calls
 not_called b m r [] h = refl
 not_called b m r (x ∷ xs) h = rw (fails x) (not_called b m r xs h)
   where
-    nowhere : (o : Option ℕ) (cut : Option (List Bool)) → is_some o ≡ false → option_map_or (λ c. node_within o c) cut false ≡ false
+    nowhere : (o : Option ℕ) (cut : Option (List Bool)) → is_some o ≡ false →
+        option_map_or (λ c. node_within o c) cut false ≡ false
     nowhere None None g = refl
     nowhere None (Some c) g = refl
     nowhere (Some node) cut g = cc
@@ -140,20 +146,27 @@ not_called b m r (x ∷ xs) h = rw (fails x) (not_called b m r xs h)
     never false = refl
 
     fails : (x : ℕ) → calls b m r x ≡ false
-    fails x = rw (nowhere (taking_node b r) (cut_of m x) h) (never (nat_lt (slice_index m.delivered x) (slice_index m.want x) && is_senior b x r && nat_lt 0 (slice_index m.want r)))
+    fails x =
+        rw (nowhere (taking_node b r) (cut_of m x) h)
+        (never (nat_lt (slice_index m.delivered x) (slice_index m.want x) && is_senior b x r && nat_lt 0
+        (slice_index m.want r)))
 
-called_senior : (b : Basin) (m : MonthRecord) (r caller : ℕ) → calling_right b m r ≡ Some caller → is_senior b caller r ≡ true
+called_senior : (b : Basin) (m : MonthRecord) (r caller : ℕ) → calling_right b m r ≡ Some caller →
+    is_senior b caller r ≡ true
 unfolding calling_right calls
 called_senior b m r caller e =
-    third (nat_lt (slice_index m.delivered caller) (slice_index m.want caller)) (is_senior b caller r) (nat_lt 0 (slice_index m.want r))
-    (option_map_or (λ cut. takes_within b cut r) (cut_of m caller) false) (find-passes (λ c. calls b m r c) (seniors_first b) caller e).0
+    third (nat_lt (slice_index m.delivered caller) (slice_index m.want caller)) (is_senior b caller r)
+    (nat_lt 0 (slice_index m.want r))
+    (option_map_or (λ cut. takes_within b cut r) (cut_of m caller) false)
+    (find-passes (λ c. calls b m r c) (seniors_first b) caller e).0
   where
     third : (p q t u : Bool) → p && q && t && u ≡ true → q ≡ true
     third p true t u h = refl
     third true false t u h = cc
     third false false t u h = cc
 
-has_calls : (b : Basin) (series : Inflows) (before : List MonthRecord) (m : MonthRecord) → IsTextMonth b series before m → HasCalls b m (calling_right b m)
+has_calls : (b : Basin) (series : Inflows) (before : List MonthRecord) (m : MonthRecord) →
+    IsTextMonth b series before m → HasCalls b m (calling_right b m)
 unfolding calling_right
 has_calls b series before m t = record {
   sized = λ r set e. (has_set b series before m t r set e).1;
@@ -164,21 +177,27 @@ has_calls b series before m t = record {
 
 -- The run.
 
-months_fill : (b : Basin) (series : Inflows) (records before ms : List MonthRecord) → AreTextMonths b series records → records ≡ before ++ ms →
+months_fill : (b : Basin) (series : Inflows) (records before ms : List MonthRecord) → AreTextMonths b series records →
+    records ≡ before ++ ms →
     Fills b (flat_map (due_for_month b) (numbers_from (length before) (length ms))) (flat_map (items_of_month b) ms)
 unfolding numbers_from
 months_fill b series records before [] are is = refl
 months_fill b series records before (m ∷ ms) are is =
     let t = month_of b series records before ms m are is in
-    fills_both b (due_for_month b (length before)) (flat_map (due_for_month b) (numbers_from (suc (length before)) (length ms))) (items_of_month b m) (flat_map (items_of_month b) ms)
-    (month_fills b m (calling_right b m) (length before) (t.month.month ∙ ap (run_month b) t.month.index) (has_calls b series before m t))
-    (subst (λ (k : ℕ). Fills b (flat_map (due_for_month b) (numbers_from k (length ms))) (flat_map (items_of_month b) ms)) (longer before m)
+    fills_both b (due_for_month b (length before))
+    (flat_map (due_for_month b) (numbers_from (suc (length before)) (length ms))) (items_of_month b m)
+    (flat_map (items_of_month b) ms)
+    (month_fills b m (calling_right b m) (length before) (t.month.month ∙ ap (run_month b) t.month.index)
+    (has_calls b series before m t))
+    (subst (λ (k : ℕ). Fills b (flat_map (due_for_month b) (numbers_from k (length ms)))
+    (flat_map (items_of_month b) ms)) (longer before m)
     (months_fill b series records (before ++ m ∷ []) ms are (is ∙ sym (append_assoc before (m ∷ []) ms))))
   where
     longer : (before : List MonthRecord) (m : MonthRecord) → length (before ++ m ∷ []) ≡ suc (length before)
     longer before m = omega (arith, length-append before (m ∷ []))
 
-pub text_fills : (b : Basin) (series : Inflows) (records : List MonthRecord) → AreTextMonths b series records → length records ≡ b.months → Fills b (due b) (items_of b records)
+pub text_fills : (b : Basin) (series : Inflows) (records : List MonthRecord) → AreTextMonths b series records →
+    length records ≡ b.months → Fills b (due b) (items_of b records)
 unfolding due
 text_fills b series records are all =
     inr (
@@ -195,8 +214,10 @@ text_fills b series records are all =
         fits_itself b (line.Run b.first b.months) refl,
         refl,
         refl,
-        fills_both b (flat_map (due_for_month b) (numbers_from 0 b.months)) (shape.Done b.months ∷ []) (flat_map (items_of_month b) records) (line.Done b.months ∷ [])
-            (subst (λ (k : ℕ). Fills b (flat_map (due_for_month b) (numbers_from 0 k)) (flat_map (items_of_month b) records)) all (months_fill b series records [] records are refl))
+        fills_both b (flat_map (due_for_month b) (numbers_from 0 b.months)) (shape.Done b.months ∷ [])
+            (flat_map (items_of_month b) records) (line.Done b.months ∷ [])
+            (subst (λ (k : ℕ). Fills b (flat_map (due_for_month b) (numbers_from 0 k))
+            (flat_map (items_of_month b) records)) all (months_fill b series records [] records are refl))
             (inr (line.Done b.months, [], [], fits_itself b (line.Done b.months) refl, refl, refl, refl)),
       ),
     )
@@ -204,10 +225,14 @@ text_fills b series records are all =
 -- each line of a text is accepted behind those before it
 pub texts_are_accepted : TextsAreAccepted
 texts_are_accepted b series records before after item valid are all is =
-    may_come b before (line_of b item) item (item-line b valid item (of_text before item after (subst (λ (xs : List Item). AreOfText b xs) is (records_of_text b series records valid are))))
+    may_come b before (line_of b item) item
+    (item-line b valid item
+    (of_text before item after
+    (subst (λ (xs : List Item). AreOfText b xs) is (records_of_text b series records valid are))))
     (record {
       rest = after;
-      whole = subst (λ (xs : List Item). Fills b (due b) xs) (is ∙ sym (append_assoc before (item ∷ []) after)) (text_fills b series records are all);
+      whole = subst (λ (xs : List Item). Fills b (due b) xs) (is ∙ sym (append_assoc before (item ∷ []) after))
+          (text_fills b series records are all);
     })
   where
     of_text : (xs : List Item) (i : Item) (ys : List Item) → AreOfText b (xs ++ i ∷ ys) → IsOfText b i

@@ -1,5 +1,6 @@
 -- The lines of a month tell the whole of its record.
-use Rattle.std.proofs.Common.{◌≡◌, ℕ, ◌+◌, ◌<◌, Bool, refl, sym, ap, subst, ◌∙◌, List, [], ◌∷◌, ◌++◌, length, map, fold, replicate, append_assoc, append-nil, length-append}
+use Rattle.std.proofs.Common.{◌≡◌, ℕ, ◌+◌, ◌<◌, Bool, refl, sym, ap, subst, ◌∙◌, List, [], ◌∷◌, ◌++◌, length, map, fold}
+use Rattle.std.proofs.Common.{replicate, append_assoc, append-nil, length-append}
 use Rattle.std.specs.Prelude.{Option, Some, None, slice_index}
 use Rattle.std.specs.List.{flat_map}
 use Rattle.water_model.specs.Entries.{count_in}
@@ -24,14 +25,18 @@ pub record IsAllTold (b : Basin) (series : Inflows) (m : MonthRecord) : Type 0 w
   pub listed : (q : Quantity) →
       set_all (entries_with_line b q) (λ x. slice_index (amounts_of q m) x) (replicate (count_in (space_of q) b) 0)
       ≡ amounts_of q m
-  pub delivered : set_all (seniors_first b) (λ r. slice_index m.delivered r) (replicate (length b.rights) 0) ≡ m.delivered
+  pub delivered : set_all (seniors_first b) (λ r. slice_index m.delivered r)
+      (replicate (length b.rights) 0) ≡ m.delivered
   pub want : set_all (seniors_first b) (λ r. slice_index m.want r) (replicate (length b.rights) 0) ≡ m.want
-  pub take : set_all (seniors_first b) (take_of b (λ r. slice_index m.delivered r)) (replicate (length b.rights) 0) ≡ m.plan.take
+  pub take : set_all (seniors_first b) (take_of b (λ r. slice_index m.delivered r))
+      (replicate (length b.rights) 0) ≡ m.plan.take
   pub sets : put_sets (seniors_first b) (λ r. cut_of m r) (replicate (length b.rights) None) ≡ m.cuts.sets
   pub nodes : m.cuts.nodes ≡ length b.nodes
-  pub supply : map (λ n. inflow_at b series n m.index + slice_index m.returned n + stored_at b m.opening m.evaporated n) (places_of b.nodes) ≡ m.supply
+  pub supply : map (λ n. inflow_at b series n m.index + slice_index m.returned n + stored_at b m.opening m.evaporated n)
+      (places_of b.nodes) ≡ m.supply
   pub sized : (r : ℕ) (set : List Bool) → cut_of m r ≡ Some set → length set ≡ length b.nodes
-  pub within : (r : ℕ) (set : List Bool) → cut_of m r ≡ Some set → r < length (replicate {A = Option (List Bool)} (length b.rights) None)
+  pub within : (r : ℕ) (set : List Bool) → cut_of m r ≡ Some set →
+      r < length (replicate {A = Option (List Bool)} (length b.rights) None)
 
 -- what the lines before `end` make of a month
 abbrev before_end : Basin → MonthRecord → MonthRecord
@@ -87,12 +92,14 @@ abbrev pub AreAllTold : Basin → Inflows → ℕ → List MonthRecord → Type 
 AreAllTold b series i [] = Unit {0}
 AreAllTold b series i (m ∷ ms) = (m.index ≡ i) × IsAllTold b series m × AreAllTold b series (i + 1) ms
 
-months_told : (b : Basin) (series : Inflows) (records : List MonthRecord) (t : Told) → AreAllTold b series (length t.months) records →
+months_told : (b : Basin) (series : Inflows) (records : List MonthRecord) (t : Told) →
+    AreAllTold b series (length t.months) records →
     (fold (tell b series) t (flat_map (items_of_month b) records)).months ≡ t.months ++ records
 months_told b series [] t h = sym (append-nil t.months)
 months_told b series (m ∷ ms) t h =
     ap (λ u. u.months) (fold-both (tell b series) t (items_of_month b m) (flat_map (items_of_month b) ms))
-    ∙ (months_told b series ms (fold (tell b series) t (items_of_month b m)) (subst (λ (i : ℕ). AreAllTold b series i ms) (sym longer) h.2)
+    ∙ (months_told b series ms (fold (tell b series) t (items_of_month b m))
+    (subst (λ (i : ℕ). AreAllTold b series i ms) (sym longer) h.2)
     ∙ (ap (λ xs. xs ++ ms) first ∙ append_assoc t.months (m ∷ []) ms))
   where
     first : (fold (tell b series) t (items_of_month b m)).months ≡ t.months ++ m ∷ []
@@ -105,11 +112,13 @@ months_told b series (m ∷ ms) t h =
 pub records_told : (b : Basin) (series : Inflows) (records : List MonthRecord) → AreAllTold b series 0 records →
     (told_by b series (items_of b records)).months ≡ records
 records_told b series records h =
-    ap (λ u. u.months) (fold-both (tell b series) (nothing_told b) (flat_map (items_of_month b) records) (line.Done b.months ∷ []))
+    ap (λ u. u.months)
+    (fold-both (tell b series) (nothing_told b) (flat_map (items_of_month b) records) (line.Done b.months ∷ []))
     ∙ months_told b series records (nothing_told b) h
 
 -- Records whose items are the same are the same.
-pub one_reading_of_items : (b : Basin) (series : Inflows) (records others : List MonthRecord) → AreAllTold b series 0 records → AreAllTold b series 0 others →
+pub one_reading_of_items : (b : Basin) (series : Inflows) (records others : List MonthRecord) →
+    AreAllTold b series 0 records → AreAllTold b series 0 others →
     items_of b records ≡ items_of b others → records ≡ others
 one_reading_of_items b series records others h k e =
     sym (records_told b series records h) ∙ (ap (λ is. (told_by b series is).months) e ∙ records_told b series others k)

@@ -1,5 +1,6 @@
 -- Words, and how they are spelled.
-use Rattle.std.proofs.Common.{◌≡◌, ℕ, zero, suc, ◌+◌, Bool, true, false, refl, sym, ap, ◌∙◌, List, [], ◌∷◌, drop, add-one, Option, Some, None}
+use Rattle.std.proofs.Common.{◌≡◌, ℕ, zero, suc, ◌+◌, Bool, true, false, refl, sym, ap, ◌∙◌, List, [], ◌∷◌, drop}
+use Rattle.std.proofs.Common.{add-one, Option, Some, None}
 use Rattle.std.specs.Prelude.{find, slice_get}
 use Rattle.std.specs.Str.{bytes_eq}
 use Rattle.std.proofs.lemmas.Slice.Eq.{bytes_eq-Decides}
@@ -7,7 +8,8 @@ use Rattle.result_reader.specs.Words.{spelling_of, words, word_of}
 use Rattle.result_reader.specs.declared.words.Word.{Word}
 
 -- the search goes on behind an element that fails
-pub find-next : {X : Type 0} (p : X → Bool) (xs : List X) (i : ℕ) (x : X) (answer : Option X) → slice_get xs i ≡ Some x → p x ≡ false →
+pub find-next : {X : Type 0} (p : X → Bool) (xs : List X) (i : ℕ) (x : X) (answer : Option X) →
+    slice_get xs i ≡ Some x → p x ≡ false →
     find p (drop i xs) ≡ answer → find p (drop (i + 1) xs) ≡ answer
 find-next {X} p xs i x answer at fails h = ap (λ n. find p (drop n xs)) (add-one i) ∙ (behind xs i at ∙ h)
   where
@@ -27,4 +29,5 @@ find-Some p (y ∷ ys) x h = by_test (p y) refl (find-Some p ys x)
 -- what is read as a word is its spelling
 pub word_spelled : (bytes : List ℕ) (w : Word) → word_of bytes ≡ Some w → bytes ≡ spelling_of w
 unfolding word_of
-word_spelled bytes w h = sym ((bytes_eq-Decides (spelling_of w) bytes).0 (find-Some (λ w. bytes_eq (spelling_of w) bytes) words w h))
+word_spelled bytes w h =
+    sym ((bytes_eq-Decides (spelling_of w) bytes).0 (find-Some (λ w. bytes_eq (spelling_of w) bytes) words w h))

@@ -1,5 +1,6 @@
 -- What is due behind some lines. The machine that a reader runs.
-use Rattle.std.specs.Prelude.{Bool, true, false, ◌&&◌, not, List, [], ◌∷◌, ◌++◌, map, length, Option, Some, None, if◌then◌else◌}
+use Rattle.std.specs.Prelude.{Bool, true, false, ◌&&◌, not, List, [], ◌∷◌, ◌++◌, map, length, Option, Some, None}
+use Rattle.std.specs.Prelude.{if◌then◌else◌}
 use Rattle.std.specs.Option.{option_and_then}
 use Rattle.water_model.specs.declared.types.Basin.{Basin}
 use Rattle.water_model.specs.Places.{numbers_from}
@@ -49,4 +50,5 @@ all_due b = record { must = false; dues = due b }
 abbrev pub due_after : Basin → Due → List Item → Option Due
 due_after b s [] = Some s
 due_after b s (item ∷ items) =
-    option_and_then (λ dues. due_after b (record { must = is_call item; dues = dues }) items) (step b s.must s.dues item)
+    option_and_then (λ dues. due_after b (record { must = is_call item; dues = dues }) items)
+    (step b s.must s.dues item)

@@ -14,8 +14,8 @@ use Rattle.result_reader.specs.Reading.{item_of, read_line}
 use Rattle.result_reader.specs.Records.{AreTextMonths}
 use Rattle.result_reader.specs.declared.bad_line.BadLine.TheVariants as bad
 
--- What is read is what the line says. A line says an item exactly where it is that item's spelling, and the item one that
--- a text of the basin may have.
+-- What is read is what the line says. A line says an item exactly where it is that item's spelling, and the item one
+-- that a text of the basin may have.
 abbrev pub LineSaysItsItem : Type 0
 LineSaysItsItem =
     (b : Basin) (bytes : List ℕ) (item : Item) → IsValidBasin b →
@@ -43,7 +43,8 @@ OthersAreOutOfPlace =
 -- What is written can be read. Each line of the text of records of all months is accepted behind those before it.
 abbrev pub TextsAreAccepted : Type 0
 TextsAreAccepted =
-    (b : Basin) (series : Inflows) (records : List MonthRecord) (before after : List Item) (item : Item) → IsValidBasin b →
+    (b : Basin) (series : Inflows) (records : List MonthRecord) (before after : List Item) (item : Item) →
+    IsValidBasin b →
     AreTextMonths b series records → length records ≡ b.months → items_of b records ≡ before ++ item ∷ after →
     read_line b before (line_of b item) ≡ Ok item
 

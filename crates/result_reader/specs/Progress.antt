@@ -1,5 +1,6 @@
 -- Where a reader stands among the lines that are due.
-use Rattle.std.specs.Prelude.{◌≡◌, ℕ, ◌+◌, ◌-◌, ◌<◌, ◌≤◌, true, List, [], ◌∷◌, ◌++◌, map, length, drop, Option, Some, None, IsSome, IfSome}
+use Rattle.std.specs.Prelude.{◌≡◌, ℕ, ◌+◌, ◌-◌, ◌<◌, ◌≤◌, true, List, [], ◌∷◌, ◌++◌, map, length, drop, Option, Some}
+use Rattle.std.specs.Prelude.{None, IsSome, IfSome}
 use Rattle.water_model.specs.Places.{numbers_from}
 use Rattle.water_model.specs.declared.item.Item.{Item}
 use Rattle.water_model.specs.declared.types.Basin.{Basin}
@@ -16,9 +17,12 @@ use Rattle.result_reader.specs.declared.shape.Shape.TheVariants as shape
 -- what a search over the lines of a month from a place on says of all that is due
 abbrev pub IsFound : Basin → List Shape → ℕ → Item → Found → Type 0
 IsFound b dues from item (found.At at) =
-    (at < length dues) × ((others : List Shape) → take_line b (drop from dues ++ others) item ≡ Some (opened b item ++ (drop (at + 1) dues ++ others)))
+    (at < length dues) ×
+    ((others : List Shape) →
+    take_line b (drop from dues ++ others) item ≡ Some (opened b item ++ (drop (at + 1) dues ++ others)))
 IsFound b dues from item found.Blocked = (others : List Shape) → take_line b (drop from dues ++ others) item ≡ None
-IsFound b dues from item found.Passed = (others : List Shape) → take_line b (drop from dues ++ others) item ≡ take_line b others item
+IsFound b dues from item found.Passed = (others : List Shape) →
+    take_line b (drop from dues ++ others) item ≡ take_line b others item
 
 -- what is due behind so many months
 abbrev pub months_due : Basin → ℕ → List Shape
@@ -65,4 +69,5 @@ pub record IsProgress (b : Basin) (dues : List Shape) (p : Progress) : Type 0 wh
 abbrev pub IsNextProgress : Basin → List Shape → Progress → Item → Option Progress → Type 0
 IsNextProgress b dues p item None = step b p.must (dues_of b dues p) item ≡ None
 IsNextProgress b dues p item (Some next) =
-    (step b p.must (dues_of b dues p) item ≡ Some (dues_of b dues next)) × (next.must ≡ is_call item) × IsProgress b dues next
+    (step b p.must (dues_of b dues p) item ≡ Some (dues_of b dues next)) × (next.must ≡ is_call item) ×
+    IsProgress b dues next

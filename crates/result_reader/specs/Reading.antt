@@ -1,5 +1,6 @@
 -- What a line says.
-use Rattle.std.specs.Prelude.{ℕ, ◌^◌, List, [], ◌∷◌, ◌++◌, length, codes, Option, Some, None, Result, Ok, Err, is_some, nat_le, nat_lt, ◌==◌, if◌then◌else◌}
+use Rattle.std.specs.Prelude.{ℕ, ◌^◌, List, [], ◌∷◌, ◌++◌, length, codes, Option, Some, None, Result, Ok, Err, is_some}
+use Rattle.std.specs.Prelude.{nat_le, nat_lt, ◌==◌, if◌then◌else◌}
 use Rattle.std.specs.Borrow.{Bor}
 use Rattle.std.specs.List.{slice_split}
 use Rattle.std.specs.Option.{ok_or}
@@ -65,7 +66,8 @@ amount_field field = ok_or (read_plain field (10 ^ 15)) bad.BadField
 
 abbrev pub count_field : List ℕ → Result ℕ BadLine
 count_field field =
-    and_then (ok_or (read_plain field 1200) bad.BadField) (λ count. if nat_le 1 count then Ok count else Err bad.BadField)
+    and_then (ok_or (read_plain field 1200) bad.BadField)
+    (λ count. if nat_le 1 count then Ok count else Err bad.BadField)
 
 -- the entry that has the name. Where none has it, no such line may come
 abbrev pub entry_named : Basin → Space → List ℕ → Result ℕ BadLine
@@ -78,13 +80,15 @@ item_with b word.Title fields =
 item_with b word.Run fields =
     and_then (two_fields fields) (λ f. and_then (month_field f.0) (λ first. and_then (count_field f.1) (λ months.
     Ok (line.Run first months))))
-item_with b word.Month fields = and_then (one_field fields) (λ x. and_then (month_field x) (λ month. Ok (line.Month month)))
+item_with b word.Month fields =
+    and_then (one_field fields) (λ x. and_then (month_field x) (λ month. Ok (line.Month month)))
 item_with b (word.Amount q) fields =
     and_then (two_fields fields) (λ f. and_then (name_field f.0) (λ name. and_then (amount_field f.1) (λ amount.
     and_then (entry_named b (space_of q) name) (λ entry. Ok (line.Amount q entry amount)))))
 item_with b word.Deliver fields =
     and_then (three_fields fields) (λ f. and_then (name_field f.0) (λ name. and_then (amount_field f.1) (λ amount.
-    and_then (amount_field f.2) (λ want. and_then (entry_named b space.Rights name) (λ right. Ok (line.Deliver right amount want))))))
+    and_then (amount_field f.2)
+    (λ want. and_then (entry_named b space.Rights name) (λ right. Ok (line.Deliver right amount want))))))
 item_with b word.Call fields =
     and_then (one_field fields) (λ x. and_then (name_field x) (λ name.
     and_then (entry_named b space.Rights name) (λ right. Ok (line.Call right))))
@@ -96,7 +100,8 @@ item_with b word.Called fields =
     and_then (entry_named b space.Rights name) (λ right. and_then (entry_named b space.Rights other) (λ by'.
     Ok (line.Called right by'))))))
 item_with b word.End fields = and_then (no_field fields) (λ _. Ok line.End)
-item_with b word.Done fields = and_then (one_field fields) (λ x. and_then (count_field x) (λ months. Ok (line.Done months)))
+item_with b word.Done fields =
+    and_then (one_field fields) (λ x. and_then (count_field x) (λ months. Ok (line.Done months)))
 
 abbrev pub item_in : Basin → List (List ℕ) → Result Item BadLine
 item_in b [] = Err bad.UnknownWord

@@ -1,8 +1,10 @@
 -- Records of months as a text tells them.
-use Rattle.std.specs.Prelude.{◌≡◌, ℕ, ◌+◌, ◌<◌, ◌≤◌, ◌^◌, Bool, List, map, length, slice_index, slice_get, take, All, Some, None, IsTrue}
+use Rattle.std.specs.Prelude.{◌≡◌, ℕ, ◌+◌, ◌<◌, ◌≤◌, ◌^◌, Bool, List, map, length, slice_index, slice_get, take, All}
+use Rattle.std.specs.Prelude.{Some, None, IsTrue}
 use Rattle.std.specs.List.{list_any}
 use Rattle.water_model.specs.History.{FitsBasin, IsShort, cut_of}
-use Rattle.water_model.specs.Hydrology.{run_month, in_year, inflow_at, evaporation, returned_at, stored_at, used_of, want_of}
+use Rattle.water_model.specs.Hydrology.{run_month, in_year, inflow_at, evaporation, returned_at, stored_at, used_of}
+use Rattle.water_model.specs.Hydrology.{want_of}
 use Rattle.water_model.specs.Lookups.{of_entry}
 use Rattle.water_model.specs.Plans.{IsPlan, delivery}
 use Rattle.water_model.specs.Quantities.{amounts_of}
@@ -11,15 +13,16 @@ use Rattle.water_model.specs.declared.types.Basin.{Basin}
 use Rattle.water_model.specs.declared.types.Inflows.{Inflows}
 use Rattle.water_model.specs.declared.types.MonthRecord.{MonthRecord}
 
--- The record is of the month that follows the records before, with any opening, closing and sets: its lists fit the basin,
--- evaporation, returns, supply, use and wants are those of the opening and the records before, and it has a plan and what
--- the plan delivers.
+-- The record is of the month that follows the records before, with any opening, closing and sets: its lists fit the
+-- basin, evaporation, returns, supply, use and wants are those of the opening and the records before, and it has a plan
+-- and what the plan delivers.
 pub record IsMonthBehind (b : Basin) (series : Inflows) (before : List MonthRecord) (m : MonthRecord) : Type 0 where
   pub fits : FitsBasin b m
   pub index : m.index ≡ length before
   pub month : m.month ≡ run_month b m.index
   pub evaporated : (v : ℕ) → v < length b.reservoirs → slice_index m.evaporated v
-      ≡ of_entry b.reservoirs v (λ r. evaporation r.area (slice_index m.opening v) (slice_index r.rate (in_year b m.index))) 0
+      ≡ of_entry b.reservoirs v
+      (λ r. evaporation r.area (slice_index m.opening v) (slice_index r.rate (in_year b m.index))) 0
   pub returned : (n : ℕ) → n < length b.nodes → slice_index m.returned n
       ≡ returned_at b (map (λ k. k.delivered) before) n m.index
   pub supply : (n : ℕ) → n < length b.nodes → slice_index m.supply n
@@ -34,7 +37,8 @@ pub record IsMonthBehind (b : Basin) (series : Inflows) (before : List MonthReco
 -- each short right has a set with at least one node, and every other right has none
 pub record HasSets (b : Basin) (m : MonthRecord) : Type 0 where
   pub short : (r : ℕ) → r < length b.rights → IsShort m r →
-      (set : List Bool) × (cut_of m r ≡ Some set) × (length set ≡ length b.nodes) × IsTrue (list_any (λ in_set. in_set) set)
+      (set : List Bool) × (cut_of m r ≡ Some set) × (length set ≡ length b.nodes) ×
+      IsTrue (list_any (λ in_set. in_set) set)
   pub met : (r : ℕ) → r < length b.rights → slice_index m.want r ≤ slice_index m.delivered r → cut_of m r ≡ None
 
 abbrev pub AreTextAmounts : List ℕ → Type 0

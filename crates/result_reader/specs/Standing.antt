@@ -20,7 +20,8 @@ pub record ReaderSeen : Type 0 where
 abbrev pub StandsFor : ReaderSeen → List Item → Type 0
 StandsFor r items = due_after r.basin (all_due r.basin) items ≡ Some r.due
 
--- how many lines may come at most for a line that is due: a `call` with an `in` line for each node, and one for every other
+-- how many lines may come at most for a line that is due: a `call` with an `in` line for each node, and one for every
+-- other
 abbrev pub most_for : Basin → Shape → ℕ
 most_for b (shape.Call right) = 1 + length b.nodes
 most_for b other = 1

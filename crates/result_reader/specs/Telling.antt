@@ -1,5 +1,6 @@
 -- What the lines of a text tell of the months' records.
-use Rattle.std.specs.Prelude.{ℕ, ◌+◌, true, false, List, [], ◌∷◌, ◌++◌, map, fold, length, replicate, Option, Some, None, option_map, is_some, if◌then◌else◌, slice_index, slice_set}
+use Rattle.std.specs.Prelude.{ℕ, ◌+◌, true, false, List, [], ◌∷◌, ◌++◌, map, fold, length, replicate, Option, Some}
+use Rattle.std.specs.Prelude.{None, option_map, is_some, if◌then◌else◌, slice_index, slice_set}
 use Rattle.water_text.specs.declared.month.Month.{Month}
 use Rattle.water_model.specs.Basin.{taking_node}
 use Rattle.water_model.specs.CutSets.{with_set}
@@ -32,7 +33,12 @@ blank_month b index month = record {
   used = replicate (length b.rights) 0;
   supply = replicate (length b.nodes) 0;
   want = replicate (length b.rights) 0;
-  plan = record { flow = replicate (length b.links) 0; take = replicate (length b.rights) 0; out = replicate (length b.nodes) 0 };
+  plan = record {
+    flow = replicate (length b.links) 0;
+    take = replicate (length b.rights) 0;
+    out =
+        replicate (length b.nodes) 0;
+  };
   delivered = replicate (length b.rights) 0;
   cuts = record { nodes = length b.nodes; sets = replicate (length b.rights) None };
   closing = replicate (length b.reservoirs) 0;
@@ -44,7 +50,8 @@ nothing_told b = record { months = []; now = blank_month b 0 b.first; calling = 
 -- the supply follows from the lines of the reservoirs and returns
 abbrev pub with_supply : Basin → Inflows → MonthRecord → MonthRecord
 with_supply b series m = record m {
-  supply = map (λ n. inflow_at b series n m.index + slice_index m.returned n + stored_at b m.opening m.evaporated n) (places_of b.nodes);
+  supply = map (λ n. inflow_at b series n m.index + slice_index m.returned n + stored_at b m.opening m.evaporated n)
+      (places_of b.nodes);
 }
 
 abbrev pub with_now : Told → MonthRecord → Told
@@ -53,13 +60,20 @@ with_now t m = record t { now = m; calling = None }
 abbrev pub with_member : Told → Option ℕ → ℕ → Told
 with_member t None node = t
 with_member t (Some right) node =
-    record t { now = record t.now { cuts = with_set t.now.cuts right (option_map (λ set. slice_set set node true) (cut_of t.now right)) } }
+    record t {
+      now =
+          record t.now {
+            cuts =
+                with_set t.now.cuts right (option_map (λ set. slice_set set node true) (cut_of t.now right));
+          };
+    }
 
 -- what is told with one line more
 abbrev pub tell : Basin → Inflows → Told → Item → Told
 tell b series t line.Title = t
 tell b series t (line.Run first months) = t
-tell b series t (line.Month month) = record { months = t.months; now = blank_month b (length t.months) month; calling = None; called = 0 }
+tell b series t (line.Month month) =
+    record { months = t.months; now = blank_month b (length t.months) month; calling = None; called = 0 }
 tell b series t (line.Amount q entry amount) =
     with_now t (with_amounts q t.now (slice_set (amounts_of q t.now) entry amount))
 tell b series t (line.Deliver r amount want) = with_now t (record t.now {
@@ -68,7 +82,11 @@ tell b series t (line.Deliver r amount want) = with_now t (record t.now {
   plan = record t.now.plan { take = slice_set t.now.plan.take r (if is_some (taking_node b r) then amount else 0) };
 })
 tell b series t (line.Call r) =
-    record t { now = record t.now { cuts = with_set t.now.cuts r (Some (replicate (length b.nodes) false)) }; calling = Some r }
+    record t {
+      now = record t.now { cuts = with_set t.now.cuts r (Some (replicate (length b.nodes) false)) };
+      calling =
+          Some r;
+    }
 tell b series t (line.Member n) = with_member t t.calling n
 tell b series t (line.Called r caller) = record t { calling = None; called = t.called + 1 }
 tell b series t line.End = record t { months = t.months ++ with_supply b series t.now ∷ []; calling = None }

@@ -1,5 +1,6 @@
 //! Laws over what is read, and over the form of a text. Each is the contract of a function that does nothing.
-ghost use Rattle.result_reader.specs.Laws.{LineSaysItsItem, FrontsAreDue, FrontsAreAccepted, OthersAreOutOfPlace, TextsAreAccepted, TextsHaveOneReading};
+ghost use Rattle.result_reader.specs.Laws.{LineSaysItsItem, FrontsAreDue, FrontsAreAccepted, OthersAreOutOfPlace};
+ghost use Rattle.result_reader.specs.Laws.{TextsAreAccepted, TextsHaveOneReading};
 
 /// What is read is what the line says, and nothing else is.
 pub fn line_says_its_item()

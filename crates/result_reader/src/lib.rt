@@ -1,9 +1,9 @@
 //! The result text of a run, read line by line.
 //!
 //! A `ResultReader` accepts the lines of a text in order, each where it may come next, and answers what the line says.
-//! The form of a text is a list of the lines that are due for a basin: each has to come in its order, but for `call` and
-//! `called` lines, which may be left out, and a `call` is followed by the nodes of some set. Only `ResultReader::open`
-//! takes memory.
+//! The form of a text is a list of the lines that are due for a basin: each has to come in its order, but for `call`
+//! and `called` lines, which may be left out, and a `call` is followed by the nodes of some set. Only
+//! `ResultReader::open` takes memory.
 #![tactic(auto)]
 
 mod bad_line;

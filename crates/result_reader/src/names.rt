@@ -34,7 +34,8 @@ fn add_place<'b>(
     place: u32,
 ) -> Result<(), AllocError>
     ensures { OnOk result ((q : List ℕ) →
-        kept_at places.new q ≡ option_or (kept_at places.old q) (if bytes_eq q name.entry.now then Some place else None)) }
+        kept_at places.new q ≡ option_or (kept_at places.old q)
+        (if bytes_eq q name.entry.now then Some place else None)) }
 {
     if !places.contains_key(name) {
         places.insert(name, place)?;

@@ -39,7 +39,12 @@ impl<'b> Model for ResultReader<'b> {
 
     ghost Value = { ReaderSeen };
 
-    ghost view = { λ r. record { basin = r.names.basin.now; due = due_of r.names.basin.now r.dues.items r.progress; left = r.left } };
+    ghost view = { λ r. record {
+      basin = r.names.basin.now;
+      due = due_of r.names.basin.now r.dues.items r.progress;
+      left =
+          r.left;
+    } };
 
     ghost invariant = { λ r. IsReader r.names.basin.now r.dues.items r.progress r.left };
 }
@@ -89,17 +94,20 @@ impl<'b> ResultReader<'b> {
     /// units of 1,000 cubic metres.
     ///
     /// A line is refused as `OverLong` where it has more than 128 bytes; else as `UnknownWord` where its first word is
-    /// none of a text's; else as `BadField` where its fields aren't those of its word, spelled as names, months, amounts
-    /// up to 10^15 or numbers of months from 1 to 1,200; and else as `OutOfPlace` exactly where it names what the basin
-    /// doesn't have, or the lines accepted so far and this one aren't the front of a whole text. A refused line changes
-    /// nothing.
+    /// none of a text's; else as `BadField` where its fields aren't those of its word, spelled as names, months,
+    /// amounts up to 10^15 or numbers of months from 1 to 1,200; and else as `OutOfPlace` exactly where it names what
+    /// the basin doesn't have, or the lines accepted so far and this one aren't the front of a whole text. A refused
+    /// line changes nothing.
     ///
     /// No memory is taken. The cost is the line's length, a look-up of each name, and a step for each line that is due,
     /// may be left out and is passed over.
     pub fn line(&mut self, text: &[u8]) -> Result<Item, BadLine>
-        ensures answer { (items : List Item) → StandsFor self.old items → result ≡ read_line self.old.basin items text.now }
-        ensures accepted { IfOk result (λ item. (items : List Item) → StandsFor self.old items → StandsFor self.new (items ++ item ∷ [])) }
-        ensures spelled { IfOk result (λ item. (text.now ≡ line_of self.old.basin item) × IsOfText self.old.basin item) }
+        ensures answer { (items : List Item) → StandsFor self.old items →
+            result ≡ read_line self.old.basin items text.now }
+        ensures accepted { IfOk result (λ item. (items : List Item) → StandsFor self.old items →
+            StandsFor self.new (items ++ item ∷ [])) }
+        ensures spelled { IfOk result (λ item. (text.now ≡ line_of self.old.basin item) ×
+            IsOfText self.old.basin item) }
         ensures refused { OnErr result (self.new ≡ self.old) }
         ensures basin { self.new.basin ≡ self.old.basin }
         ensures left { OnOk result (self.new.left + 1 ≡ self.old.left) }

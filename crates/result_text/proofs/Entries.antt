@@ -6,12 +6,14 @@ use Rattle.water_model.specs.Places.{numbers_from}
 use Rattle.water_model.proofs.Order.{length-numbers_from, numbers_from-get}
 
 -- a place is its own entry
-pub place_at : (entries : List ℕ) (count k : ℕ) → entries ≡ numbers_from 0 count → k < count → slice_get entries k ≡ Some k
+pub place_at : (entries : List ℕ) (count k : ℕ) → entries ≡ numbers_from 0 count → k < count →
+    slice_get entries k ≡ Some k
 place_at entries count k is l = ap (λ xs. slice_get xs k) is ∙ numbers_from-get 0 count k k l (omega arith)
 
 pub places_end : (entries : List ℕ) (count k : ℕ) → entries ≡ numbers_from 0 count → count ≤ k → length entries ≤ k
 places_end entries count k is l = omega (arith, ap length is, length-numbers_from 0 count)
 
 -- a right in the order is an entry
-pub right_at : (entries order : List ℕ) (k : ℕ) → entries ≡ order → k < length order → slice_get entries k ≡ Some (get_or order k 0)
+pub right_at : (entries order : List ℕ) (k : ℕ) → entries ≡ order → k < length order →
+    slice_get entries k ≡ Some (get_or order k 0)
 right_at entries order k is l = ap (λ xs. slice_get xs k) is ∙ slice_get-get_or order k 0 l

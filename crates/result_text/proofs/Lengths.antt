@@ -27,11 +27,17 @@ name_short text h = within (nat_le 1 (length text)) (length text) (list_all is_n
 all_at : {X : Type 0} (P : X → Type 0) (xs : List X) (k : ℕ) (x : X) → All P xs → slice_get xs k ≡ Some x → P x
 all_at P xs k x h e = subst P (get_or_from_slice_get xs k x x e) (h k x (slice_get_within xs k x e))
 
-pub node_name_short : (b : Basin) (k : ℕ) (n : node.Node) → IsValidBasin b → slice_get b.nodes k ≡ Some n → length n.name ≤ 32
-node_name_short b k n valid e = let is : IsValidNode n = all_at IsValidNode b.nodes k n valid.nodes e in name_short n.name is.name
+pub node_name_short : (b : Basin) (k : ℕ) (n : node.Node) → IsValidBasin b → slice_get b.nodes k ≡ Some n →
+    length n.name ≤ 32
+node_name_short b k n valid e = let is : IsValidNode n = all_at IsValidNode b.nodes k n valid.nodes e in
+    name_short n.name is.name
 
-pub link_name_short : (b : Basin) (k : ℕ) (l : link.Link) → IsValidBasin b → slice_get b.links k ≡ Some l → length l.name ≤ 32
-link_name_short b k l valid e = let is : IsValidLink b l = all_at (IsValidLink b) b.links k l valid.links e in name_short l.name is.name
+pub link_name_short : (b : Basin) (k : ℕ) (l : link.Link) → IsValidBasin b → slice_get b.links k ≡ Some l →
+    length l.name ≤ 32
+link_name_short b k l valid e = let is : IsValidLink b l = all_at (IsValidLink b) b.links k l valid.links e in
+    name_short l.name is.name
 
-pub right_name_short : (b : Basin) (k : ℕ) (r : right.Right) → IsValidBasin b → slice_get b.rights k ≡ Some r → length r.name ≤ 32
-right_name_short b k r valid e = let is : IsValidRight b r = all_at (IsValidRight b) b.rights k r valid.rights e in name_short r.name is.name
+pub right_name_short : (b : Basin) (k : ℕ) (r : right.Right) → IsValidBasin b → slice_get b.rights k ≡ Some r →
+    length r.name ≤ 32
+right_name_short b k r valid e = let is : IsValidRight b r = all_at (IsValidRight b) b.rights k r valid.rights e in
+    name_short r.name is.name

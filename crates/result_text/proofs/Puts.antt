@@ -1,5 +1,7 @@
 -- Pieces that are put one after another.
-use Rattle.std.proofs.Common.{◌≡◌, ℕ, zero, suc, ◌+◌, ◌≤◌, List, [], ◌∷◌, ◌++◌, length, take, drop, Option, Some, None, Result, Ok, Err, refl, sym, ap, subst, ◌∙◌, arith, append_assoc, append-nil, add-one, length-append, take_all}
+use Rattle.std.proofs.Common.{◌≡◌, ℕ, zero, suc, ◌+◌, ◌≤◌, List, [], ◌∷◌, ◌++◌, length, take, drop, Option, Some, None}
+use Rattle.std.proofs.Common.{Result, Ok, Err, refl, sym, ap, subst, ◌∙◌, arith, append_assoc, append-nil, add-one}
+use Rattle.std.proofs.Common.{length-append, take_all}
 use Rattle.std.specs.Prelude.{slice_get, IsErr}
 use Rattle.std.specs.List.{flat_map}
 use Rattle.std.specs.Io.KnownBytes.{Appends}
@@ -9,7 +11,8 @@ use Rattle.std.proofs.lemmas.List.{take-append-le}
 use Rattle.water_edge.specs.Edge.{Puts}
 
 -- two pieces make one
-pub Appends-then : (old mid new : Option (List ℕ)) (a b : List ℕ) → Appends old mid a → Appends mid new b → Appends old new (a ++ b)
+pub Appends-then : (old mid new : Option (List ℕ)) (a b : List ℕ) → Appends old mid a → Appends mid new b →
+    Appends old new (a ++ b)
 Appends-then None mid new a b h k = tt
 Appends-then (Some xs) None new a b h k = absurd h
 Appends-then (Some xs) (Some ys) None a b h k = absurd k
@@ -20,29 +23,37 @@ abbrev pub PutsFront : Option (List ℕ) → Option (List ℕ) → List ℕ → 
 PutsFront old new piece = (count : ℕ) × (count ≤ length piece) × Appends old new (take count piece)
 
 -- which is what a failed call may do
-pub PutsFront-fails : {E : Type 0} (old new : Option (List ℕ)) (r : Result (Unit {0}) E) (piece : List ℕ) → IsErr r → PutsFront old new piece → Puts old new r piece
+pub PutsFront-fails : {E : Type 0} (old new : Option (List ℕ)) (r : Result (Unit {0}) E) (piece : List ℕ) → IsErr r →
+    PutsFront old new piece → Puts old new r piece
 PutsFront-fails old new (Ok u) piece failed h = cc
 PutsFront-fails old new (Err e) piece failed h = h
 
 -- a piece that was put whole, and then a front of another
-pub PutsFront-then : (old mid new : Option (List ℕ)) (a b : List ℕ) → Appends old mid a → PutsFront mid new b → PutsFront old new (a ++ b)
-PutsFront-then old mid new a b h k =
-    (length a + k.0, omega (arith, length-append a b, k.1), rw (take-append-add a b k.0) (Appends-then old mid new a (take k.0 b) h k.2))
+pub PutsFront-then : (old mid new : Option (List ℕ)) (a b : List ℕ) → Appends old mid a → PutsFront mid new b →
+    PutsFront old new (a ++ b)
+PutsFront-then old mid new a b h k = (
+  length a + k.0,
+  omega (arith, length-append a b, k.1),
+  rw (take-append-add a b k.0) (Appends-then old mid new a (take k.0 b) h k.2),
+)
 
 -- a front of a piece is a front of whatever goes on with it
 pub PutsFront-cut : (old new : Option (List ℕ)) (a b : List ℕ) → PutsFront old new a → PutsFront old new (a ++ b)
 PutsFront-cut old new a b k = (k.0, omega (arith, length-append a b, k.1), rw (take-append-le k.0 a b k.1) k.2)
 
 -- a piece that was put whole, and then another
-pub Puts-then : {E : Type 0} (old mid new : Option (List ℕ)) (r : Result (Unit {0}) E) (a b : List ℕ) → Appends old mid a → Puts mid new r b → Puts old new r (a ++ b)
+pub Puts-then : {E : Type 0} (old mid new : Option (List ℕ)) (r : Result (Unit {0}) E) (a b : List ℕ) →
+    Appends old mid a → Puts mid new r b → Puts old new r (a ++ b)
 Puts-then old mid new (Ok u) a b h k = Appends-then old mid new a b h k
 Puts-then old mid new (Err e) a b h k = PutsFront-then old mid new a b h k
 
 -- the piece of the first item, and then those of the others
-pub Puts-first : {Y E : Type 0} (h : Y → List ℕ) (y : Y) (ys : List Y) (old mid new : Option (List ℕ)) (r : Result (Unit {0}) E) →
+pub Puts-first : {Y E : Type 0} (h : Y → List ℕ) (y : Y) (ys : List Y) (old mid new : Option (List ℕ))
+    (r : Result (Unit {0}) E) →
     Appends old mid (flat_map h (y ∷ [])) → Puts mid new r (flat_map h ys) → Puts old new r (flat_map h (y ∷ ys))
 Puts-first h y ys old mid new r here further =
-    Puts-then old mid new r (h y) (flat_map h ys) (subst (λ (piece : List ℕ). Appends old mid piece) (append-nil (h y)) here) further
+    Puts-then old mid new r (h y) (flat_map h ys)
+    (subst (λ (piece : List ℕ). Appends old mid piece) (append-nil (h y)) here) further
 
 -- Three pieces, of which the first fails, or the second, or all so far were put.
 
@@ -62,24 +73,30 @@ Puts-third old mid next new r a b c h k l = Puts-then old mid new r a (b ++ c) h
 
 -- The pieces of the elements of a list, one element after another. Each element has items, and each item a piece.
 
-more : {X Y : Type 0} (f : X → List Y) (xs : List X) (k : ℕ) (x : X) → slice_get xs k ≡ Some x → flat_map f (take (suc k) xs) ≡ flat_map f (take k xs) ++ f x
+more : {X Y : Type 0} (f : X → List Y) (xs : List X) (k : ℕ) (x : X) → slice_get xs k ≡ Some x →
+    flat_map f (take (suc k) xs) ≡ flat_map f (take k xs) ++ f x
 more f [] k x h = let none : None ≡ Some x = h in cc
 more f (y ∷ ys) zero x h = let same : y ≡ x = cc in rw same (append-nil (f x))
-more f (y ∷ ys) (suc k) x h = ap (λ t. f y ++ t) (more f ys k x h) ∙ sym (append_assoc (f y) (flat_map f (take k ys)) (f x))
+more f (y ∷ ys) (suc k) x h =
+    ap (λ t. f y ++ t) (more f ys k x h) ∙ sym (append_assoc (f y) (flat_map f (take k ys)) (f x))
 
 parts : {X Y : Type 0} (f : X → List Y) (xs : List X) (k : ℕ) (x : X) → slice_get xs k ≡ Some x →
     flat_map f xs ≡ flat_map f (take k xs) ++ (f x ++ flat_map f (drop (suc k) xs))
 parts f [] k x h = let none : None ≡ Some x = h in cc
 parts f (y ∷ ys) zero x h = let same : y ≡ x = cc in rw same refl
-parts f (y ∷ ys) (suc k) x h = ap (λ t. f y ++ t) (parts f ys k x h) ∙ sym (append_assoc (f y) (flat_map f (take k ys)) (f x ++ flat_map f (drop (suc k) ys)))
+parts f (y ∷ ys) (suc k) x h =
+    ap (λ t. f y ++ t) (parts f ys k x h)
+    ∙ sym (append_assoc (f y) (flat_map f (take k ys)) (f x ++ flat_map f (drop (suc k) ys)))
 
 -- so far the items of the first elements were put, and the count of faults did not fall
-pub record SoFar {X Y : Type 0} (h : Y → List ℕ) (f : X → List Y) (xs : List X) (k : ℕ) (old now : Option (List ℕ)) (before after : ℕ) : Type 0 where
+pub record SoFar {X Y : Type 0} (h : Y → List ℕ) (f : X → List Y) (xs : List X) (k : ℕ) (old now : Option (List ℕ))
+    (before after : ℕ) : Type 0 where
   pub put : Appends old now (flat_map h (flat_map f (take k xs)))
   pub later : before ≤ after
 
 -- nothing yet
-pub SoFar-none : {X Y : Type 0} (h : Y → List ℕ) (f : X → List Y) (xs : List X) (old : Option (List ℕ)) (before : ℕ) → SoFar h f xs 0 old old before before
+pub SoFar-none : {X Y : Type 0} (h : Y → List ℕ) (f : X → List Y) (xs : List X) (old : Option (List ℕ)) (before : ℕ) →
+    SoFar h f xs 0 old old before before
 SoFar-none h f xs old before = record { put = nothing old; later = omega arith }
   where
     nothing : (old : Option (List ℕ)) → Appends old old []
@@ -87,8 +104,10 @@ SoFar-none h f xs old before = record { put = nothing old; later = omega arith }
     nothing (Some bytes) = sym (append-nil bytes)
 
 -- one element more
-pub SoFar-next : {X Y : Type 0} {h : Y → List ℕ} {f : X → List Y} {xs : List X} {k : ℕ} {old mid new : Option (List ℕ)} {before between after : ℕ} (x : X) →
-    SoFar h f xs k old mid before between → slice_get xs k ≡ Some x → Appends mid new (flat_map h (f x)) → between ≤ after →
+pub SoFar-next : {X Y : Type 0} {h : Y → List ℕ} {f : X → List Y} {xs : List X} {k : ℕ} {old mid new : Option (List ℕ)}
+    {before between after : ℕ} (x : X) →
+    SoFar h f xs k old mid before between → slice_get xs k ≡ Some x → Appends mid new (flat_map h (f x)) →
+    between ≤ after →
     SoFar h f xs (k + 1) old new before after
 SoFar-next {h} {f} {xs} {k} {old} {mid} {new} x s at here later = record {
   put = rw (add-one k, more f xs k x at, flat_map-append h (flat_map f (take k xs)) (f x))
@@ -97,21 +116,25 @@ SoFar-next {h} {f} {xs} {k} {old} {mid} {new} x s at here later = record {
 }
 
 -- an element that failed
-pub SoFar-fails : {X Y E : Type 0} {h : Y → List ℕ} {f : X → List Y} {xs : List X} {k : ℕ} {old mid : Option (List ℕ)} {before between : ℕ} (x : X) (new : Option (List ℕ)) (r : Result (Unit {0}) E) →
+pub SoFar-fails : {X Y E : Type 0} {h : Y → List ℕ} {f : X → List Y} {xs : List X} {k : ℕ} {old mid : Option (List ℕ)}
+    {before between : ℕ} (x : X) (new : Option (List ℕ)) (r : Result (Unit {0}) E) →
     SoFar h f xs k old mid before between → slice_get xs k ≡ Some x → PutsFront mid new (flat_map h (f x)) → IsErr r →
     Puts old new r (flat_map h (flat_map f xs))
 SoFar-fails {h} {f} {xs} {k} {old} {mid} x new r s at here failed =
     PutsFront-fails old new r (flat_map h (flat_map f xs)) failed
-    (rw all (PutsFront-then old mid new (flat_map h (flat_map f (take k xs))) (flat_map h (f x) ++ flat_map h (flat_map f (drop (suc k) xs))) s.put
+    (rw all (PutsFront-then old mid new (flat_map h (flat_map f (take k xs)))
+    (flat_map h (f x) ++ flat_map h (flat_map f (drop (suc k) xs))) s.put
     (PutsFront-cut mid new (flat_map h (f x)) (flat_map h (flat_map f (drop (suc k) xs))) here)))
   where
-    all : flat_map h (flat_map f xs) ≡ flat_map h (flat_map f (take k xs)) ++ (flat_map h (f x) ++ flat_map h (flat_map f (drop (suc k) xs)))
+    all : flat_map h (flat_map f xs) ≡ flat_map h
+        (flat_map f (take k xs)) ++ (flat_map h (f x) ++ flat_map h (flat_map f (drop (suc k) xs)))
     all =
         ap (flat_map h) (parts f xs k x at)
         ∙ (flat_map-append h (flat_map f (take k xs)) (f x ++ flat_map f (drop (suc k) xs))
         ∙ ap (λ t. flat_map h (flat_map f (take k xs)) ++ t) (flat_map-append h (f x) (flat_map f (drop (suc k) xs))))
 
 -- all elements
-pub SoFar-whole : {X Y : Type 0} {h : Y → List ℕ} {f : X → List Y} {xs : List X} {k : ℕ} {old now : Option (List ℕ)} {before after : ℕ} →
+pub SoFar-whole : {X Y : Type 0} {h : Y → List ℕ} {f : X → List Y} {xs : List X} {k : ℕ} {old now : Option (List ℕ)}
+    {before after : ℕ} →
     SoFar h f xs k old now before after → length xs ≤ k → Appends old now (flat_map h (flat_map f xs))
 SoFar-whole {h} {f} {xs} {k} {old} {now} s l = rw (take_all k xs l) at s.put

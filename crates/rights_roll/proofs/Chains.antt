@@ -1,5 +1,6 @@
 -- The chains of instream rights, built from the last right back.
-use Rattle.std.proofs.Common.{◌≡◌, ◌≢◌, ℕ, ◌+◌, ◌<◌, ◌≤◌, List, length, get_or, set, Option, Some, None, sym, ap, ◌∙◌, subst, inl, inr, arith}
+use Rattle.std.proofs.Common.{◌≡◌, ◌≢◌, ℕ, ◌+◌, ◌<◌, ◌≤◌, List, length, get_or, set, Option, Some, None, sym, ap, ◌∙◌}
+use Rattle.std.proofs.Common.{subst, inl, inr, arith}
 use Rattle.std.proofs.lemmas.Bool.{cases_eq}
 use Rattle.std.proofs.lemmas.List.{length-set, get_or-set_same, get_or-set_other}
 use Rattle.water_model.specs.declared.types.Right.{Right}
@@ -15,7 +16,8 @@ pub record ChainsFrom (rights : List Right) (first_on next_on : List (Option ℕ
   pub others : (right : ℕ) → link_in rights right ≡ None → get_or next_on right None ≡ None
 
 -- the answer from the place after one that is not on the link
-skip : (rights : List Right) (link k : ℕ) (o : Option ℕ) → link_in rights k ≢ Some link → IsNextOn rights link (k + 1) o → IsNextOn rights link k o
+skip : (rights : List Right) (link k : ℕ) (o : Option ℕ) → link_in rights k ≢ Some link →
+    IsNextOn rights link (k + 1) o → IsNextOn rights link k o
 skip rights link k None apart next = λ s from below e. elim (cases_eq s k) [
   | inl same ↦ apart (ap (link_in rights) (sym same) ∙ e)
   | inr other ↦ next s (let o : s ≢ k = other in omega arith) below e
@@ -31,7 +33,8 @@ skip rights link k (Some right) apart next = (
 )
 
 -- a right on a link goes before the first on it
-pub chains-more : (rights : List Right) (first_on next_on : List (Option ℕ)) (at k link : ℕ) (further : Option ℕ) → at ≡ k + 1 → k < length rights →
+pub chains-more : (rights : List Right) (first_on next_on : List (Option ℕ)) (at k link : ℕ) (further : Option ℕ) →
+    at ≡ k + 1 → k < length rights →
     link_in rights k ≡ Some link → further ≡ get_or first_on link None →
     ChainsFrom rights first_on next_on at → ChainsFrom rights (set first_on link (Some k)) (set next_on k further) k
 chains-more rights first_on next_on at k link further after below on is h = record {
@@ -52,14 +55,16 @@ chains-more rights first_on next_on at k link further after below on is h = reco
     same_link its e = let both : Some its ≡ Some link = sym e ∙ on in cc
 
     later : (its : ℕ) → IsNextOn rights its (k + 1) (get_or first_on its None)
-    later its = let P : ℕ → Type 0 = λ start. IsNextOn rights its start (get_or first_on its None) in subst P after (h.firsts its)
+    later its = let P : ℕ → Type 0 = λ start. IsNextOn rights its start (get_or first_on its None) in
+        subst P after (h.firsts its)
 
     first : (its : ℕ) → IsNextOn rights its k (get_or (set first_on link (Some k)) its None)
     first its = elim (cases_eq its link) [
       | inl same ↦ (
           let P : Option ℕ → Type 0 = λ o. IsNextOn rights its k o in
           let here : get_or (set first_on link (Some k)) its None ≡ Some k =
-          ap (λ j. get_or (set first_on link (Some k)) j None) same ∙ get_or-set_same first_on link (Some k) None (h.links k link on) in
+          ap (λ j. get_or (set first_on link (Some k)) j None) same
+          ∙ get_or-set_same first_on link (Some k) None (h.links k link on) in
           subst P (sym here) (omega arith, below, on ∙ ap (λ j. Some j) (sym same), λ s from before e. omega arith))
       | inr other ↦ (
           let P : Option ℕ → Type 0 = λ o. IsNextOn rights its k o in

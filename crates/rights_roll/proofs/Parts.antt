@@ -1,9 +1,11 @@
 -- Sums of the parts of return rows.
-use Rattle.std.proofs.Common.{◌≡◌, ◌≢◌, ℕ, ◌+◌, ◌-◌, ◌^◌, ◌<◌, ◌==◌, min, List, [], ◌∷◌, ◌++◌, length, take, replicate, get_or, set, nat_lt, Option, option_map, if◌then◌else◌, sym, ap, ◌∙◌, inl, inr, arith}
+use Rattle.std.proofs.Common.{◌≡◌, ◌≢◌, ℕ, ◌+◌, ◌-◌, ◌^◌, ◌<◌, ◌==◌, min, List, [], ◌∷◌, ◌++◌, length, take, replicate}
+use Rattle.std.proofs.Common.{get_or, set, nat_lt, Option, option_map, if◌then◌else◌, sym, ap, ◌∙◌, inl, inr, arith}
 use Rattle.std.specs.List.{position}
 use Rattle.std.proofs.lemmas.Bool.{cases_eq}
 use Rattle.std.proofs.lemmas.Bool.Decides.{nat_tests}
-use Rattle.std.proofs.lemmas.List.{take_more, length-replicate, get_or-replicate, length-set, get_or-set_same, get_or-set_other}
+use Rattle.std.proofs.lemmas.List.{take_more, length-replicate, get_or-replicate, length-set, get_or-set_same}
+use Rattle.std.proofs.lemmas.List.{get_or-set_other}
 use Rattle.place_sums.proofs.Totals.{total_first, total_start}
 use Rattle.water_model.specs.Lookups.{of_entry}
 use Rattle.water_model.specs.Rights.{parts_in}
@@ -21,10 +23,12 @@ part_for row right = if row.right == right then row.part else 0
 parts_in-none : (right : ℕ) → parts_in [] right ≡ 0
 parts_in-none right = total_start _
 
-parts_in-first : (row : ReturnRow) (rows : List ReturnRow) (right : ℕ) → parts_in (row ∷ rows) right ≡ part_for row right + parts_in rows right
+parts_in-first : (row : ReturnRow) (rows : List ReturnRow) (right : ℕ) →
+    parts_in (row ∷ rows) right ≡ part_for row right + parts_in rows right
 parts_in-first row rows right = total_first (length rows) (λ k. of_entry (row ∷ rows) k (λ r. part_for r right) 0)
 
-parts_in-append : (rows : List ReturnRow) (row : ReturnRow) (right : ℕ) → parts_in (rows ++ row ∷ []) right ≡ parts_in rows right + part_for row right
+parts_in-append : (rows : List ReturnRow) (row : ReturnRow) (right : ℕ) →
+    parts_in (rows ++ row ∷ []) right ≡ parts_in rows right + part_for row right
 parts_in-append [] row right = omega (arith, parts_in-first row [] right, parts_in-none right)
 parts_in-append (r ∷ rs) row right =
     omega (arith, parts_in-first r (rs ++ row ∷ []) right, parts_in-first r rs right, parts_in-append rs row right)
@@ -48,14 +52,18 @@ parts-start rights sums e = record {
       ap (λ xs. get_or xs right 0) e ∙ (get_or-replicate rights right 0 0 below ∙ omega (arith, parts_in-none right));
 }
 
-pub parts-more : (rows : List ReturnRow) (rights : ℕ) (sums : List ℕ) (i : ℕ) (d : ReturnRow) (sum : ℕ) → i < length rows →
-    (get_or rows i d).right < rights → sum ≡ min (get_or sums (get_or rows i d).right 0 + (get_or rows i d).part) (2 ^ 32 - 1) →
+pub parts-more : (rows : List ReturnRow) (rights : ℕ) (sums : List ℕ) (i : ℕ) (d : ReturnRow) (sum : ℕ) →
+    i < length rows →
+    (get_or rows i d).right < rights →
+    sum ≡ min (get_or sums (get_or rows i d).right 0 + (get_or rows i d).part) (2 ^ 32 - 1) →
     AreParts (take i rows) rights sums → AreParts (take (i + 1) rows) rights (set sums (get_or rows i d).right sum)
 parts-more rows rights sums i d sum below at is before = record {
   count = length-set sums (get_or rows i d).right sum ∙ before.count;
   each = λ right fits. elim (cases_eq right (get_or rows i d).right) [
     | inl same ↦ here right fits same
-    | inr other ↦ (let o : right ≢ (get_or rows i d).right = other in rw (get_or-set_other sums (get_or rows i d).right right sum 0 o) (there right fits o))
+    | inr other ↦
+        (let o : right ≢ (get_or rows i d).right = other in
+        rw (get_or-set_other sums (get_or rows i d).right right sum 0 o) (there right fits o))
   ];
 }
   where
@@ -63,19 +71,34 @@ parts-more rows rights sums i d sum below at is before = record {
         get_or (set sums (get_or rows i d).right sum) right 0 ≡ min (2 ^ 32 - 1) (parts_in (take (i + 1) rows) right)
     here right fits same =
         let in_sums : (get_or rows i d).right < length sums = omega (arith, before.count) in
-        ap (λ k. get_or (set sums (get_or rows i d).right sum) k 0) same ∙ (get_or-set_same sums (get_or rows i d).right sum 0 in_sums
-        ∙ omega (arith, is, before.each right fits, ap (λ k. get_or sums k 0) same, parts_in_more rows i d right below, part_for_same (get_or rows i d) right same))
+        ap (λ k. get_or (set sums (get_or rows i d).right sum) k 0) same
+        ∙ (get_or-set_same sums (get_or rows i d).right sum 0 in_sums
+        ∙ omega (
+          arith,
+          is,
+          before.each right fits,
+          ap (λ k. get_or sums k 0) same,
+          parts_in_more rows i d right below,
+          part_for_same (get_or rows i d) right same,
+        ))
 
     there : (right : ℕ) → right < rights → right ≢ (get_or rows i d).right →
         get_or sums right 0 ≡ min (2 ^ 32 - 1) (parts_in (take (i + 1) rows) right)
     there right fits other =
-        omega (arith, before.each right fits, parts_in_more rows i d right below, part_for_other (get_or rows i d) right other)
+        omega (
+          arith,
+          before.each right fits,
+          parts_in_more rows i d right below,
+          part_for_other (get_or rows i d) right other,
+        )
 
 -- the first sum above 10,000 is that of the first right at fault
-pub parts_fault_is : (rights : List Right) (returns : List ReturnRow) (sums : List ℕ) (found : Option ℕ) → AreParts returns (length rights) sums →
+pub parts_fault_is : (rights : List Right) (returns : List ReturnRow) (sums : List ℕ) (found : Option ℕ) →
+    AreParts returns (length rights) sums →
     found ≡ position (nat_lt 10000) sums → parts_fault rights returns ≡ option_map ReturnParts found
 parts_fault_is rights returns sums found parts is =
-    ap (λ (o : Option ℕ). option_map ReturnParts o) (find-places (has_many_parts returns) (nat_lt 10000) sums (length rights) (sym parts.count) same ∙ sym is)
+    ap (λ (o : Option ℕ). option_map ReturnParts o)
+    (find-places (has_many_parts returns) (nat_lt 10000) sums (length rights) (sym parts.count) same ∙ sym is)
   where
     capped : (x y : ℕ) → x ≡ min 4294967295 y → nat_lt 10000 y ≡ nat_lt 10000 x
     capped x y e = grind (arith, nat_tests)

@@ -1,5 +1,6 @@
 -- The first place at which a list of keys has a key.
-use Rattle.std.proofs.Common.{◌≡◌, ℕ, zero, suc, ◌+◌, ◌<◌, ◌≤◌, Bool, true, false, cond, List, [], ◌∷◌, ◌++◌, length, take, get_or, Some, None, refl, sym, ap, ◌∙◌, arith, add-zero}
+use Rattle.std.proofs.Common.{◌≡◌, ℕ, zero, suc, ◌+◌, ◌<◌, ◌≤◌, Bool, true, false, cond, List, [], ◌∷◌, ◌++◌, length}
+use Rattle.std.proofs.Common.{take, get_or, Some, None, refl, sym, ap, ◌∙◌, arith, add-zero}
 use Rattle.std.proofs.lemmas.Bool.Decides.{nat_tests}
 use Rattle.std.proofs.lemmas.Iterator.Adapters.{position_from-zero}
 use Rattle.std.proofs.lemmas.List.{get_or-take, length-take-le}
@@ -22,8 +23,11 @@ from-append : {X : Type 0} (p : X → Bool) (n : ℕ) (xs : List X) (x : X) →
 from-append p n [] x = ap (λ k. cond (p x) (Some k) None) (sym (add-zero n))
 from-append p n (y ∷ ys) x = by_test (p y) (from-append p (n + 1) ys x)
   where
-    by_test : (t : Bool) → position_from p (n + 1) (ys ++ x ∷ []) ≡ option_or (position_from p (n + 1) ys) (cond (p x) (Some (n + 1 + length ys)) None) →
-        cond t (Some n) (position_from p (n + 1) (ys ++ x ∷ [])) ≡ option_or (cond t (Some n) (position_from p (n + 1) ys)) (cond (p x) (Some (n + suc (length ys))) None)
+    by_test : (t : Bool) →
+        position_from p (n + 1) (ys ++ x ∷ []) ≡ option_or (position_from p (n + 1) ys)
+        (cond (p x) (Some (n + 1 + length ys)) None) →
+        cond t (Some n) (position_from p (n + 1) (ys ++ x ∷ [])) ≡ option_or
+        (cond t (Some n) (position_from p (n + 1) ys)) (cond (p x) (Some (n + suc (length ys))) None)
     by_test true further = refl
     by_test false further =
         let count : n + 1 + length ys ≡ n + suc (length ys) = omega arith in
@@ -40,7 +44,8 @@ position-append p xs x =
     ∙ ap (λ o. option_or o (cond (p x) (Some (length xs)) None)) (sym (position_from-zero p xs))))
 
 -- a first place is at most each place that passes, and at least each above places that all fail
-pub position_or_len-at_most : {X : Type 0} (p : X → Bool) (xs : List X) (k : ℕ) (d : X) → k < length xs → p (get_or xs k d) ≡ true → position_or_len p xs ≤ k
+pub position_or_len-at_most : {X : Type 0} (p : X → Bool) (xs : List X) (k : ℕ) (d : X) → k < length xs →
+    p (get_or xs k d) ≡ true → position_or_len p xs ≤ k
 position_or_len-at_most p [] k d h e = absurd (omega arith)
 position_or_len-at_most p (x ∷ xs) zero d h e = rw e (omega arith)
 position_or_len-at_most p (x ∷ xs) (suc k) d h e = by_test (p x) refl (position_or_len-at_most p xs k d (omega arith) e)
@@ -49,16 +54,19 @@ position_or_len-at_most p (x ∷ xs) (suc k) d h e = by_test (p x) refl (positio
     by_test true f further = rw f (omega arith)
     by_test false f further = rw f (omega arith)
 
-pub position_or_len-at_least : {X : Type 0} (p : X → Bool) (xs : List X) (k : ℕ) (d : X) → k ≤ length xs → ((j : ℕ) → j < k → p (get_or xs j d) ≡ false) → k ≤ position_or_len p xs
+pub position_or_len-at_least : {X : Type 0} (p : X → Bool) (xs : List X) (k : ℕ) (d : X) → k ≤ length xs →
+    ((j : ℕ) → j < k → p (get_or xs j d) ≡ false) → k ≤ position_or_len p xs
 position_or_len-at_least p [] k d h all = omega arith
 position_or_len-at_least p (x ∷ xs) zero d h all = omega arith
 position_or_len-at_least p (x ∷ xs) (suc k) d h all =
     let first : p x ≡ false = all 0 (omega arith) in
-    let further : k ≤ position_or_len p xs = position_or_len-at_least p xs k d (omega arith) (λ j l. all (suc j) (omega arith)) in
+    let further : k ≤ position_or_len p xs =
+    position_or_len-at_least p xs k d (omega arith) (λ j l. all (suc j) (omega arith)) in
     rw first (omega arith)
 
 -- where none of a front passes
-position-fails : {X : Type 0} (p : X → Bool) (xs : List X) (k : ℕ) (d : X) → position p xs ≡ None → k < length xs → p (get_or xs k d) ≡ false
+position-fails : {X : Type 0} (p : X → Bool) (xs : List X) (k : ℕ) (d : X) → position p xs ≡ None → k < length xs →
+    p (get_or xs k d) ≡ false
 position-fails p xs k d none below = by_test (p (get_or xs k d)) refl
   where
     within : (n m : ℕ) → n < m → nat_lt n m ≡ true
@@ -68,10 +76,12 @@ position-fails p xs k d none below = by_test (p (get_or xs k d)) refl
     by_test false e = e
     by_test true e =
         let at_most = position_or_len-at_most p xs k d below e in
-        let found : Some (position_or_len p xs) ≡ None = rw (within (position_or_len p xs) (length xs) (omega (arith, at_most))) at none in cc
+        let found : Some (position_or_len p xs) ≡ None =
+        rw (within (position_or_len p xs) (length xs) (omega (arith, at_most))) at none in cc
 
 -- what is found in a front is the first place of the whole
-pub position_or_len-found : {X : Type 0} (p : X → Bool) (xs : List X) (i first : ℕ) (d : X) → i ≤ length xs → position p (take i xs) ≡ Some first →
+pub position_or_len-found : {X : Type 0} (p : X → Bool) (xs : List X) (i first : ℕ) (d : X) → i ≤ length xs →
+    position p (take i xs) ≡ Some first →
     (first < i) × (position_or_len p xs ≡ first)
 position_or_len-found {X} p xs i first d h found =
     let at = position-Some p (take i xs) first d found in
@@ -83,6 +93,9 @@ position_or_len-found {X} p xs i first d h found =
     )
 
 -- where nothing is found in a front, the first place is past it
-pub position_or_len-past : {X : Type 0} (p : X → Bool) (xs : List X) (i : ℕ) (d : X) → i ≤ length xs → position p (take i xs) ≡ None → i ≤ position_or_len p xs
+pub position_or_len-past : {X : Type 0} (p : X → Bool) (xs : List X) (i : ℕ) (d : X) → i ≤ length xs →
+    position p (take i xs) ≡ None → i ≤ position_or_len p xs
 position_or_len-past p xs i d h none =
-    position_or_len-at_least p xs i d h (λ j l. ap p (sym (get_or-take i xs j d l)) ∙ position-fails p (take i xs) j d none (omega (arith, length-take-le i xs h)))
+    position_or_len-at_least p xs i d h
+    (λ j l. ap p (sym (get_or-take i xs j d l))
+    ∙ position-fails p (take i xs) j d none (omega (arith, length-take-le i xs h)))

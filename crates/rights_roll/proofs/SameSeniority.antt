@@ -1,5 +1,6 @@
 -- Rights of one priority.
-use Rattle.std.proofs.Common.{◌≡◌, ℕ, zero, suc, ◌+◌, ◌<◌, ◌≤◌, Bool, true, false, List, [], ◌∷◌, length, map, get_or, Some, None, refl, sym, ap, ◌∙◌, inl, inr, arith}
+use Rattle.std.proofs.Common.{◌≡◌, ℕ, zero, suc, ◌+◌, ◌<◌, ◌≤◌, Bool, true, false, List, [], ◌∷◌, length, map, get_or}
+use Rattle.std.proofs.Common.{Some, None, refl, sym, ap, ◌∙◌, inl, inr, arith}
 use Rattle.std.proofs.lemmas.Bool.{cases_eq, cases_lt}
 use Rattle.std.proofs.lemmas.Bool.Decides.{nat_tests}
 use Rattle.std.proofs.lemmas.List.{length-map}
@@ -24,58 +25,75 @@ IsFresh keys k = k ≤ first_like keys k
 abbrev AreBehind : List (List ℕ) → ℕ → List (List ℕ) → Type 0
 AreBehind keys n rest = (k : ℕ) → k < length rest → get_or rest k [] ≡ get_or keys (n + k) []
 
-behind_first : (keys : List (List ℕ)) (n : ℕ) (key : List ℕ) (rest : List (List ℕ)) → AreBehind keys n (key ∷ rest) → key ≡ get_or keys n []
-behind_first keys n key rest behind = behind 0 (omega arith) ∙ (let e : n + 0 ≡ n = omega arith in ap (λ k. get_or keys k []) e)
+behind_first : (keys : List (List ℕ)) (n : ℕ) (key : List ℕ) (rest : List (List ℕ)) → AreBehind keys n (key ∷ rest) →
+    key ≡ get_or keys n []
+behind_first keys n key rest behind =
+    behind 0 (omega arith) ∙ (let e : n + 0 ≡ n = omega arith in ap (λ k. get_or keys k []) e)
 
-behind_rest : (keys : List (List ℕ)) (n : ℕ) (key : List ℕ) (rest : List (List ℕ)) → AreBehind keys n (key ∷ rest) → AreBehind keys (n + 1) rest
-behind_rest keys n key rest behind = λ k h. behind (suc k) (omega arith) ∙ (let e : n + suc k ≡ n + 1 + k = omega arith in ap (λ j. get_or keys j []) e)
+behind_rest : (keys : List (List ℕ)) (n : ℕ) (key : List ℕ) (rest : List (List ℕ)) → AreBehind keys n (key ∷ rest) →
+    AreBehind keys (n + 1) rest
+behind_rest keys n key rest behind =
+    λ k h. behind (suc k) (omega arith) ∙ (let e : n + suc k ≡ n + 1 + k = omega arith in ap (λ j. get_or keys j []) e)
 
 -- at a fresh key the search goes on
-from-fresh : (keys : List (List ℕ)) (n : ℕ) (key : List ℕ) (rest : List (List ℕ)) → key ≡ get_or keys n [] → IsFresh keys n → same_from keys n (key ∷ rest) ≡ same_from keys (n + 1) rest
+from-fresh : (keys : List (List ℕ)) (n : ℕ) (key : List ℕ) (rest : List (List ℕ)) → key ≡ get_or keys n [] →
+    IsFresh keys n → same_from keys n (key ∷ rest) ≡ same_from keys (n + 1) rest
 from-fresh keys n key rest is fresh =
-    let test : nat_lt (position_or_len (bytes_eq key) keys) n ≡ false = ap (λ q. nat_lt (position_or_len (bytes_eq q) keys) n) is ∙ not_lt (first_like keys n) n fresh in
+    let test : nat_lt (position_or_len (bytes_eq key) keys) n ≡ false =
+    ap (λ q. nat_lt (position_or_len (bytes_eq q) keys) n) is ∙ not_lt (first_like keys n) n fresh in
     rw test refl
   where
     not_lt : (i j : ℕ) → j ≤ i → nat_lt i j ≡ false
     not_lt i j l = grind (arith, nat_tests)
 
 -- at a key that an earlier place has it ends
-from-like : (keys : List (List ℕ)) (n : ℕ) (key : List ℕ) (rest : List (List ℕ)) → key ≡ get_or keys n [] → first_like keys n < n →
+from-like : (keys : List (List ℕ)) (n : ℕ) (key : List ℕ) (rest : List (List ℕ)) → key ≡ get_or keys n [] →
+    first_like keys n < n →
     same_from keys n (key ∷ rest) ≡ Some (SameSeniority (first_like keys n) n)
 from-like keys n key rest is like =
     let at : position_or_len (bytes_eq key) keys ≡ first_like keys n = ap (λ q. position_or_len (bytes_eq q) keys) is in
-    let test : nat_lt (position_or_len (bytes_eq key) keys) n ≡ true = ap (λ k. nat_lt k n) at ∙ lt (first_like keys n) n like in
+    let test : nat_lt (position_or_len (bytes_eq key) keys) n ≡ true =
+    ap (λ k. nat_lt k n) at ∙ lt (first_like keys n) n like in
     rw test (ap (λ k. Some (SameSeniority k n)) at)
   where
     lt : (i j : ℕ) → i < j → nat_lt i j ≡ true
     lt i j l = grind (arith, nat_tests)
 
-from-found : (keys : List (List ℕ)) (n : ℕ) (rest : List (List ℕ)) (i : ℕ) → AreBehind keys n rest → n ≤ i → i < n + length rest →
-    ((k : ℕ) → n ≤ k → k < i → IsFresh keys k) → first_like keys i < i → same_from keys n rest ≡ Some (SameSeniority (first_like keys i) i)
+from-found : (keys : List (List ℕ)) (n : ℕ) (rest : List (List ℕ)) (i : ℕ) → AreBehind keys n rest → n ≤ i →
+    i < n + length rest →
+    ((k : ℕ) → n ≤ k → k < i → IsFresh keys k) → first_like keys i < i →
+    same_from keys n rest ≡ Some (SameSeniority (first_like keys i) i)
 from-found keys n [] i behind from below fresh like = absurd (omega arith)
 from-found keys n (key ∷ rest) i behind from below fresh like = elim (cases_eq n i) [
   | inl same ↦ (
       let here : first_like keys n < n = omega (arith, ap (first_like keys) same) in
-      from-like keys n key rest (behind_first keys n key rest behind) here ∙ ap (λ k. Some (SameSeniority (first_like keys k) k)) same)
+      from-like keys n key rest (behind_first keys n key rest behind) here
+      ∙ ap (λ k. Some (SameSeniority (first_like keys k) k)) same)
   | inr other ↦
       from-fresh keys n key rest (behind_first keys n key rest behind) (fresh n (omega arith) (omega (arith, other)))
-      ∙ from-found keys (n + 1) rest i (behind_rest keys n key rest behind) (omega (arith, other)) (omega arith) (λ k f b. fresh k (omega arith) b) like
+      ∙ from-found keys (n + 1) rest i (behind_rest keys n key rest behind) (omega (arith, other)) (omega arith)
+      (λ k f b. fresh k (omega arith) b) like
 ]
 
-from-none : (keys : List (List ℕ)) (n : ℕ) (rest : List (List ℕ)) → AreBehind keys n rest → ((k : ℕ) → n ≤ k → k < n + length rest → IsFresh keys k) → same_from keys n rest ≡ None
+from-none : (keys : List (List ℕ)) (n : ℕ) (rest : List (List ℕ)) → AreBehind keys n rest →
+    ((k : ℕ) → n ≤ k → k < n + length rest → IsFresh keys k) → same_from keys n rest ≡ None
 from-none keys n [] behind fresh = refl
 from-none keys n (key ∷ rest) behind fresh =
     from-fresh keys n key rest (behind_first keys n key rest behind) (fresh n (omega arith) (omega arith))
     ∙ from-none keys (n + 1) rest (behind_rest keys n key rest behind) (λ k f b. fresh k (omega arith) (omega arith))
 
-fresh-from_none : (keys : List (List ℕ)) (n : ℕ) (rest : List (List ℕ)) (k : ℕ) → AreBehind keys n rest → same_from keys n rest ≡ None → n ≤ k → k < n + length rest → IsFresh keys k
+fresh-from_none : (keys : List (List ℕ)) (n : ℕ) (rest : List (List ℕ)) (k : ℕ) → AreBehind keys n rest →
+    same_from keys n rest ≡ None → n ≤ k → k < n + length rest → IsFresh keys k
 fresh-from_none keys n [] k behind none from below = absurd (omega arith)
 fresh-from_none keys n (key ∷ rest) k behind none from below = elim (cases_lt (first_like keys n) n) [
-  | inl like ↦ (let found : Some (SameSeniority (first_like keys n) n) ≡ None = sym (from-like keys n key rest (behind_first keys n key rest behind) like) ∙ none in cc)
+  | inl like ↦
+      (let found : Some (SameSeniority (first_like keys n) n) ≡ None =
+      sym (from-like keys n key rest (behind_first keys n key rest behind) like) ∙ none in cc)
   | inr fresh ↦ elim (cases_eq k n) [
     | inl same ↦ omega (arith, ap (first_like keys) same)
     | inr other ↦ fresh-from_none keys (n + 1) rest k (behind_rest keys n key rest behind)
-        (sym (from-fresh keys n key rest (behind_first keys n key rest behind) fresh) ∙ none) (omega (arith, other)) (omega arith)
+        (sym (from-fresh keys n key rest (behind_first keys n key rest behind) fresh) ∙ none) (omega (arith, other))
+        (omega arith)
   ]
 ]
 
@@ -83,15 +101,20 @@ behind_all : (keys : List (List ℕ)) → AreBehind keys 0 keys
 behind_all keys k h = let e : k ≡ 0 + k = omega arith in ap (λ j. get_or keys j []) e
 
 -- the first right with the priority of an earlier one
-pub same_seniority-found : (rights : List Right) (i : ℕ) → i < length rights → ((k : ℕ) → k < i → IsFresh (map priority rights) k) →
-    first_like (map priority rights) i < i → same_seniority rights ≡ Some (SameSeniority (first_like (map priority rights) i) i)
+pub same_seniority-found : (rights : List Right) (i : ℕ) → i < length rights →
+    ((k : ℕ) → k < i → IsFresh (map priority rights) k) →
+    first_like (map priority rights) i < i →
+    same_seniority rights ≡ Some (SameSeniority (first_like (map priority rights) i) i)
 same_seniority-found rights i below fresh like =
-    from-found (map priority rights) 0 (map priority rights) i (behind_all (map priority rights)) (omega arith) (omega (arith, length-map rights priority))
+    from-found (map priority rights) 0 (map priority rights) i (behind_all (map priority rights)) (omega arith)
+    (omega (arith, length-map rights priority))
     (λ k f b. fresh k b) like
 
-pub same_seniority-none : (rights : List Right) → ((k : ℕ) → k < length rights → IsFresh (map priority rights) k) → same_seniority rights ≡ None
+pub same_seniority-none : (rights : List Right) → ((k : ℕ) → k < length rights → IsFresh (map priority rights) k) →
+    same_seniority rights ≡ None
 same_seniority-none rights fresh =
-    from-none (map priority rights) 0 (map priority rights) (behind_all (map priority rights)) (λ k f b. fresh k (omega (arith, length-map rights priority)))
+    from-none (map priority rights) 0 (map priority rights) (behind_all (map priority rights))
+    (λ k f b. fresh k (omega (arith, length-map rights priority)))
 
 pub priority_in-is : (rights : List Right) (r : ℕ) → priority_in rights r ≡ get_or (map priority rights) r []
 priority_in-is [] r = refl
@@ -102,8 +125,11 @@ priority_in-is (x ∷ xs) (suc r) = priority_in-is xs r
 pub strict-from_none : (rights : List Right) → same_seniority rights ≡ None → AreStrict rights
 strict-from_none rights none r s order below same =
     let in_keys : s < 0 + length (map priority rights) = omega (arith, length-map rights priority) in
-    let fresh : s ≤ first_like (map priority rights) s = fresh-from_none (map priority rights) 0 (map priority rights) s (behind_all (map priority rights)) none (omega arith) in_keys in
-    let at_most = position_or_len-at_most (bytes_eq (get_or (map priority rights) s [])) (map priority rights) r [] (omega arith)
+    let fresh : s ≤ first_like (map priority rights) s =
+    fresh-from_none (map priority rights) 0 (map priority rights) s (behind_all (map priority rights)) none
+    (omega arith) in_keys in
+    let at_most =
+    position_or_len-at_most (bytes_eq (get_or (map priority rights) s [])) (map priority rights) r [] (omega arith)
     (same_bytes (get_or (map priority rights) s []) (get_or (map priority rights) r [])
     (sym (priority_in-is rights s) ∙ (sym same ∙ priority_in-is rights r))) in
     omega (arith, at_most)
@@ -111,14 +137,20 @@ strict-from_none rights none r s order below same =
 pub none-from_strict : (rights : List Right) → AreStrict rights → same_seniority rights ≡ None
 none-from_strict rights strict = same_seniority-none rights fresh
   where
-    apart : (k j : ℕ) → k < length rights → j < k → bytes_eq (get_or (map priority rights) k []) (get_or (map priority rights) j []) ≡ false
-    apart k j below before = by_test (bytes_eq (get_or (map priority rights) k []) (get_or (map priority rights) j [])) refl
+    apart : (k j : ℕ) → k < length rights → j < k →
+        bytes_eq (get_or (map priority rights) k []) (get_or (map priority rights) j []) ≡ false
+    apart k j below before =
+        by_test (bytes_eq (get_or (map priority rights) k []) (get_or (map priority rights) j [])) refl
       where
-        by_test : (t : Bool) → bytes_eq (get_or (map priority rights) k []) (get_or (map priority rights) j []) ≡ t → t ≡ false
+        by_test : (t : Bool) → bytes_eq (get_or (map priority rights) k []) (get_or (map priority rights) j []) ≡ t →
+            t ≡ false
         by_test false e = refl
         by_test true e = absurd (strict j k before below
-            (priority_in-is rights j ∙ (sym (bytes_same (get_or (map priority rights) k []) (get_or (map priority rights) j []) e) ∙ sym (priority_in-is rights k))))
+            (priority_in-is rights j
+            ∙ (sym (bytes_same (get_or (map priority rights) k []) (get_or (map priority rights) j []) e)
+            ∙ sym (priority_in-is rights k))))
 
     fresh : (k : ℕ) → k < length rights → IsFresh (map priority rights) k
     fresh k below =
-        position_or_len-at_least (bytes_eq (get_or (map priority rights) k [])) (map priority rights) k [] (omega (arith, length-map rights priority)) (λ j before. apart k j below before)
+        position_or_len-at_least (bytes_eq (get_or (map priority rights) k [])) (map priority rights) k []
+        (omega (arith, length-map rights priority)) (λ j before. apart k j below before)

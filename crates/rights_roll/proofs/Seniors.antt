@@ -1,5 +1,6 @@
 -- The list of the rights by seniority: it is the only one, and the place of each right in it.
-use Rattle.std.proofs.Common.{◌≡◌, ℕ, zero, suc, ◌<◌, ◌≤◌, Bool, true, false, List, [], ◌∷◌, length, get_or, refl, sym, ap, ◌∙◌, subst, inl, inr, arith}
+use Rattle.std.proofs.Common.{◌≡◌, ℕ, zero, suc, ◌<◌, ◌≤◌, Bool, true, false, List, [], ◌∷◌, length, get_or, refl, sym}
+use Rattle.std.proofs.Common.{ap, ◌∙◌, subst, inl, inr, arith}
 use Rattle.std.proofs.lemmas.Bool.{cases_eq, cases_order}
 use Rattle.std.proofs.lemmas.Bool.Decides.{nat_tests}
 use Rattle.std.specs.Prelude.{◌==◌, nat_lt, ◌≢◌, if◌then◌else◌}
@@ -16,37 +17,46 @@ pub not_senior_to_same : (rights : List Right) (r s : ℕ) → r ≡ s → is_se
 not_senior_to_same rights r s e = ap (λ q. is_senior_in rights r q) (sym e) ∙ not_lower (priority_in rights r)
 
 not_both : (rights : List Right) (r s : ℕ) → is_senior_in rights r s ≡ true → is_senior_in rights s r ≡ true → ⊥
-not_both rights r s h k = let both : true ≡ false = sym (senior_trans rights r s r h k) ∙ not_senior_to_same rights r r refl in cc
+not_both rights r s h k = let both : true ≡ false =
+    sym (senior_trans rights r s r h k) ∙ not_senior_to_same rights r r refl in cc
 
 -- Two orders of the same rights are equal.
 
 -- a right in front of an order is not behind it
 not_behind : (rights : List Right) (x : ℕ) (xs : List ℕ) (r : ℕ) → IsOrdered rights (x ∷ xs) → Has xs r → r ≢ x
-not_behind rights x xs r order has e = let both : true ≡ false = sym (order.0 r has) ∙ not_senior_to_same rights x r (sym e) in cc
+not_behind rights x xs r order has e = let both : true ≡ false =
+    sym (order.0 r has) ∙ not_senior_to_same rights x r (sym e) in cc
 
-same_first : (rights : List Right) (x y : ℕ) (xs ys : List ℕ) → IsOrdered rights (x ∷ xs) → IsOrdered rights (y ∷ ys) → Has (y ∷ ys) x → Has (x ∷ xs) y → x ≡ y
+same_first : (rights : List Right) (x y : ℕ) (xs ys : List ℕ) → IsOrdered rights (x ∷ xs) → IsOrdered rights (y ∷ ys) →
+    Has (y ∷ ys) x → Has (x ∷ xs) y → x ≡ y
 same_first rights x y xs ys first second (inl e) k = e
 same_first rights x y xs ys first second (inr h) (inl e) = sym e
 same_first rights x y xs ys first second (inr h) (inr k) = absurd (not_both rights x y (first.0 y k) (second.0 x h))
 
-pub one_order : (rights : List Right) (xs ys : List ℕ) → IsOrdered rights xs → IsOrdered rights ys → ((r : ℕ) → Has xs r → Has ys r) → ((r : ℕ) → Has ys r → Has xs r) → xs ≡ ys
+pub one_order : (rights : List Right) (xs ys : List ℕ) → IsOrdered rights xs → IsOrdered rights ys →
+    ((r : ℕ) → Has xs r → Has ys r) → ((r : ℕ) → Has ys r → Has xs r) → xs ≡ ys
 one_order rights [] [] first second there back = refl
 one_order rights [] (y ∷ ys) first second there back = absurd (back y (inl refl))
 one_order rights (x ∷ xs) [] first second there back = absurd (there x (inl refl))
 one_order rights (x ∷ xs) (y ∷ ys) first second there back =
     let e : x ≡ y = same_first rights x y xs ys first second (there x (inl refl)) (back y (inl refl)) in
-    let rest : xs ≡ ys = one_order rights xs ys first.1 second.1 (λ r h. behind x y xs ys r first e h (there r (inr h))) (λ r h. behind y x ys xs r second (sym e) h (back r (inr h))) in
+    let rest : xs ≡ ys =
+    one_order rights xs ys first.1 second.1 (λ r h. behind x y xs ys r first e h (there r (inr h)))
+    (λ r h. behind y x ys xs r second (sym e) h (back r (inr h))) in
     ap (λ z. z ∷ xs) e ∙ ap (λ zs. y ∷ zs) rest
   where
-    behind : (x y : ℕ) (xs ys : List ℕ) (r : ℕ) → IsOrdered rights (x ∷ xs) → x ≡ y → Has xs r → Has (y ∷ ys) r → Has ys r
+    behind : (x y : ℕ) (xs ys : List ℕ) (r : ℕ) → IsOrdered rights (x ∷ xs) → x ≡ y → Has xs r → Has (y ∷ ys) r →
+        Has ys r
     behind x y xs ys r order e h (inl same) = absurd (not_behind rights x xs r order h (same ∙ sym e))
     behind x y xs ys r order e h (inr k) = k
 
 -- a list that has each right, seniors first
-pub is_by_seniority : (rights : List Right) (xs : List ℕ) → AreStrict rights → IsOrdered rights xs → ((r : ℕ) → r < length rights → Has xs r) → ((r : ℕ) → Has xs r → r < length rights) →
+pub is_by_seniority : (rights : List Right) (xs : List ℕ) → AreStrict rights → IsOrdered rights xs →
+    ((r : ℕ) → r < length rights → Has xs r) → ((r : ℕ) → Has xs r → r < length rights) →
     xs ≡ by_seniority rights
 is_by_seniority rights xs strict order all only =
-    one_order rights xs (by_seniority rights) order (seniors_ordered rights strict) (λ r h. seniors_have rights r (only r h)) (λ r h. all r (seniors_below rights r h))
+    one_order rights xs (by_seniority rights) order (seniors_ordered rights strict)
+    (λ r h. seniors_have rights r (only r h)) (λ r h. all r (seniors_below rights r h))
 
 -- The place of a right in a list.
 
@@ -56,9 +66,11 @@ has-get_or (x ∷ xs) zero h = inl refl
 has-get_or (x ∷ xs) (suc i) h = inr (has-get_or xs i (omega arith))
 
 -- every entry of the order is a right
-pub by_seniority-below : (rights : List Right) (i : ℕ) → i < length rights → get_or (by_seniority rights) i 0 < length rights
+pub by_seniority-below : (rights : List Right) (i : ℕ) → i < length rights →
+    get_or (by_seniority rights) i 0 < length rights
 by_seniority-below rights i h =
-    seniors_below rights (get_or (by_seniority rights) i 0) (has-get_or (by_seniority rights) i (omega (arith, length-by_seniority rights)))
+    seniors_below rights (get_or (by_seniority rights) i 0)
+    (has-get_or (by_seniority rights) i (omega (arith, length-by_seniority rights)))
 
 -- the first place at which a number stands, or the length
 abbrev pub place_in : List ℕ → ℕ → ℕ
@@ -75,7 +87,9 @@ place_in-below : (xs : List ℕ) (r : ℕ) → Has xs r → place_in xs r < leng
 place_in-below [] r h = absurd h
 place_in-below (x ∷ xs) r h = elim (cases_eq r x) [
   | inl same ↦ (let e = place_in-here x r xs same in omega arith)
-  | inr other ↦ (let e = place_in-further x r xs other in let further : place_in xs r < length xs = place_in-below xs r (behind h other) in omega arith)
+  | inr other ↦
+      (let e = place_in-further x r xs other in let further : place_in xs r < length xs =
+      place_in-below xs r (behind h other) in omega arith)
 ]
   where
     behind : Has (x ∷ xs) r → r ≢ x → Has xs r
@@ -93,7 +107,8 @@ get_or-place_in (x ∷ xs) r h = elim (cases_eq r x) [
     behind (inl is) other = absurd (other is)
     behind (inr rest) other = rest
 
-place_in-get_or : (rights : List Right) (xs : List ℕ) (i : ℕ) → IsOrdered rights xs → i < length xs → place_in xs (get_or xs i 0) ≡ i
+place_in-get_or : (rights : List Right) (xs : List ℕ) (i : ℕ) → IsOrdered rights xs → i < length xs →
+    place_in xs (get_or xs i 0) ≡ i
 place_in-get_or rights [] i order h = absurd (omega arith)
 place_in-get_or rights (x ∷ xs) zero order h = place_in-here x x xs refl
 place_in-get_or rights (x ∷ xs) (suc i) order h =
@@ -101,19 +116,24 @@ place_in-get_or rights (x ∷ xs) (suc i) order h =
     ∙ ap suc (place_in-get_or rights xs i order.1 (omega arith))
 
 -- of two entries the one at the lower place is senior
-pub senior_by_place : (rights : List Right) (xs : List ℕ) (i j : ℕ) → IsOrdered rights xs → i < j → j < length xs → is_senior_in rights (get_or xs i 0) (get_or xs j 0) ≡ true
+pub senior_by_place : (rights : List Right) (xs : List ℕ) (i j : ℕ) → IsOrdered rights xs → i < j → j < length xs →
+    is_senior_in rights (get_or xs i 0) (get_or xs j 0) ≡ true
 senior_by_place rights [] i j order h k = absurd (omega arith)
 senior_by_place rights (x ∷ xs) i zero order h k = absurd (omega arith)
 senior_by_place rights (x ∷ xs) zero (suc j) order h k = order.0 (get_or xs j 0) (has-get_or xs j (omega arith))
-senior_by_place rights (x ∷ xs) (suc i) (suc j) order h k = senior_by_place rights xs i j order.1 (omega arith) (omega arith)
+senior_by_place rights (x ∷ xs) (suc i) (suc j) order h k =
+    senior_by_place rights xs i j order.1 (omega arith) (omega arith)
 
 senior-places : (rights : List Right) (xs : List ℕ) (i j : ℕ) → IsOrdered rights xs → i < length xs → j < length xs →
     is_senior_in rights (get_or xs i 0) (get_or xs j 0) ≡ nat_lt i j
 senior-places rights xs i j order h k = elim (cases_order i j) [
-  | inl same ↦ not_senior_to_same rights (get_or xs i 0) (get_or xs j 0) (ap (λ q. get_or xs q 0) same) ∙ not_lt i j (omega arith)
+  | inl same ↦ not_senior_to_same rights (get_or xs i 0) (get_or xs j 0) (ap (λ q. get_or xs q 0) same)
+      ∙ not_lt i j (omega arith)
   | inr o ↦ elim o [
     | inl before ↦ senior_by_place rights xs i j order before k ∙ lt i j before
-    | inr after ↦ false_by (is_senior_in rights (get_or xs i 0) (get_or xs j 0)) refl (senior_by_place rights xs j i order after h) ∙ not_lt i j (omega arith)
+    | inr after ↦
+        false_by (is_senior_in rights (get_or xs i 0) (get_or xs j 0)) refl
+        (senior_by_place rights xs j i order after h) ∙ not_lt i j (omega arith)
   ]
 ]
   where
@@ -123,7 +143,8 @@ senior-places rights xs i j order h k = elim (cases_order i j) [
     not_lt : (i j : ℕ) → j ≤ i → false ≡ nat_lt i j
     not_lt i j l = grind (arith, nat_tests)
 
-    false_by : (t : Bool) → is_senior_in rights (get_or xs i 0) (get_or xs j 0) ≡ t → is_senior_in rights (get_or xs j 0) (get_or xs i 0) ≡ true → t ≡ false
+    false_by : (t : Bool) → is_senior_in rights (get_or xs i 0) (get_or xs j 0) ≡ t →
+        is_senior_in rights (get_or xs j 0) (get_or xs i 0) ≡ true → t ≡ false
     false_by true e back = absurd (not_both rights (get_or xs i 0) (get_or xs j 0) e back)
     false_by false e back = refl
 
@@ -133,19 +154,25 @@ by_seniority_order rights strict = record {
   count = length-by_seniority rights;
   place = place_in (by_seniority rights);
   below = by_seniority-below rights;
-  placed = λ i h. place_in-get_or rights (by_seniority rights) i (seniors_ordered rights strict) (omega (arith, length-by_seniority rights));
-  in_range = λ r h. (let b = place_in-below (by_seniority rights) r (seniors_have rights r h) in omega (arith, length-by_seniority rights));
+  placed = λ i h. place_in-get_or rights (by_seniority rights) i (seniors_ordered rights strict)
+      (omega (arith, length-by_seniority rights));
+  in_range =
+      λ r h. (let b = place_in-below (by_seniority rights) r (seniors_have rights r h) in
+      omega (arith, length-by_seniority rights));
   each = λ r h. get_or-place_in (by_seniority rights) r (seniors_have rights r h);
   senior = λ r s h k. senior r s h k;
 }
   where
-    senior : (r s : ℕ) → r < length rights → s < length rights → is_senior_in rights r s ≡ nat_lt (place_in (by_seniority rights) r) (place_in (by_seniority rights) s)
+    senior : (r s : ℕ) → r < length rights → s < length rights →
+        is_senior_in rights r s ≡ nat_lt (place_in (by_seniority rights) r) (place_in (by_seniority rights) s)
     senior r s h k =
         let first = seniors_have rights r h in
         let second = seniors_have rights s k in
         ap (λ q. is_senior_in rights q s) (sym (get_or-place_in (by_seniority rights) r first))
-        ∙ (ap (λ q. is_senior_in rights (get_or (by_seniority rights) (place_in (by_seniority rights) r) 0) q) (sym (get_or-place_in (by_seniority rights) s second))
-        ∙ senior-places rights (by_seniority rights) (place_in (by_seniority rights) r) (place_in (by_seniority rights) s) (seniors_ordered rights strict)
+        ∙ (ap (λ q. is_senior_in rights (get_or (by_seniority rights) (place_in (by_seniority rights) r) 0) q)
+        (sym (get_or-place_in (by_seniority rights) s second))
+        ∙ senior-places rights (by_seniority rights) (place_in (by_seniority rights) r)
+        (place_in (by_seniority rights) s) (seniors_ordered rights strict)
         (place_in-below (by_seniority rights) r first) (place_in-below (by_seniority rights) s second))
 
 -- An order with places is the rights by seniority.
@@ -155,9 +182,11 @@ strict-from_order : (rights : List Right) (order : List ℕ) → IsSeniorityOrde
 strict-from_order rights order o r s before below same =
     let in_range : r < length rights = omega arith in
     let first : nat_lt (o.place r) (o.place s) ≡ false =
-    sym (o.senior r s in_range below) ∙ (ap (λ k. is_lower k (priority_in rights s)) same ∙ not_lower (priority_in rights s)) in
+    sym (o.senior r s in_range below)
+    ∙ (ap (λ k. is_lower k (priority_in rights s)) same ∙ not_lower (priority_in rights s)) in
     let second : nat_lt (o.place s) (o.place r) ≡ false =
-    sym (o.senior s r below in_range) ∙ (ap (is_lower (priority_in rights s)) same ∙ not_lower (priority_in rights s)) in
+    sym (o.senior s r below in_range)
+    ∙ (ap (is_lower (priority_in rights s)) same ∙ not_lower (priority_in rights s)) in
     let one : o.place r ≡ o.place s = equal (o.place r) (o.place s) first second in
     let again : r ≡ s = sym (o.each r in_range) ∙ (ap (λ k. get_or order k 0) one ∙ o.each s below) in
     omega arith
@@ -170,15 +199,19 @@ has-at [] x h = absurd h
 has-at (y ∷ ys) x (inl e) = (0, (omega arith, sym e))
 has-at (y ∷ ys) x (inr h) = let at = has-at ys x h in (suc at.0, (omega (arith, at.1.0), at.1.1))
 
-ordered-from : (rights : List Right) (xs : List ℕ) → ((i j : ℕ) → i < j → j < length xs → is_senior_in rights (get_or xs i 0) (get_or xs j 0) ≡ true) → IsOrdered rights xs
+ordered-from : (rights : List Right) (xs : List ℕ) →
+    ((i j : ℕ) → i < j → j < length xs → is_senior_in rights (get_or xs i 0) (get_or xs j 0) ≡ true) →
+    IsOrdered rights xs
 ordered-from rights [] h = tt
 ordered-from rights (x ∷ xs) h = (
-  λ y k. (let at = has-at xs y k in ap (is_senior_in rights x) (sym at.1.1) ∙ h 0 (suc at.0) (omega arith) (omega (arith, at.1.0))),
+  λ y k. (let at = has-at xs y k in
+      ap (is_senior_in rights x) (sym at.1.1) ∙ h 0 (suc at.0) (omega arith) (omega (arith, at.1.0))),
   ordered-from rights xs (λ i j below within. h (suc i) (suc j) (omega arith) (omega arith)),
 )
 
 -- a list that has each right once, at its place
-pub order_is_by_seniority : (rights : List Right) (order : List ℕ) → IsSeniorityOrder rights order → order ≡ by_seniority rights
+pub order_is_by_seniority : (rights : List Right) (order : List ℕ) → IsSeniorityOrder rights order →
+    order ≡ by_seniority rights
 order_is_by_seniority rights order o =
     is_by_seniority rights order (strict-from_order rights order o) (ordered-from rights order ordered) all only
   where
@@ -190,12 +223,15 @@ order_is_by_seniority rights order o =
         let i_in : i < length rights = omega (arith, o.count) in
         let j_in : j < length rights = omega (arith, o.count) in
         o.senior (get_or order i 0) (get_or order j 0) (o.below i i_in) (o.below j j_in)
-        ∙ (ap (λ k. nat_lt k (o.place (get_or order j 0))) (o.placed i i_in) ∙ (ap (nat_lt i) (o.placed j j_in) ∙ lt i j before))
+        ∙ (ap (λ k. nat_lt k (o.place (get_or order j 0))) (o.placed i i_in)
+        ∙ (ap (nat_lt i) (o.placed j j_in) ∙ lt i j before))
 
     all : (r : ℕ) → r < length rights → Has order r
     all r below =
         let P : ℕ → Type 0 = λ x. Has order x in
-        subst P (o.each r below) (has-get_or order (o.place r) (let within : o.place r < length rights = o.in_range r below in omega (arith, o.count)))
+        subst P (o.each r below)
+        (has-get_or order (o.place r) (let within : o.place r < length rights = o.in_range r below in
+        omega (arith, o.count)))
 
     only : (r : ℕ) → Has order r → r < length rights
     only r h =

@@ -1,5 +1,6 @@
 -- A roll without faults is sound, and a sound one has no fault.
-use Rattle.std.proofs.Common.{◌≡◌, ℕ, zero, suc, ◌<◌, ◌≤◌, Bool, true, false, List, [], ◌∷◌, length, Option, Some, None, refl, sym, ap, ◌∙◌, arith}
+use Rattle.std.proofs.Common.{◌≡◌, ℕ, zero, suc, ◌<◌, ◌≤◌, Bool, true, false, List, [], ◌∷◌, length, Option, Some, None}
+use Rattle.std.proofs.Common.{refl, sym, ap, ◌∙◌, arith}
 use Rattle.std.proofs.lemmas.Bool.Decides.{nat_tests}
 use Rattle.std.proofs.lemmas.Iterator.Adapters.{position_from-zero}
 use Rattle.std.specs.Prelude.{nat_lt, option_map, ◌+◌}
@@ -9,9 +10,11 @@ use Rattle.water_model.specs.Lookups.{of_entry}
 use Rattle.water_model.specs.Rights.{has_bad_date, has_zone_fault, parts_in, IsSoundRoll}
 use Rattle.water_model.specs.declared.types.ReturnRow.{ReturnRow}
 use Rattle.water_model.specs.declared.types.Right.{Right}
-use Rattle.rights_roll.specs.RollFaults.{date_fault, same_seniority, zone_fault, has_many_parts, parts_fault, roll_fault, IsRefusal}
+use Rattle.rights_roll.specs.RollFaults.{date_fault, same_seniority, zone_fault, has_many_parts, parts_fault}
+use Rattle.rights_roll.specs.RollFaults.{roll_fault, IsRefusal}
 use Rattle.rights_roll.specs.declared.RollRefused.{RollRefused}
-use Rattle.rights_roll.specs.declared.RollRefused.TheVariants.{BadDate, SameSeniority, ZoneOrder, ReturnParts, OutOfMemory}
+use Rattle.rights_roll.specs.declared.RollRefused.TheVariants.{BadDate, SameSeniority, ZoneOrder, ReturnParts}
+use Rattle.rights_roll.specs.declared.RollRefused.TheVariants.{OutOfMemory}
 use Rattle.rights_roll.proofs.Firsts.{find-no_place, place-fails}
 use Rattle.rights_roll.proofs.SameSeniority.{strict-from_none, none-from_strict}
 
@@ -20,17 +23,22 @@ none-mapped : (f : ℕ → RollRefused) (o : Option ℕ) → option_map f o ≡ 
 none-mapped f None h = refl
 none-mapped f (Some k) h = let none : Some (f k) ≡ None = h in cc
 
-dates-from : (rights : List Right) (n : ℕ) → position_from has_bad_date n rights ≡ None → (r : ℕ) → r < length rights → of_entry rights r has_bad_date false ≡ false
+dates-from : (rights : List Right) (n : ℕ) → position_from has_bad_date n rights ≡ None → (r : ℕ) → r < length rights →
+    of_entry rights r has_bad_date false ≡ false
 dates-from [] n none r below = absurd (omega arith)
 dates-from (x ∷ xs) n none r below = by_test (has_bad_date x) refl (dates-from xs (n + 1)) r below
   where
-    by_test : (t : Bool) → has_bad_date x ≡ t → (position_from has_bad_date (n + 1) xs ≡ None → (r : ℕ) → r < length xs → of_entry xs r has_bad_date false ≡ false) →
+    by_test : (t : Bool) → has_bad_date x ≡ t →
+        (position_from has_bad_date (n + 1) xs ≡ None → (r : ℕ) → r < length xs →
+        of_entry xs r has_bad_date false ≡ false) →
         (r : ℕ) → r < suc (length xs) → of_entry (x ∷ xs) r has_bad_date false ≡ false
     by_test true e further r h = let found : Some n ≡ None = rw e at none in cc
     by_test false e further zero h = e
     by_test false e further (suc r) h = further (rw e at none) r (omega arith)
 
-none-from_dates : (rights : List Right) (n : ℕ) → ((r : ℕ) → r < length rights → of_entry rights r has_bad_date false ≡ false) → position_from has_bad_date n rights ≡ None
+none-from_dates : (rights : List Right) (n : ℕ) →
+    ((r : ℕ) → r < length rights → of_entry rights r has_bad_date false ≡ false) →
+    position_from has_bad_date n rights ≡ None
 none-from_dates [] n fine = refl
 none-from_dates (x ∷ xs) n fine =
     let first : has_bad_date x ≡ false = fine 0 (omega arith) in
@@ -48,34 +56,45 @@ not_many_parts returns r h = not_above (parts_in returns r) h
     not_above : (n : ℕ) → n ≤ 10000 → nat_lt 10000 n ≡ false
     not_above n e = grind (arith, nat_tests)
 
-pub sound-from_none : (rights : List Right) (returns : List ReturnRow) → date_fault rights ≡ None → same_seniority rights ≡ None → zone_fault rights ≡ None → parts_fault rights returns ≡ None →
+pub sound-from_none : (rights : List Right) (returns : List ReturnRow) → date_fault rights ≡ None →
+    same_seniority rights ≡ None → zone_fault rights ≡ None → parts_fault rights returns ≡ None →
     IsSoundRoll rights returns
 sound-from_none rights returns dates seniority zones parts = record {
-  dates = dates-from rights 0 (sym (position_from-zero has_bad_date rights) ∙ none-mapped BadDate (position has_bad_date rights) dates);
+  dates = dates-from rights 0
+      (sym (position_from-zero has_bad_date rights) ∙ none-mapped BadDate (position has_bad_date rights) dates);
   strict = strict-from_none rights seniority;
-  zones = λ r h. place-fails (has_zone_fault rights) (length rights) r (none-mapped ZoneOrder (find (has_zone_fault rights) (range_with_len 0 (length rights))) zones) h;
+  zones = λ r h. place-fails (has_zone_fault rights) (length rights) r
+      (none-mapped ZoneOrder (find (has_zone_fault rights) (range_with_len 0 (length rights))) zones) h;
   parts = λ r h. few_parts returns r
-      (place-fails (has_many_parts returns) (length rights) r (none-mapped ReturnParts (find (has_many_parts returns) (range_with_len 0 (length rights))) parts) h);
+      (place-fails (has_many_parts returns) (length rights) r
+      (none-mapped ReturnParts (find (has_many_parts returns) (range_with_len 0 (length rights))) parts) h);
 }
 
 -- the fault of the whole is the first of the four
 pub roll_fault-is : (rights : List Right) (returns : List ReturnRow) →
-    roll_fault rights returns ≡ option_or (date_fault rights) (option_or (same_seniority rights) (option_or (zone_fault rights) (parts_fault rights returns)))
+    roll_fault rights returns ≡ option_or (date_fault rights)
+    (option_or (same_seniority rights) (option_or (zone_fault rights) (parts_fault rights returns)))
 unfolding roll_fault
 roll_fault-is rights returns = refl
 
-pub none-of_four : (rights : List Right) (returns : List ReturnRow) → date_fault rights ≡ None → same_seniority rights ≡ None → zone_fault rights ≡ None → parts_fault rights returns ≡ None →
+pub none-of_four : (rights : List Right) (returns : List ReturnRow) → date_fault rights ≡ None →
+    same_seniority rights ≡ None → zone_fault rights ≡ None → parts_fault rights returns ≡ None →
     roll_fault rights returns ≡ None
-none-of_four rights returns dates seniority zones parts = roll_fault-is rights returns ∙ four dates seniority zones parts
+none-of_four rights returns dates seniority zones parts =
+    roll_fault-is rights returns ∙ four dates seniority zones parts
   where
-    four : {a b c d : Option RollRefused} → a ≡ None → b ≡ None → c ≡ None → d ≡ None → option_or a (option_or b (option_or c d)) ≡ None
+    four : {a b c d : Option RollRefused} → a ≡ None → b ≡ None → c ≡ None → d ≡ None →
+        option_or a (option_or b (option_or c d)) ≡ None
     four {a} {b} {c} {d} h i j k = rw h (rw i (rw j k))
 
 -- a roll without a fault is sound
-pub sound-from_faultless : (rights : List Right) (returns : List ReturnRow) → roll_fault rights returns ≡ None → IsSoundRoll rights returns
+pub sound-from_faultless : (rights : List Right) (returns : List ReturnRow) → roll_fault rights returns ≡ None →
+    IsSoundRoll rights returns
 sound-from_faultless rights returns none =
     let all = sym (roll_fault-is rights returns) ∙ none in
-    let dates = both (date_fault rights) (option_or (same_seniority rights) (option_or (zone_fault rights) (parts_fault rights returns))) all in
+    let dates =
+    both (date_fault rights)
+    (option_or (same_seniority rights) (option_or (zone_fault rights) (parts_fault rights returns))) all in
     let seniority = both (same_seniority rights) (option_or (zone_fault rights) (parts_fault rights returns)) dates.1 in
     let zones = both (zone_fault rights) (parts_fault rights returns) seniority.1 in
     sound-from_none rights returns dates.0 seniority.0 zones.0 zones.1
@@ -85,13 +104,16 @@ sound-from_faultless rights returns none =
     both (Some e) b h = let found : Some e ≡ None = h in cc
 
 -- a sound roll has no fault
-pub roll_fault-sound : (rights : List Right) (returns : List ReturnRow) → IsSoundRoll rights returns → roll_fault rights returns ≡ None
+pub roll_fault-sound : (rights : List Right) (returns : List ReturnRow) → IsSoundRoll rights returns →
+    roll_fault rights returns ≡ None
 roll_fault-sound rights returns sound =
     none-of_four rights returns
-    (ap (λ (o : Option ℕ). option_map BadDate o) (position_from-zero has_bad_date rights ∙ none-from_dates rights 0 sound.dates))
+    (ap (λ (o : Option ℕ). option_map BadDate o)
+    (position_from-zero has_bad_date rights ∙ none-from_dates rights 0 sound.dates))
     (none-from_strict rights sound.strict)
     (ap (λ (o : Option ℕ). option_map ZoneOrder o) (find-no_place (has_zone_fault rights) (length rights) sound.zones))
-    (ap (λ (o : Option ℕ). option_map ReturnParts o) (find-no_place (has_many_parts returns) (length rights) (λ r h. not_many_parts returns r (sound.parts r h))))
+    (ap (λ (o : Option ℕ). option_map ReturnParts o)
+    (find-no_place (has_many_parts returns) (length rights) (λ r h. not_many_parts returns r (sound.parts r h))))
 
 -- A refusal of one part is a refusal of the whole where the parts before it have no fault.
 
@@ -102,9 +124,13 @@ refused (ZoneOrder a) whole part same h = same ∙ h
 refused (ReturnParts a) whole part same h = same ∙ h
 refused OutOfMemory whole part same h = h
 
-pub refused-date : (rights : List Right) (returns : List ReturnRow) (e : RollRefused) → date_fault rights ≡ Some e → IsRefusal e (roll_fault rights returns)
+pub refused-date : (rights : List Right) (returns : List ReturnRow) (e : RollRefused) → date_fault rights ≡ Some e →
+    IsRefusal e (roll_fault rights returns)
 refused-date rights returns e found =
-    by_variant e (roll_fault-is rights returns ∙ ap (λ o. option_or o (option_or (same_seniority rights) (option_or (zone_fault rights) (parts_fault rights returns)))) found)
+    by_variant e
+    (roll_fault-is rights returns
+    ∙ ap (λ o. option_or o
+    (option_or (same_seniority rights) (option_or (zone_fault rights) (parts_fault rights returns)))) found)
   where
     by_variant : (e : RollRefused) → roll_fault rights returns ≡ Some e → IsRefusal e (roll_fault rights returns)
     by_variant (BadDate a) h = h
@@ -120,17 +146,24 @@ some_or (ZoneOrder a) part rest h = ap (λ o. option_or o rest) h
 some_or (ReturnParts a) part rest h = ap (λ o. option_or o rest) h
 some_or OutOfMemory part rest h = h
 
-pub refused-seniority : (rights : List Right) (returns : List ReturnRow) (e : RollRefused) → date_fault rights ≡ None → IsRefusal e (same_seniority rights) → IsRefusal e (roll_fault rights returns)
+pub refused-seniority : (rights : List Right) (returns : List ReturnRow) (e : RollRefused) → date_fault rights ≡ None →
+    IsRefusal e (same_seniority rights) → IsRefusal e (roll_fault rights returns)
 refused-seniority rights returns e dates h =
-    refused e (roll_fault rights returns) (option_or (same_seniority rights) (option_or (zone_fault rights) (parts_fault rights returns)))
-    (roll_fault-is rights returns ∙ rw dates refl) (some_or e (same_seniority rights) (option_or (zone_fault rights) (parts_fault rights returns)) h)
+    refused e (roll_fault rights returns)
+    (option_or (same_seniority rights) (option_or (zone_fault rights) (parts_fault rights returns)))
+    (roll_fault-is rights returns ∙ rw dates refl)
+    (some_or e (same_seniority rights) (option_or (zone_fault rights) (parts_fault rights returns)) h)
 
-pub refused-zone : (rights : List Right) (returns : List ReturnRow) (e : RollRefused) → date_fault rights ≡ None → same_seniority rights ≡ None → IsRefusal e (zone_fault rights) → IsRefusal e (roll_fault rights returns)
+pub refused-zone : (rights : List Right) (returns : List ReturnRow) (e : RollRefused) → date_fault rights ≡ None →
+    same_seniority rights ≡ None → IsRefusal e (zone_fault rights) → IsRefusal e (roll_fault rights returns)
 refused-zone rights returns e dates seniority h =
     refused e (roll_fault rights returns) (option_or (zone_fault rights) (parts_fault rights returns))
-    (roll_fault-is rights returns ∙ rw dates (rw seniority refl)) (some_or e (zone_fault rights) (parts_fault rights returns) h)
+    (roll_fault-is rights returns ∙ rw dates (rw seniority refl))
+    (some_or e (zone_fault rights) (parts_fault rights returns) h)
 
-pub refused-parts : (rights : List Right) (returns : List ReturnRow) (e : RollRefused) → date_fault rights ≡ None → same_seniority rights ≡ None → zone_fault rights ≡ None →
+pub refused-parts : (rights : List Right) (returns : List ReturnRow) (e : RollRefused) → date_fault rights ≡ None →
+    same_seniority rights ≡ None → zone_fault rights ≡ None →
     IsRefusal e (parts_fault rights returns) → IsRefusal e (roll_fault rights returns)
 refused-parts rights returns e dates seniority zones h =
-    refused e (roll_fault rights returns) (parts_fault rights returns) (roll_fault-is rights returns ∙ rw dates (rw seniority (rw zones refl))) h
+    refused e (roll_fault rights returns) (parts_fault rights returns)
+    (roll_fault-is rights returns ∙ rw dates (rw seniority (rw zones refl))) h

@@ -1,5 +1,6 @@
 -- Zones at fault.
-use Rattle.std.proofs.Common.{◌≡◌, ℕ, zero, suc, ◌+◌, ◌-◌, ◌<◌, ◌≤◌, Bool, true, false, cond, List, [], ◌∷◌, length, take, get_or, Option, Some, None, refl, sym, ap, ◌∙◌, arith, below_more}
+use Rattle.std.proofs.Common.{◌≡◌, ℕ, zero, suc, ◌+◌, ◌-◌, ◌<◌, ◌≤◌, Bool, true, false, cond, List, [], ◌∷◌, length}
+use Rattle.std.proofs.Common.{take, get_or, Option, Some, None, refl, sym, ap, ◌∙◌, arith, below_more}
 use Rattle.std.proofs.lemmas.List.Folds.{list_any_more}
 use Rattle.std.specs.Prelude.{nat_lt, not, ◌&&◌, ◌||◌, option_map}
 use Rattle.std.specs.HashSet.{HashSet, contains, Updates}
@@ -23,31 +24,38 @@ ZoneSet = HashSet (ℕ × ℕ) (BuildHasherDefault FoldHasher)
 
 -- the first rights have no zone at fault, and the set has the reservoirs and levels of their zones
 pub record AreClear (rights : List Right) (seen : ZoneSet) (i : ℕ) : Type 0 where
-  pub levels : (reservoir level : ℕ) → contains same_zone seen (reservoir, level) ≡ list_any (λ r. is_zone_kind reservoir level r.kind) (take i rights)
+  pub levels : (reservoir level : ℕ) →
+      contains same_zone seen (reservoir, level) ≡ list_any (λ r. is_zone_kind reservoir level r.kind) (take i rights)
   pub clear : (k : ℕ) → k < i → has_zone_fault rights k ≡ false
 
 -- the entry at a place within the list
-pub of_entry-within : {X Y : Type 0} (xs : List X) (k : ℕ) (f : X → Y) (default : Y) (x : X) → k < length xs → x ≡ get_or xs k x → of_entry xs k f default ≡ f x
+pub of_entry-within : {X Y : Type 0} (xs : List X) (k : ℕ) (f : X → Y) (default : Y) (x : X) → k < length xs →
+    x ≡ get_or xs k x → of_entry xs k f default ≡ f x
 of_entry-within [] k f default x below is = absurd (omega arith)
 of_entry-within (y ∷ ys) zero f default x below is = ap f (sym is)
 of_entry-within (y ∷ ys) (suc k) f default x below is = of_entry-within ys k f default x (omega arith) is
 
 -- what decides whether a zone is at fault
-has_zone_fault-is : (rights : List Right) (i : ℕ) (r : Right) (at its : ℕ) (zones : ZoneTable) (seen : ZoneSet) → i < length rights →
+has_zone_fault-is : (rights : List Right) (i : ℕ) (r : Right) (at its : ℕ) (zones : ZoneTable) (seen : ZoneSet) →
+    i < length rights →
     r ≡ get_or rights i r → r.kind ≡ Zone at its → AreSeniorZones rights zones → AreClear rights seen i →
-    has_zone_fault rights i ≡ contains same_zone seen (at, its) || (nat_lt 1 its && not (has_senior zones at (its - 1) (priority r)))
+    has_zone_fault rights i ≡ contains same_zone seen
+    (at, its) || (nat_lt 1 its && not (has_senior zones at (its - 1) (priority r)))
 has_zone_fault-is rights i r at its zones seen below is kind seniors so_far =
     of_entry-within rights i (λ x. is_zone_fault rights (take i rights) (priority x) x.kind) false r below is
     ∙ (ap (is_zone_fault rights (take i rights) (priority r)) kind
-    ∙ (ap (λ b. b || (nat_lt 1 its && not (list_any (is_senior_zone at (its - 1) (priority r)) rights))) (sym (so_far.levels at its))
+    ∙ (ap (λ b. b || (nat_lt 1 its && not (list_any (is_senior_zone at (its - 1) (priority r)) rights)))
+    (sym (so_far.levels at its))
     ∙ ap (λ b. contains same_zone seen (at, its) || (nat_lt 1 its && not b)) (sym (seniors at (its - 1) (priority r)))))
 
 -- a zone whose reservoir and level the set has
-pub fault-repeats : (rights : List Right) (i : ℕ) (r : Right) (at its : ℕ) (zones : ZoneTable) (seen : ZoneSet) (is_new : Bool) → i < length rights →
+pub fault-repeats : (rights : List Right) (i : ℕ) (r : Right) (at its : ℕ) (zones : ZoneTable) (seen : ZoneSet)
+    (is_new : Bool) → i < length rights →
     r ≡ get_or rights i r → r.kind ≡ Zone at its → AreSeniorZones rights zones → AreClear rights seen i →
     is_new ≡ not (contains same_zone seen (at, its)) → is_new ≡ false → has_zone_fault rights i ≡ true
 fault-repeats rights i r at its zones seen is_new below is kind seniors so_far added old =
-    by_test (has_zone_fault rights i) (contains same_zone seen (at, its)) (nat_lt 1 its && not (has_senior zones at (its - 1) (priority r)))
+    by_test (has_zone_fault rights i) (contains same_zone seen (at, its))
+    (nat_lt 1 its && not (has_senior zones at (its - 1) (priority r)))
     (has_zone_fault-is rights i r at its zones seen below is kind seniors so_far) (sym added ∙ old)
   where
     by_test : (f c l : Bool) → f ≡ c || l → not c ≡ false → f ≡ true
@@ -55,11 +63,14 @@ fault-repeats rights i r at its zones seen is_new below is kind seniors so_far a
     by_test f false l e n = cc
 
 -- a zone that lacks a senior one
-pub fault-lacks : (rights : List Right) (i : ℕ) (r : Right) (at its : ℕ) (zones : ZoneTable) (seen : ZoneSet) (key : List ℕ) (lacks : Bool) → i < length rights →
-    r ≡ get_or rights i r → r.kind ≡ Zone at its → AreSeniorZones rights zones → AreClear rights seen i → key ≡ priority r →
+pub fault-lacks : (rights : List Right) (i : ℕ) (r : Right) (at its : ℕ) (zones : ZoneTable) (seen : ZoneSet)
+    (key : List ℕ) (lacks : Bool) → i < length rights →
+    r ≡ get_or rights i r → r.kind ≡ Zone at its → AreSeniorZones rights zones → AreClear rights seen i →
+    key ≡ priority r →
     lacks ≡ nat_lt 1 its && not (has_senior zones at (its - 1) key) → lacks ≡ true → has_zone_fault rights i ≡ true
 fault-lacks rights i r at its zones seen key lacks below is kind seniors so_far same_key told so =
-    by_test (has_zone_fault rights i) (contains same_zone seen (at, its)) (nat_lt 1 its && not (has_senior zones at (its - 1) (priority r)))
+    by_test (has_zone_fault rights i) (contains same_zone seen (at, its))
+    (nat_lt 1 its && not (has_senior zones at (its - 1) (priority r)))
     (has_zone_fault-is rights i r at its zones seen below is kind seniors so_far)
     (ap (λ q. nat_lt 1 its && not (has_senior zones at (its - 1) q)) (sym same_key) ∙ (sym told ∙ so))
   where
@@ -68,12 +79,15 @@ fault-lacks rights i r at its zones seen key lacks below is kind seniors so_far 
     by_test f false l e n = e ∙ n
 
 -- a zone that does neither
-pub no_fault : (rights : List Right) (i : ℕ) (r : Right) (at its : ℕ) (zones : ZoneTable) (seen : ZoneSet) (key : List ℕ) (is_new lacks : Bool) → i < length rights →
-    r ≡ get_or rights i r → r.kind ≡ Zone at its → AreSeniorZones rights zones → AreClear rights seen i → key ≡ priority r →
+pub no_fault : (rights : List Right) (i : ℕ) (r : Right) (at its : ℕ) (zones : ZoneTable) (seen : ZoneSet)
+    (key : List ℕ) (is_new lacks : Bool) → i < length rights →
+    r ≡ get_or rights i r → r.kind ≡ Zone at its → AreSeniorZones rights zones → AreClear rights seen i →
+    key ≡ priority r →
     is_new ≡ not (contains same_zone seen (at, its)) → is_new ≡ true →
     lacks ≡ nat_lt 1 its && not (has_senior zones at (its - 1) key) → lacks ≡ false → has_zone_fault rights i ≡ false
 no_fault rights i r at its zones seen key is_new lacks below is kind seniors so_far same_key added fresh told neither =
-    by_test (has_zone_fault rights i) (contains same_zone seen (at, its)) (nat_lt 1 its && not (has_senior zones at (its - 1) (priority r)))
+    by_test (has_zone_fault rights i) (contains same_zone seen (at, its))
+    (nat_lt 1 its && not (has_senior zones at (its - 1) (priority r)))
     (has_zone_fault-is rights i r at its zones seen below is kind seniors so_far) (sym added ∙ fresh)
     (ap (λ q. nat_lt 1 its && not (has_senior zones at (its - 1) q)) (sym same_key) ∙ (sym told ∙ neither))
   where
@@ -81,18 +95,24 @@ no_fault rights i r at its zones seen key is_new lacks below is kind seniors so_
     by_test f true l e n o = cc
     by_test f false l e n o = e ∙ o
 
-pub zone_fault-first : (rights : List Right) (i : ℕ) (seen : ZoneSet) → i < length rights → AreClear rights seen i → has_zone_fault rights i ≡ true →
+pub zone_fault-first : (rights : List Right) (i : ℕ) (seen : ZoneSet) → i < length rights → AreClear rights seen i →
+    has_zone_fault rights i ≡ true →
     zone_fault rights ≡ Some (ZoneOrder i)
 zone_fault-first rights i seen below so_far here =
-    ap (λ (o : Option ℕ). option_map ZoneOrder o) (find-place (has_zone_fault rights) (length rights) i below so_far.clear here)
+    ap (λ (o : Option ℕ). option_map ZoneOrder o)
+    (find-place (has_zone_fault rights) (length rights) i below so_far.clear here)
 
-pub zone_fault-none : (rights : List Right) (i : ℕ) (seen : ZoneSet) → length rights ≤ i → AreClear rights seen i → zone_fault rights ≡ None
+pub zone_fault-none : (rights : List Right) (i : ℕ) (seen : ZoneSet) → length rights ≤ i → AreClear rights seen i →
+    zone_fault rights ≡ None
 zone_fault-none rights i seen past all =
-    ap (λ (o : Option ℕ). option_map ZoneOrder o) (find-no_place (has_zone_fault rights) (length rights) (λ k below. all.clear k (omega arith)))
+    ap (λ (o : Option ℕ). option_map ZoneOrder o)
+    (find-no_place (has_zone_fault rights) (length rights) (λ k below. all.clear k (omega arith)))
 
 -- one more zone that is not at fault
-pub clear-zone : (rights : List Right) (i : ℕ) (r : Right) (at its : ℕ) (seen new : ZoneSet) → i < length rights → r ≡ get_or rights i r → r.kind ≡ Zone at its →
-    Updates same_zone seen new (at, its) true → has_zone_fault rights i ≡ false → AreClear rights seen i → AreClear rights new (i + 1)
+pub clear-zone : (rights : List Right) (i : ℕ) (r : Right) (at its : ℕ) (seen new : ZoneSet) → i < length rights →
+    r ≡ get_or rights i r → r.kind ≡ Zone at its →
+    Updates same_zone seen new (at, its) true → has_zone_fault rights i ≡ false → AreClear rights seen i →
+    AreClear rights new (i + 1)
 clear-zone rights i r at its seen new below is kind updates fine so_far = record {
   levels = λ reservoir level.
       updates.0 (reservoir, level)
@@ -111,7 +131,8 @@ clear-zone rights i r at its seen new below is kind updates fine so_far = record
     by_test false false = refl
 
 -- one more right that is no zone
-pub clear-other : (rights : List Right) (i : ℕ) (r : Right) (seen : ZoneSet) → i < length rights → r ≡ get_or rights i r →
+pub clear-other : (rights : List Right) (i : ℕ) (r : Right) (seen : ZoneSet) → i < length rights →
+    r ≡ get_or rights i r →
     ((at its : ℕ) → r.kind ≡ Zone at its → ⊥) → AreClear rights seen i → AreClear rights seen (i + 1)
 clear-other rights i r seen below is apart so_far = record {
   levels = λ reservoir level.
@@ -127,10 +148,12 @@ clear-other rights i r seen below is apart so_far = record {
     or_false true = refl
     or_false false = refl
 
-    no_fault : (k : RightKind) → ((at its : ℕ) → k ≡ Zone at its → ⊥) → is_zone_fault rights (take i rights) (priority r) k ≡ false
+    no_fault : (k : RightKind) → ((at its : ℕ) → k ≡ Zone at its → ⊥) →
+        is_zone_fault rights (take i rights) (priority r) k ≡ false
     no_fault (Diversion node) n = refl
     no_fault (Instream link) n = refl
     no_fault (Zone at its) n = absurd (n at its refl)
 
     fine : has_zone_fault rights i ≡ false
-    fine = of_entry-within rights i (λ x. is_zone_fault rights (take i rights) (priority x) x.kind) false r below is ∙ no_fault r.kind apart
+    fine = of_entry-within rights i (λ x. is_zone_fault rights (take i rights) (priority x) x.kind) false r below is
+        ∙ no_fault r.kind apart

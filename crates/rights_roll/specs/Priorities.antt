@@ -11,4 +11,5 @@ numbers_of p = p.year ∷ p.month ∷ p.day ∷ p.order ∷ []
 -- priorities are compared by year, then by month, day and order
 abbrev pub priority_cmp : Priority → Priority → Ordering
 priority_cmp p q =
-    ordering_then (nat_cmp p.year q.year) (ordering_then (nat_cmp p.month q.month) (ordering_then (nat_cmp p.day q.day) (nat_cmp p.order q.order)))
+    ordering_then (nat_cmp p.year q.year)
+    (ordering_then (nat_cmp p.month q.month) (ordering_then (nat_cmp p.day q.day) (nat_cmp p.order q.order)))

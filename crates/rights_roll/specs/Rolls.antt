@@ -17,13 +17,15 @@ IsNextOn rights link start (Some right) =
     (start ≤ right) × (right < length rights) × (link_in rights right ≡ Some link)
     × ((s : ℕ) → start ≤ s → s < right → link_in rights s ≢ Some link)
 
--- the first instream right on each link, and for each instream right the next one on its link; for every other right none
+-- the first instream right on each link, and for each instream right the next one on its link; for every other right
+-- none
 pub record AreChains (rights : List Right) (first_on next_on : List (Option ℕ)) : Type 0 where
   pub count : length next_on ≡ length rights
   pub firsts : (link : ℕ) → IsNextOn rights link 0 (slice_index_or first_on link None)
   pub nexts : (right link : ℕ) → right < length rights → link_in rights right ≡ Some link →
       IsNextOn rights link (right + 1) (slice_index_or next_on right None)
-  pub others : (right : ℕ) → right < length rights → link_in rights right ≡ None → slice_index_or next_on right None ≡ None
+  pub others : (right : ℕ) → right < length rights → link_in rights right ≡ None →
+      slice_index_or next_on right None ≡ None
 
 pub record IsRollOf (rights : List Right) (roll : RollSeen) : Type 0 where
   pub order : roll.order ≡ by_seniority rights

@@ -11,7 +11,8 @@ use Rattle.rights_roll.specs.declared.priority.Priority.{Priority}
 
 -- each priority has the first right with it
 abbrev pub AreRanks : List Right → BTreeMap Priority ℕ → Type 0
-AreRanks rights ranks = (p : Priority) → tree.get priority_cmp ranks p ≡ position (bytes_eq (numbers_of p)) (map priority rights)
+AreRanks rights ranks = (p : Priority) →
+    tree.get priority_cmp ranks p ≡ position (bytes_eq (numbers_of p)) (map priority rights)
 
 -- each right has the sum of its return rows' parts, or the greatest u32 where it is more
 pub record AreParts (returns : List ReturnRow) (rights : ℕ) (sums : List ℕ) : Type 0 where

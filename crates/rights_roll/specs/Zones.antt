@@ -28,4 +28,5 @@ has_senior zones reservoir level key = is_senior_one (get same_zone zones (reser
 -- the table tells whether some zone of a reservoir and level is senior to a priority
 abbrev pub AreSeniorZones : List Right → ZoneTable → Type 0
 AreSeniorZones rights zones =
-    (reservoir level : ℕ) (key : List ℕ) → has_senior zones reservoir level key ≡ list_any (is_senior_zone reservoir level key) rights
+    (reservoir level : ℕ) (key : List ℕ) →
+    has_senior zones reservoir level key ≡ list_any (is_senior_zone reservoir level key) rights

@@ -1,5 +1,6 @@
 //! The faults of dates and of return rows, each by a function that finds the first.
-ghost use Rattle.std.specs.Prelude.{◌≡◌, ◌<◌, ◌≤◌, length, nat_lt, position, All, None, Some, OnOk, IfOk, IfErr, MatchResult};
+ghost use Rattle.std.specs.Prelude.{◌≡◌, ◌<◌, ◌≤◌, length, nat_lt, position, All, None, Some, OnOk, IfOk, IfErr};
+ghost use Rattle.std.specs.Prelude.{MatchResult};
 ghost use Rattle.water_model.specs.Rights.{has_bad_date};
 ghost use Rattle.rights_roll.specs.RollFaults.{date_fault, parts_fault, IsRefusal};
 ghost use Rattle.rights_roll.specs.Tables.{AreParts};

@@ -1,5 +1,6 @@
 //! The roll of rights.
-ghost use Rattle.std.specs.Prelude.{◌≡◌, ◌-◌, ◌<◌, ◌≤◌, length, map, slice_index, slice_index_or, [], All, None, OnOk, IfOk, IfErr};
+ghost use Rattle.std.specs.Prelude.{◌≡◌, ◌-◌, ◌<◌, ◌≤◌, length, map, slice_index, slice_index_or, [], All, None, OnOk};
+ghost use Rattle.std.specs.Prelude.{IfOk, IfErr};
 ghost use Rattle.water_model.specs.Rights.{IsSoundRoll};
 ghost use Rattle.water_model.specs.Valid.{IsValidBasin};
 ghost use Rattle.rights_roll.specs.RollFaults.{roll_fault, IsRollRefusal};
@@ -30,7 +31,13 @@ impl Model for Roll {
 
     ghost Value = { RollSeen };
 
-    ghost view = { λ r. record { order = r.order.items; wants = r.wants.items; first_on = r.first_on.items; next_on = r.next_on.items } };
+    ghost view = { λ r. record {
+      order = r.order.items;
+      wants = r.wants.items;
+      first_on = r.first_on.items;
+      next_on =
+          r.next_on.items;
+    } };
 
     ghost invariant = { λ r. length r.next_on.items ≡ length r.wants.items };
 }
@@ -113,8 +120,8 @@ impl Roll {
         self.first_on.get(link as usize).copied().flatten()
     }
 
-    /// The next instream right on the link of an instream right, or `None` where there is none, or the right is no instream
-    /// right.
+    /// The next instream right on the link of an instream right, or `None` where there is none, or the right is no
+    /// instream right.
     pub fn next_on(&self, right: u32) -> Option<u32>
         requires { right < length self.now.wants }
         ensures { result ≡ slice_index_or self.now.next_on right None }

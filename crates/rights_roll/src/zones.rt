@@ -26,7 +26,8 @@ fn has_senior(zones: &SeniorZones, zone: (u32, u8), priority: &Priority) -> bool
 /// Notes a zone, unless one that is senior to it has its reservoir and level.
 fn note_zone(zones: &mut SeniorZones, zone: (u32, u8), priority: Priority) -> Result<(), AllocError>
     ensures { OnOk result ((reservoir level : ℕ) (key : List ℕ) → has_senior zones.new reservoir level key
-        ≡ (has_senior zones.old reservoir level key || (same_zone zone (reservoir, level) && is_lower (numbers_of priority) key))) }
+        ≡ (has_senior zones.old reservoir level
+        key || (same_zone zone (reservoir, level) && is_lower (numbers_of priority) key))) }
 {
     if !has_senior(zones, zone, &priority) {
         zones.insert(zone, priority)?;

@@ -1,6 +1,8 @@
 -- The network of nodes and links that have no fault.
-use Rattle.std.proofs.Common.{◌≡◌, ℕ, zero, suc, ◌<◌, refl, sym, ◌∙◌, ap, subst, arith, List, [], ◌∷◌, length, get_or, map, inl, inr}
-use Rattle.std.proofs.lemmas.Bool.{cases_Bool, and_parts, and_from, false_from_ne_true, false≢true, eqb-true, eq-eqb, not_from_true, not_from_false}
+use Rattle.std.proofs.Common.{◌≡◌, ℕ, zero, suc, ◌<◌, refl, sym, ◌∙◌, ap, subst, arith, List, [], ◌∷◌, length, get_or}
+use Rattle.std.proofs.Common.{map, inl, inr}
+use Rattle.std.proofs.lemmas.Bool.{cases_Bool, and_parts, and_from, false_from_ne_true, false≢true, eqb-true, eq-eqb}
+use Rattle.std.proofs.lemmas.Bool.{not_from_true, not_from_false}
 use Rattle.std.specs.Prelude.{◌==◌, ◌&&◌, not, Option, Some, None, is_none, All, slice_index}
 use Rattle.std.specs.List.{find, range_with_len}
 use Rattle.water_model.specs.Network.{tail_in, head_in, is_river_in, is_outlet_in, HasNodes, IsSoundNetwork}
@@ -18,30 +20,44 @@ use Rattle.river_net.proofs.Finds.{find_same}
 use Rattle.river_net.proofs.NoFault.{has_river, river_found, found_river}
 
 -- a node has a first river exactly where a river leaves it
-river_or_none : (links : List Link) (node : ℕ) (o : Option ℕ) → IsFirstFrom (leaves_as_river links node) 0 (length links) o → not (has_river links node) ≡ is_none o
-river_or_none links node None first = not_from_false (has_river links node) (false_from_ne_true (has_river links node) (λ h.
+river_or_none : (links : List Link) (node : ℕ) (o : Option ℕ) →
+    IsFirstFrom (leaves_as_river links node) 0 (length links) o → not (has_river links node) ≡ is_none o
+river_or_none links node None first =
+    not_from_false (has_river links node) (false_from_ne_true (has_river links node) (λ h.
     let out = river_found links node h in
     false≢true (sym (first out.link (omega arith) out.in_range)
-    ∙ and_from (tail_in links out.link == node) (is_river_in links out.link) (eq-eqb (tail_in links out.link) node out.tail) out.river)))
+    ∙ and_from (tail_in links out.link == node) (is_river_in links out.link)
+    (eq-eqb (tail_in links out.link) node out.tail) out.river)))
 river_or_none links node (Some e) first =
     let parts = and_parts (tail_in links e == node) (is_river_in links e) first.2 in
-    not_from_true (has_river links node) (found_river links node record { link = e; in_range = first.1; tail = eqb-true (tail_in links e) node parts.0; river = parts.1 })
+    not_from_true (has_river links node)
+    (found_river links node record {
+      link = e;
+      in_range = first.1;
+      tail =
+          eqb-true (tail_in links e) node parts.0;
+      river = parts.1;
+    })
 
 -- the first node without a river, over links and over first rivers
 pub without_river : (nodes : List Node) (links : List Link) (rivers : List (Option ℕ)) →
     AreFirsts (leaves_as_river links) (length nodes) 0 (length links) rivers →
     first_without_river nodes links ≡ find (keeps_water nodes rivers) (range_with_len 0 (length nodes))
 unfolding first_without_river
-without_river nodes links rivers firsts = find_same (lacks_river nodes links) (keeps_water nodes rivers) 0 (length nodes) (λ v _ l.
-    ap (λ t. not (is_outlet_in nodes v) && t) (river_or_none links v (get_or rivers v None) (firsts.each v (omega arith))))
+without_river nodes links rivers firsts =
+    find_same (lacks_river nodes links) (keeps_water nodes rivers) 0 (length nodes) (λ v _ l.
+    ap (λ t. not (is_outlet_in nodes v) && t)
+    (river_or_none links v (get_or rivers v None) (firsts.each v (omega arith))))
 
 -- the first river of a node of a sound network
-river_of : (nodes : List Node) (links : List Link) (v : ℕ) (o : Option ℕ) → IsSoundNetwork nodes links → v < length nodes →
+river_of : (nodes : List Node) (links : List Link) (v : ℕ) (o : Option ℕ) → IsSoundNetwork nodes links →
+    v < length nodes →
     IsFirstFrom (leaves_as_river links v) 0 (length links) o → IsRiverOf nodes links v o
 river_of nodes links v None sound l first = elim (cases_Bool (is_outlet_in nodes v)) [
   | inl outlet ↦ outlet
   | inr inner ↦ (let out = sound.rivers v l inner in absurd (false≢true (sym (first out.link (omega arith) out.in_range)
-      ∙ and_from (tail_in links out.link == v) (is_river_in links out.link) (eq-eqb (tail_in links out.link) v out.tail) out.river)))
+      ∙ and_from (tail_in links out.link == v) (is_river_in links out.link) (eq-eqb (tail_in links out.link) v out.tail)
+      out.river)))
 ]
 river_of nodes links v (Some e) sound l first =
     let parts = and_parts (tail_in links e == v) (is_river_in links e) first.2 in
@@ -50,14 +66,17 @@ river_of nodes links v (Some e) sound l first =
       record {
         in_range = first.1;
         river = parts.1;
-        first = λ other before same. false_from_ne_true (is_river_in links other) (λ river. false≢true (sym (first.3 other (omega arith) before)
-            ∙ and_from (tail_in links other == v) (is_river_in links other) (eq-eqb (tail_in links other) v (same ∙ tail)) river));
+        first = λ other before same. false_from_ne_true (is_river_in links other)
+            (λ river. false≢true (sym (first.3 other (omega arith) before)
+            ∙ and_from (tail_in links other == v) (is_river_in links other)
+            (eq-eqb (tail_in links other) v (same ∙ tail)) river));
       },
       tail,
     )
 
 -- the list of heads, place by place
-heads_are : (links : List Link) (e : ℕ) → e < length links → slice_index (map (λ (l : Link). l.to) links) e ≡ head_in links e
+heads_are : (links : List Link) (e : ℕ) → e < length links →
+    slice_index (map (λ (l : Link). l.to) links) e ≡ head_in links e
 heads_are [] e l = absurd (omega arith)
 heads_are (x ∷ links) zero l = refl
 heads_are (x ∷ links) (suc e) l = heads_are links e (omega arith)
@@ -68,9 +87,12 @@ heads_count [] = refl
 heads_count (x ∷ links) = ap suc (heads_count links)
 
 -- the network of sound nodes and links
-pub net_is : (nodes : List Node) (links : List Link) (order heads : List ℕ) (rivers : List (Option ℕ)) → All (λ l. HasNodes nodes l) links →
-    IsSoundNetwork nodes links → IsRunningOrder nodes links order → AreFirsts (leaves_as_river links) (length nodes) 0 (length links) rivers →
-    heads ≡ map (λ (l : Link). l.to) links → IsNet nodes links (record { order = order; rivers = rivers; heads = heads })
+pub net_is : (nodes : List Node) (links : List Link) (order heads : List ℕ) (rivers : List (Option ℕ)) →
+    All (λ l. HasNodes nodes l) links →
+    IsSoundNetwork nodes links → IsRunningOrder nodes links order →
+    AreFirsts (leaves_as_river links) (length nodes) 0 (length links) rivers →
+    heads ≡ map (λ (l : Link). l.to) links →
+    IsNet nodes links (record { order = order; rivers = rivers; heads = heads })
 net_is nodes links order heads rivers ends sound run firsts heads_is = record {
   ends = ends;
   run = run;
@@ -81,13 +103,18 @@ net_is nodes links order heads rivers ends sound run firsts heads_is = record {
 }
 
 -- the node on a cycle that the search over the graph found
-pub on_cycle : (nodes : List Node) (links : List Link) (g : GraphSeen) (o found : Option ℕ) → g ≡ record { nodes = length nodes; links = links } →
+pub on_cycle : (nodes : List Node) (links : List Link) (g : GraphSeen) (o found : Option ℕ) →
+    g ≡ record { nodes = length nodes; links = links } →
     found ≡ find (reaches_itself g) (range_with_len 0 g.nodes) → found ≡ o → first_on_cycle nodes links ≡ o
 unfolding first_on_cycle
-on_cycle nodes links g o found is search same = sym (ap (λ (h : GraphSeen). find (reaches_itself h) (range_with_len 0 h.nodes)) is) ∙ (sym search ∙ same)
+on_cycle nodes links g o found is search same =
+    sym (ap (λ (h : GraphSeen). find (reaches_itself h) (range_with_len 0 h.nodes)) is) ∙ (sym search ∙ same)
 
 -- the order that the graph was sorted into
-pub order_runs : (nodes : List Node) (links : List Link) (g : GraphSeen) (order waits : List ℕ) → All (λ l. HasNodes nodes l) links → IsSoundNetwork nodes links →
-    g ≡ record { nodes = length nodes; links = links } → IsReleased g order waits (length order) → IsRunningOrder nodes links order
+pub order_runs : (nodes : List Node) (links : List Link) (g : GraphSeen) (order waits : List ℕ) →
+    All (λ l. HasNodes nodes l) links → IsSoundNetwork nodes links →
+    g ≡ record { nodes = length nodes; links = links } → IsReleased g order waits (length order) →
+    IsRunningOrder nodes links order
 order_runs nodes links g order waits ends sound is now =
-    running_order nodes links order waits record { ends = ends_in nodes links ends } (subst (λ (h : GraphSeen). IsReleased h order waits (length order)) is now) sound.acyclic
+    running_order nodes links order waits record { ends = ends_in nodes links ends }
+    (subst (λ (h : GraphSeen). IsReleased h order waits (length order)) is now) sound.acyclic

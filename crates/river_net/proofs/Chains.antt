@@ -27,7 +27,8 @@ repeats n f below = elim (all_or_one n (λ v. nat_lt (count_where (suc n) (λ k.
     -- each of the n + 1 numbers is counted at one value
     all : total n (λ v. count_where (suc n) (λ k. f k == v)) ≡ suc n
     all = total_exchange n (suc n) (λ v k. if f k == v then 1 else 0)
-        ∙ (total_same (suc n) (λ k. total n (λ v. if f k == v then 1 else 0)) (λ k. 1) (λ k l. total_at n (f k) 1 ∙ at_inside (f k) n 1 (below k (omega arith)))
+        ∙ (total_same (suc n) (λ k. total n (λ v. if f k == v then 1 else 0)) (λ k. 1)
+        (λ k l. total_at n (f k) 1 ∙ at_inside (f k) n 1 (below k (omega arith)))
         ∙ total_ones (suc n))
 
     too_few : ((v : ℕ) → v < n → nat_lt (count_where (suc n) (λ k. f k == v)) 2 ≡ true) → ⊥
@@ -35,7 +36,8 @@ repeats n f below = elim (all_or_one n (λ v. nat_lt (count_where (suc n) (λ k.
       arith,
       all,
       total_ones n,
-      total_le n (λ v. count_where (suc n) (λ k. f k == v)) (λ v. 1) (λ v l. let lt = ltb-true (count_where (suc n) (λ k. f k == v)) 2 (few v l) in omega arith),
+      total_le n (λ v. count_where (suc n) (λ k. f k == v)) (λ v. 1) (λ v l. let lt =
+          ltb-true (count_where (suc n) (λ k. f k == v)) 2 (few v l) in omega arith),
     )
 
     twice : (v : ℕ) → 2 ≤ count_where (suc n) (λ k. f k == v) → Repeats f n
@@ -52,7 +54,9 @@ repeats n f below = elim (all_or_one n (λ v. nat_lt (count_where (suc n) (λ k.
             same = eqb-true (f one.place) v one.passes ∙ sym (eqb-true (f other.place) v other.passes);
           }
           | inr more ↦ elim (cases_eq one.place other.place) [
-            | inl same ↦ (let p = ap (λ m. count_where m (λ k. f k == v)) same in let q = one.number in let r = other.number in absurd (omega arith))
+            | inl same ↦
+                (let p = ap (λ m. count_where m (λ k. f k == v)) same in let q = one.number in let r = other.number in
+                absurd (omega arith))
             | inr apart ↦ record {
               first = other.place;
               second = one.place;
@@ -91,7 +95,8 @@ before f x zero = x
 before f x (suc i) = f i
 
 -- a link to a node, before the links to its tail
-pub chain_more : (links : List Link) (nodes k e : ℕ) → e < length links → head_in links e < nodes → Chain links nodes k (tail_in links e) →
+pub chain_more : (links : List Link) (nodes k e : ℕ) → e < length links → head_in links e < nodes →
+    Chain links nodes k (tail_in links e) →
     Chain links nodes (suc k) (head_in links e)
 unfolding before
 chain_more links nodes k e l m c = record {
@@ -121,7 +126,8 @@ chain_more links nodes k e l m c = record {
     tail (suc i) b = c.tail i (omega arith)
 
 -- a walk leads from each node of a chain to each that stands before it
-chain_walk : (links : List Link) (nodes k node : ℕ) → (c : Chain links nodes k node) → (i j : ℕ) → i < j → j ≤ k → walks links j (c.at j) (c.at i) ≡ true
+chain_walk : (links : List Link) (nodes k node : ℕ) → (c : Chain links nodes k node) → (i j : ℕ) → i < j → j ≤ k →
+    walks links j (c.at j) (c.at i) ≡ true
 chain_walk links nodes k node c i zero l m = absurd (omega arith)
 chain_walk links nodes k node c i (suc j) l m = walk_by links j (c.at (suc j)) (c.at i) record {
   link = c.link j;
@@ -129,17 +135,21 @@ chain_walk links nodes k node c i (suc j) l m = walk_by links j (c.at (suc j)) (
   tail = c.tail j (omega arith);
   rest = elim (cases_eq i j) [
     | inl same ↦ inl (c.head j (omega arith) ∙ ap c.at (sym same))
-    | inr other ↦ inr (ap (λ v. walks links j v (c.at i)) (c.head j (omega arith)) ∙ chain_walk links nodes k node c i j (omega arith) (omega arith))
+    | inr other ↦
+        inr (ap (λ v. walks links j v (c.at i)) (c.head j (omega arith))
+        ∙ chain_walk links nodes k node c i j (omega arith) (omega arith))
   ];
 }
 
 -- a chain of as many links as there are nodes has a node that reaches itself
-pub chain_turns : (links : List Link) (nodes node : ℕ) → Chain links nodes nodes node → (v : ℕ) × (v < nodes) × (walks links nodes v v ≡ true)
+pub chain_turns : (links : List Link) (nodes node : ℕ) → Chain links nodes nodes node → (v : ℕ) × (v < nodes) ×
+    (walks links nodes v v ≡ true)
 chain_turns links nodes node c =
     let r = repeats nodes c.at c.inside in
     let o = r.order in let w = r.within in (
       c.at r.first,
       c.inside r.first (omega arith),
       ap (λ v. walks links nodes v (c.at r.first)) r.same
-          ∙ walk_within links r.second nodes (c.at r.second) (c.at r.first) w (chain_walk links nodes nodes node c r.first r.second o w),
+          ∙ walk_within links r.second nodes (c.at r.second) (c.at r.first) w
+          (chain_walk links nodes nodes node c r.first r.second o w),
     )

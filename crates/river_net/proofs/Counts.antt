@@ -47,7 +47,8 @@ all_or_one (suc n) p = elim (all_or_one n p) [
 
 -- where all places pass, all are counted
 pub all_counted : (n : ℕ) (p : ℕ → Bool) → ((k : ℕ) → k < n → p k ≡ true) → count_where n p ≡ n
-all_counted n p h = total_same n (λ k. if p k then 1 else 0) (λ k. 1) (λ k l. ap (λ t. if t then 1 else 0) (h k l)) ∙ total_ones n
+all_counted n p h = total_same n (λ k. if p k then 1 else 0) (λ k. 1) (λ k l. ap (λ t. if t then 1 else 0) (h k l))
+    ∙ total_ones n
 
 -- where none is counted, none passes
 pub none_passes : (n : ℕ) (p : ℕ → Bool) → count_where n p ≡ 0 → (k : ℕ) → k < n → p k ≡ false

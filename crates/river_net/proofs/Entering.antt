@@ -1,7 +1,8 @@
 -- A link more is counted at its head.
 use Rattle.std.proofs.Common.{◌≡◌, ℕ, ◌+◌, ◌<◌, ◌≤◌, sym, ◌∙◌, ap, arith, List, length, get_or, inl, inr, replicate}
 use Rattle.std.proofs.lemmas.Bool.{cases_eq, eq-eqb, ne_eqb}
-use Rattle.std.proofs.lemmas.List.{get_or-set_same, get_or-set_other, get_or-replicate, get_or_default, length-set, length-replicate}
+use Rattle.std.proofs.lemmas.List.{get_or-set_same, get_or-set_other, get_or-replicate, get_or_default, length-set}
+use Rattle.std.proofs.lemmas.List.{length-replicate}
 use Rattle.std.specs.Prelude.{◌==◌, slice_set, slice_index, if◌then◌else◌}
 use Rattle.place_sums.specs.Sums.{count_where}
 use Rattle.place_sums.proofs.Totals.{total_where_start, total_where_more, count_at_most}
@@ -20,14 +21,17 @@ entering_start g counts is = record {
 }
 
 -- a link more
-pub entering_next : (g : GraphSeen) (k : ℕ) (counts : List ℕ) (x : Link) (old : ℕ) → k < length g.links → x.to < g.nodes →
-    x ≡ get_or g.links k x → old ≡ get_or counts x.to old → AreEntering g k counts → AreEntering g (k + 1) (slice_set counts x.to (old + 1))
+pub entering_next : (g : GraphSeen) (k : ℕ) (counts : List ℕ) (x : Link) (old : ℕ) → k < length g.links →
+    x.to < g.nodes →
+    x ≡ get_or g.links k x → old ≡ get_or counts x.to old → AreEntering g k counts →
+    AreEntering g (k + 1) (slice_set counts x.to (old + 1))
 entering_next g k counts x old below inside read at now = record {
   count = length-set counts x.to (old + 1) ∙ now.count;
   each = λ v l. elim (cases_eq v x.to) [
     | inl same ↦ ap (λ u. slice_index (slice_set counts x.to (old + 1)) u) same
         ∙ get_or-set_same counts x.to (old + 1) 0 room
-        ∙ (let more = one same in let c = counted v in let n = now.each v l in let r = ap (λ u. slice_index counts u) same in omega (arith, old_is))
+        ∙ (let more = one same in let c = counted v in let n = now.each v l in let r =
+        ap (λ u. slice_index counts u) same in omega (arith, old_is))
     | inr other ↦ get_or-set_other counts x.to v (old + 1) 0 other
         ∙ (let none = zero other in let c = counted v in let n = now.each v l in omega arith)
   ];
@@ -42,7 +46,9 @@ entering_next g k counts x old below inside read at now = record {
     old_is : old ≡ slice_index counts x.to
     old_is = at ∙ get_or_default counts x.to old 0 room
 
-    counted : (v : ℕ) → count_where (k + 1) (λ e. head_in g.links e == v) ≡ count_where k (λ e. head_in g.links e == v) + (if head_in g.links k == v then 1 else 0)
+    counted : (v : ℕ) →
+        count_where (k + 1) (λ e. head_in g.links e == v) ≡ count_where k
+        (λ e. head_in g.links e == v) + (if head_in g.links k == v then 1 else 0)
     counted v = total_where_more k (λ e. head_in g.links e == v) (λ e. 1)
 
     one : {v : ℕ} → v ≡ x.to → (if head_in g.links k == v then 1 else 0) ≡ 1 + 0
@@ -52,7 +58,8 @@ entering_next g k counts x old below inside read at now = record {
     zero {v} other = ap (λ t. if t then 1 else 0) (ne_eqb (head_in g.links k) v (λ h. other (sym h ∙ head)))
 
 -- a count is small
-pub entering_small : (g : GraphSeen) (k : ℕ) (counts : List ℕ) (v old : ℕ) → v < g.nodes → old ≡ get_or counts v old → AreEntering g k counts → old ≤ k
+pub entering_small : (g : GraphSeen) (k : ℕ) (counts : List ℕ) (v old : ℕ) → v < g.nodes → old ≡ get_or counts v old →
+    AreEntering g k counts → old ≤ k
 entering_small g k counts v old inside at now =
     let c = now.count in
     let room : v < length counts = omega arith in

@@ -9,9 +9,11 @@ use Rattle.water_model.specs.declared.types.Node.{Node}
 use Rattle.water_model.proofs.Balance.{entry_holds}
 
 -- what is said of an entry, where it was read
-pub entry_is : {X Y : Type 0} (xs : List X) (k : ℕ) (x : X) (f : X → Y) (default : Y) → k < length xs → x ≡ get_or xs k x →
+pub entry_is : {X Y : Type 0} (xs : List X) (k : ℕ) (x : X) (f : X → Y) (default : Y) → k < length xs →
+    x ≡ get_or xs k x →
     of_entry xs k f default ≡ f x
-entry_is xs k x f default l read = ap (λ o. unwrap_or (option_map f o) default) (slice_get_read xs (length xs) k x refl l read)
+entry_is xs k x f default l read =
+    ap (λ o. unwrap_or (option_map f o) default) (slice_get_read xs (length xs) k x refl l read)
 
 -- the ends of links are nodes
 pub ends_in : (nodes : List Node) (links : List Link) → All (λ l. HasNodes nodes l) links → (e : ℕ) → e < length links →

@@ -1,5 +1,6 @@
 -- A link more is put into the list of its tail.
-use Rattle.std.proofs.Common.{◌≡◌, ◌∙◌, ℕ, ◌+◌, ◌-◌, ◌<◌, Bool, false, List, length, sym, ap, subst, arith, get_or, inl, inr}
+use Rattle.std.proofs.Common.{◌≡◌, ◌∙◌, ℕ, ◌+◌, ◌-◌, ◌<◌, Bool, false, List, length, sym, ap, subst, arith, get_or, inl}
+use Rattle.std.proofs.Common.{inr}
 use Rattle.std.proofs.lemmas.Bool.{cases_eq, eq-eqb, ne_eqb}
 use Rattle.std.proofs.lemmas.List.{get_or-set_same, get_or-set_other, length-set}
 use Rattle.std.specs.Prelude.{Option, Some, None, slice_set}
@@ -8,7 +9,8 @@ use Rattle.water_model.specs.declared.types.Link.{Link}
 use Rattle.river_net.specs.Firsts.{IsFirstFrom, IsLeaving, leaves}
 
 -- a place before the others that does not pass
-first_skip : (test : ℕ → Bool) (e bound : ℕ) (o : Option ℕ) → test e ≡ false → IsFirstFrom test (e + 1) bound o → IsFirstFrom test e bound o
+first_skip : (test : ℕ → Bool) (e bound : ℕ) (o : Option ℕ) → test e ≡ false → IsFirstFrom test (e + 1) bound o →
+    IsFirstFrom test e bound o
 first_skip test e bound None fails h = λ k a b. elim (cases_eq k e) [
   | inl same ↦ ap test same ∙ fails
   | inr other ↦ h k (omega arith) b
@@ -31,19 +33,30 @@ leaving_next nodes links e first next v x below inside at read now = record {
   firsts = record {
     count = length-set first v (Some e) ∙ now.firsts.count;
     each = λ u l. elim (cases_eq u v) [
-      | inl same ↦ subst (λ u. IsFirstFrom (leaves links u) e (length links) (get_or (slice_set first v (Some e)) u None)) (sym same)
-          (subst (IsFirstFrom (leaves links v) e (length links)) (sym (get_or-set_same first v (Some e) None (let c = now.firsts.count in omega arith)))
+      | inl same ↦
+          subst (λ u. IsFirstFrom (leaves links u) e (length links) (get_or (slice_set first v (Some e)) u None))
+          (sym same)
+          (subst (IsFirstFrom (leaves links v) e (length links))
+          (sym (get_or-set_same first v (Some e) None (let c = now.firsts.count in omega arith)))
           (omega arith, below, eq-eqb (tail_in links e) v at, λ k a b. absurd (omega arith)))
-      | inr other ↦ subst (IsFirstFrom (leaves links u) e (length links)) (sym (get_or-set_other first v u (Some e) None other))
-          (first_skip (leaves links u) e (length links) (get_or first u None) (ne_eqb (tail_in links e) u (λ h. other (sym h ∙ at))) (now.firsts.each u l))
+      | inr other ↦
+          subst (IsFirstFrom (leaves links u) e (length links)) (sym (get_or-set_other first v u (Some e) None other))
+          (first_skip (leaves links u) e (length links) (get_or first u None)
+          (ne_eqb (tail_in links e) u (λ h. other (sym h ∙ at))) (now.firsts.each u l))
     ];
   };
   count = length-set next e x ∙ now.count;
   nexts = λ f a b. elim (cases_eq f e) [
-    | inl same ↦ subst (λ f. IsFirstFrom (leaves links (tail_in links f)) (f + 1) (length links) (get_or (slice_set next e x) f None)) (sym same)
-        (subst (IsFirstFrom (leaves links (tail_in links e)) (e + 1) (length links)) (sym (get_or-set_same next e x None (let c = now.count in omega arith) ∙ read))
-        (subst (λ u. IsFirstFrom (leaves links u) (e + 1) (length links) (get_or first v None)) (sym at) (now.firsts.each v inside)))
-    | inr other ↦ subst (IsFirstFrom (leaves links (tail_in links f)) (f + 1) (length links)) (sym (get_or-set_other next e f x None other))
+    | inl same ↦
+        subst (λ f. IsFirstFrom (leaves links (tail_in links f)) (f + 1) (length links)
+        (get_or (slice_set next e x) f None)) (sym same)
+        (subst (IsFirstFrom (leaves links (tail_in links e)) (e + 1) (length links))
+        (sym (get_or-set_same next e x None (let c = now.count in omega arith) ∙ read))
+        (subst (λ u. IsFirstFrom (leaves links u) (e + 1) (length links) (get_or first v None)) (sym at)
+        (now.firsts.each v inside)))
+    | inr other ↦
+        subst (IsFirstFrom (leaves links (tail_in links f)) (f + 1) (length links))
+        (sym (get_or-set_other next e f x None other))
         (now.nexts f (omega arith) b)
   ];
 }

@@ -36,14 +36,16 @@ placing_start g = record {
     no n x = grind (arith, nat_tests)
 
 -- an order of fewer nodes than there are, where a node has no place
-pub room : (g : GraphSeen) (order : List ℕ) (place : ℕ → ℕ) (v : ℕ) → IsPlacing g order place → v < g.nodes → place v ≡ g.nodes →
+pub room : (g : GraphSeen) (order : List ℕ) (place : ℕ → ℕ) (v : ℕ) → IsPlacing g order place → v < g.nodes →
+    place v ≡ g.nodes →
     length order < g.nodes
 room g order place v now l unplaced =
     let f = fewer g.nodes (λ u. nat_lt (place u) g.nodes) v l (le-ltb (place v) g.nodes (omega arith)) in
     omega (arith, now.number)
 
 -- a node gets the next place, behind all tails of links to it
-pub placing_next : (g : GraphSeen) (order : List ℕ) (place : ℕ → ℕ) (v : ℕ) → IsWithin g.nodes g.links → IsPlacing g order place →
+pub placing_next : (g : GraphSeen) (order : List ℕ) (place : ℕ → ℕ) (v : ℕ) → IsWithin g.nodes g.links →
+    IsPlacing g order place →
     v < g.nodes → place v ≡ g.nodes →
     ((e : ℕ) → e < length g.links → head_in g.links e ≡ v → place (tail_in g.links e) < length order) →
     IsPlacing g (order ++ v ∷ []) (with_place place v (length order))
@@ -60,7 +62,9 @@ placing_next g order place v within now inside unplaced tails = record {
   placed = λ k below. elim (cases_lt k (length order)) [
     | inl before ↦ (let p = now.placed k before in (
       (let e = earlier k before in let q = p.0 in omega arith),
-      ap place' (earlier k before) ∙ (there (slice_index order k) (λ e. let f = ap place e in let q = p.1 in absurd (omega (arith, full))) ∙ p.1),
+      ap place' (earlier k before)
+          ∙ (there (slice_index order k) (λ e. let f = ap place e in let q = p.1 in absurd (omega (arith, full)))
+          ∙ p.1),
     ))
     | inr at ↦ (let e : k ≡ length order = omega (arith, count) in (
       (let f = ap (slice_index order') e in omega (arith, last)),
@@ -72,7 +76,8 @@ placing_next g order place v within now inside unplaced tails = record {
     arith,
     count,
     now.number,
-    total_same g.nodes (λ u. if nat_lt (place' u) g.nodes then 1 else 0) (λ u. (if nat_lt (place u) g.nodes then 1 else 0) + (if v == u then 1 else 0)) (λ u l. counted u),
+    total_same g.nodes (λ u. if nat_lt (place' u) g.nodes then 1 else 0)
+        (λ u. (if nat_lt (place u) g.nodes then 1 else 0) + (if v == u then 1 else 0)) (λ u l. counted u),
     total_add g.nodes (λ u. if nat_lt (place u) g.nodes then 1 else 0) (λ u. if v == u then 1 else 0),
     total_at g.nodes v 1,
     at_inside v g.nodes 1 inside,
@@ -107,7 +112,8 @@ placing_next g order place v within now inside unplaced tails = record {
     tail_stays : (u : ℕ) → place u < length order → place' u ≡ place u
     tail_stays u l = there u (λ same. let p = ap place same in absurd (omega (arith, full)))
 
-    runs : (e : ℕ) → e < length g.links → place' (head_in g.links e) < length order' → (head_in g.links e ≡ v) ⊎ (head_in g.links e ≢ v) →
+    runs : (e : ℕ) → e < length g.links → place' (head_in g.links e) < length order' → (head_in g.links e ≡ v) ⊎
+        (head_in g.links e ≢ v) →
         place' (tail_in g.links e) < place' (head_in g.links e)
     runs e l below (inl at) =
         let h = ap place' at in
@@ -124,7 +130,9 @@ placing_next g order place v within now inside unplaced tails = record {
         let s = tail_stays (tail_in g.links e) (omega arith) in
         omega arith
 
-    counted : (u : ℕ) → (if nat_lt (place' u) g.nodes then 1 else 0) ≡ (if nat_lt (place u) g.nodes then 1 else 0) + (if v == u then 1 else 0)
+    counted : (u : ℕ) →
+        (if nat_lt (place' u) g.nodes then 1 else 0) ≡ (if nat_lt (place u) g.nodes then 1 else 0) +
+        (if v == u then 1 else 0)
     counted u = by_place u v (length order) g.nodes (place u) (place' u) full
         (λ e. ap place' e ∙ here) (λ e. ap place e ∙ unplaced) (there u)
       where

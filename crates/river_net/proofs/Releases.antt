@@ -1,8 +1,10 @@
 -- The links that leave one node are handled, from the first to the last.
-use Rattle.std.proofs.Common.{◌≡◌, ℕ, ◌+◌, ◌-◌, ◌<◌, ◌≤◌, Bool, true, false, refl, sym, ◌∙◌, ap, subst, arith, List, [], ◌∷◌, ◌++◌, length, inl, inr}
+use Rattle.std.proofs.Common.{◌≡◌, ℕ, ◌+◌, ◌-◌, ◌<◌, ◌≤◌, Bool, true, false, refl, sym, ◌∙◌, ap, subst, arith, List, []}
+use Rattle.std.proofs.Common.{◌∷◌, ◌++◌, length, inl, inr}
 use Rattle.std.proofs.lemmas.Bool.{eq-eqb}
 use Rattle.std.proofs.lemmas.Bool.Decides.{nat_tests}
-use Rattle.std.specs.Prelude.{◌==◌, ◌&&◌, ◌||◌, slice_index, slice_set, nat_lt, if◌then◌else◌, ◌⊎◌, Option, Some, None, IfSome}
+use Rattle.std.specs.Prelude.{◌==◌, ◌&&◌, ◌||◌, slice_index, slice_set, nat_lt, if◌then◌else◌, ◌⊎◌, Option, Some, None}
+use Rattle.std.specs.Prelude.{IfSome}
 use Rattle.water_model.specs.Network.{tail_in, head_in}
 use Rattle.river_net.specs.Firsts.{IsWithin, IsFirstFrom, leaves}
 use Rattle.river_net.specs.GraphSeen.{GraphSeen}
@@ -11,7 +13,8 @@ use Rattle.river_net.specs.Sorting.{IsPlacing, IsReleased, IsReleasing, is_befor
 use Rattle.river_net.proofs.Sorts.{and_link, waits_for, IsSettled, settled}
 
 -- what a first link says of itself
-pub first_leaves : (g : GraphSeen) (node from : ℕ) (next : Option ℕ) → IsFirstFrom (leaves g.links node) from (length g.links) next →
+pub first_leaves : (g : GraphSeen) (node from : ℕ) (next : Option ℕ) →
+    IsFirstFrom (leaves g.links node) from (length g.links) next →
     IfSome next (λ e. (e < length g.links) × (tail_in g.links e ≡ node))
 first_leaves g node from None first = tt
 first_leaves g node from (Some e) first = (first.1, eqb_is (tail_in g.links e) node first.2)
@@ -20,13 +23,17 @@ first_leaves g node from (Some e) first = (first.1, eqb_is (tail_in g.links e) n
     eqb_is x y h = grind (arith, nat_tests)
 
 -- of the links that leave the node, those from a place on are those from the next one on
-pub splits : (g : GraphSeen) (node from : ℕ) (next : Option ℕ) → IsFirstFrom (leaves g.links node) from (length g.links) next →
+pub splits : (g : GraphSeen) (node from : ℕ) (next : Option ℕ) →
+    IsFirstFrom (leaves g.links node) from (length g.links) next →
     (f : ℕ) → f < length g.links → tail_in g.links f ≡ node → is_before next f ≡ nat_lt f from
-splits g node from None first f l at = below f from (λ more. let no = first f more l in let yes = eq-eqb (tail_in g.links f) node at in cc)
+splits g node from None first f l at =
+    below f from (λ more. let no = first f more l in let yes = eq-eqb (tail_in g.links f) node at in cc)
   where
     below : (f from : ℕ) → (from ≤ f → ⊥) → true ≡ nat_lt f from
     below f from h = grind (arith, nat_tests)
-splits g node from (Some e) first f l at = between f from e first.0 (λ more less. let no = first.3 f more less in let yes = eq-eqb (tail_in g.links f) node at in cc)
+splits g node from (Some e) first f l at =
+    between f from e first.0 (λ more less. let no = first.3 f more less in let yes =
+    eq-eqb (tail_in g.links f) node at in cc)
   where
     between : (f from e : ℕ) → from ≤ e → (from ≤ f → f < e → ⊥) → nat_lt f e ≡ nat_lt f from
     between f from e le h = grind (arith, nat_tests)
@@ -36,7 +43,8 @@ pub order_fits : (g : GraphSeen) (order : List ℕ) (place : ℕ → ℕ) → Is
 order_fits g order place now = omega (arith, now.number, count_at_most g.nodes (λ v. nat_lt (place v) g.nodes))
 
 -- the node that has a place is the one that stands there
-own_node : (g : GraphSeen) (order : List ℕ) (place : ℕ → ℕ) (done v : ℕ) → IsPlacing g order place → v < g.nodes → done < length order →
+own_node : (g : GraphSeen) (order : List ℕ) (place : ℕ → ℕ) (done v : ℕ) → IsPlacing g order place → v < g.nodes →
+    done < length order →
     place v ≡ done → v ≡ slice_index order done
 own_node g order place done v now inside below is = elim (now.each v inside) [
   | inl none ↦ (let few = order_fits g order place now in absurd (omega arith))
@@ -44,7 +52,8 @@ own_node g order place done v now inside below is = elim (now.each v inside) [
 ]
 
 -- before the first link of the node
-pub release_start : (g : GraphSeen) (order waits : List ℕ) (done : ℕ) (next : Option ℕ) → IsWithin g.nodes g.links → done < length order →
+pub release_start : (g : GraphSeen) (order waits : List ℕ) (done : ℕ) (next : Option ℕ) → IsWithin g.nodes g.links →
+    done < length order →
     IsFirstFrom (leaves g.links (slice_index order done)) 0 (length g.links) next → IsReleased g order waits done →
     IsReleasing g order waits done (slice_index order done) next
 release_start g order waits done next within below first now = record {
@@ -55,16 +64,19 @@ release_start g order waits done next within below first now = record {
   at = refl;
   leaves = first_leaves g (slice_index order done) 0 next first;
   which = λ e l. now.which e l ∙ none_yet (now.place (tail_in g.links e)) done (is_before next e) e (λ is.
-      splits g (slice_index order done) 0 next first e l (own_node g order now.place done (tail_in g.links e) now.sorting.placing (within.ends e l).0 below is));
+      splits g (slice_index order done) 0 next first e l
+      (own_node g order now.place done (tail_in g.links e) now.sorting.placing (within.ends e l).0 below is));
 }
   where
     none_yet : (p d : ℕ) (t : Bool) (e : ℕ) → (p ≡ d → t ≡ nat_lt e 0) → nat_lt p d ≡ (nat_lt p d || (p == d && t))
     none_yet p d t e h = grind (arith, nat_tests)
 
 -- the link at hand is not handled
-pub next_open : (g : GraphSeen) (order waits : List ℕ) (done node e : ℕ) → (now : IsReleasing g order waits done node (Some e)) →
+pub next_open : (g : GraphSeen) (order waits : List ℕ) (done node e : ℕ) →
+    (now : IsReleasing g order waits done node (Some e)) →
     (now.handled e ≡ false) × (now.place (tail_in g.links e) ≡ done)
-next_open g order waits done node e now = (now.which e now.leaves.0 ∙ not_below (now.place (tail_in g.links e)) done e at, at)
+next_open g order waits done node e now =
+    (now.which e now.leaves.0 ∙ not_below (now.place (tail_in g.links e)) done e at, at)
   where
     at : now.place (tail_in g.links e) ≡ done
     at = ap now.place (now.leaves.1 ∙ sym now.at) ∙ (now.sorting.placing.placed done now.within).1
@@ -73,14 +85,18 @@ next_open g order waits done node e now = (now.which e now.leaves.0 ∙ not_belo
     not_below p d e h = grind (arith, nat_tests)
 
 -- so its head waits
-pub next_waits : (g : GraphSeen) (order waits : List ℕ) (done node e : ℕ) → IsWithin g.nodes g.links → IsReleasing g order waits done node (Some e) →
+pub next_waits : (g : GraphSeen) (order waits : List ℕ) (done node e : ℕ) → IsWithin g.nodes g.links →
+    IsReleasing g order waits done node (Some e) →
     0 < slice_index waits (head_in g.links e)
 next_waits g order waits done node e within now =
-    waits_for g order waits now.place now.handled e within now.sorting now.leaves.0 (next_open g order waits done node e now).0
+    waits_for g order waits now.place now.handled e within now.sorting now.leaves.0
+    (next_open g order waits done node e now).0
 
 -- the link at hand is handled
-pub release_next : (g : GraphSeen) (order waits order' waits' : List ℕ) (done node e : ℕ) (next : Option ℕ) → IsWithin g.nodes g.links →
-    IsReleasing g order waits done node (Some e) → IsFirstFrom (leaves g.links (tail_in g.links e)) (e + 1) (length g.links) next →
+pub release_next : (g : GraphSeen) (order waits order' waits' : List ℕ) (done node e : ℕ) (next : Option ℕ) →
+    IsWithin g.nodes g.links →
+    IsReleasing g order waits done node (Some e) →
+    IsFirstFrom (leaves g.links (tail_in g.links e)) (e + 1) (length g.links) next →
     waits' ≡ slice_set waits (head_in g.links e) (slice_index waits (head_in g.links e) - 1) →
     order' ≡ (if slice_index waits (head_in g.links e) == 1 then order ++ head_in g.links e ∷ [] else order) →
     IsReleasing g order' waits' done node next
@@ -99,29 +115,38 @@ release_next g order waits order' waits' done node e next within now first waits
 
     s : IsSettled g order waits now.place now.handled e order' waits'
     s = let o = next_open g order waits done node e now in let b = now.within in
-        settled g order waits now.place now.handled e order' waits' within now.sorting now.leaves.0 o.0 (let p = o.1 in omega arith) waits_are order_is
+        settled g order waits now.place now.handled e order' waits' within now.sorting now.leaves.0 o.0 (let p = o.1 in
+        omega arith) waits_are order_is
 
     -- a new place is not among those that are done
-    compares : (p q d n k : ℕ) → (q ≡ p) ⊎ ((p ≡ n) × (q ≡ k)) → d < k → k ≤ n → (nat_lt q d ≡ nat_lt p d) × (q == d ≡ (p == d))
+    compares : (p q d n k : ℕ) → (q ≡ p) ⊎ ((p ≡ n) × (q ≡ k)) → d < k → k ≤ n → (nat_lt q d ≡ nat_lt p d) ×
+        (q == d ≡ (p == d))
     compares p q d n k h a b = grind (arith, nat_tests)
 
-    by_place : (h t : Bool) (p d f e : ℕ) → (f ≡ e → p ≡ d) → h ≡ (nat_lt p d || (p == d && nat_lt f e)) → (p ≡ d → t ≡ nat_lt f (e + 1)) →
+    by_place : (h t : Bool) (p d f e : ℕ) → (f ≡ e → p ≡ d) → h ≡ (nat_lt p d || (p == d && nat_lt f e)) →
+        (p ≡ d → t ≡ nat_lt f (e + 1)) →
         (h || f == e) ≡ (nat_lt p d || (p == d && t))
     by_place h t p d f e same before now = grind (arith, nat_tests)
 
-    which : (f : ℕ) → f < length g.links → and_link now.handled e f ≡ (nat_lt (s.place' (tail_in g.links f)) done || (s.place' (tail_in g.links f) == done && is_before next f))
+    which : (f : ℕ) → f < length g.links →
+        and_link now.handled e
+        f ≡ (nat_lt (s.place' (tail_in g.links f)) done || (s.place' (tail_in g.links f) == done && is_before next f))
     which f l =
         let inside = (within.ends f l).0 in
         let few = order_fits g order now.place now.sorting.placing in
-        let same = compares (now.place (tail_in g.links f)) (s.place' (tail_in g.links f)) done g.nodes (length order) (s.grows (tail_in g.links f) inside) now.within few in
+        let same =
+        compares (now.place (tail_in g.links f)) (s.place' (tail_in g.links f)) done g.nodes (length order)
+        (s.grows (tail_in g.links f) inside) now.within few in
         by_place (now.handled f) (is_before next f) (now.place (tail_in g.links f)) done f e
         (λ q. ap (λ x. now.place (tail_in g.links x)) q ∙ (next_open g order waits done node e now).1) (now.which f l)
-        (λ is. splits g node (e + 1) next on f l (own_node g order now.place done (tail_in g.links f) now.sorting.placing inside now.within is ∙ now.at))
+        (λ is. splits g node (e + 1) next on f l
+        (own_node g order now.place done (tail_in g.links f) now.sorting.placing inside now.within is ∙ now.at))
         ∙ sym (ap (λ t. t || (s.place' (tail_in g.links f) == done && is_before next f)) same.0
         ∙ ap (λ t. nat_lt (now.place (tail_in g.links f)) done || (t && is_before next f)) same.1)
 
 -- behind the last link of the node
-pub release_end : (g : GraphSeen) (order waits : List ℕ) (done node : ℕ) → IsReleasing g order waits done node None → IsReleased g order waits (done + 1)
+pub release_end : (g : GraphSeen) (order waits : List ℕ) (done node : ℕ) → IsReleasing g order waits done node None →
+    IsReleased g order waits (done + 1)
 release_end g order waits done node now = record {
   place = now.place;
   handled = now.handled;

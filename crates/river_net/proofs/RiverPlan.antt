@@ -1,11 +1,14 @@
 -- The run of the river is a plan.
-use Rattle.std.proofs.Common.{◌≡◌, ℕ, zero, suc, ◌+◌, ◌<◌, ◌≤◌, Bool, true, false, refl, sym, ◌∙◌, ap, arith, List, length, inl, inr}
+use Rattle.std.proofs.Common.{◌≡◌, ℕ, zero, suc, ◌+◌, ◌<◌, ◌≤◌, Bool, true, false, refl, sym, ◌∙◌, ap, arith, List}
+use Rattle.std.proofs.Common.{length, inl, inr}
 use Rattle.std.proofs.lemmas.Bool.{cases_lt, cases_eq, cases_Bool, and_parts, and_from, eqb-true, eq-eqb, false≢true}
 use Rattle.std.proofs.lemmas.Bool.Decides.{nat_tests}
-use Rattle.std.specs.Prelude.{◌==◌, ◌&&◌, ◌^◌, nat_lt, nat_le, if◌then◌else◌, ◌⊎◌, slice_index, slice_get, Option, Some, None, unwrap_or, option_map}
+use Rattle.std.specs.Prelude.{◌==◌, ◌&&◌, ◌^◌, nat_lt, nat_le, if◌then◌else◌, ◌⊎◌, slice_index, slice_get, Option, Some}
+use Rattle.std.specs.Prelude.{None, unwrap_or, option_map}
 use Rattle.place_sums.specs.Sums.{total, total_where}
 use Rattle.place_sums.proofs.Totals.{total_same, total_zero, total_add, total_at, total_pick, total_le}
-use Rattle.water_model.specs.Network.{tail_in, head_in, is_outlet_in, is_river_in, is_river_kind, IsForward, IsSoundNetwork, HasRiverOut}
+use Rattle.water_model.specs.Network.{tail_in, head_in, is_outlet_in, is_river_in, is_river_kind, IsForward}
+use Rattle.water_model.specs.Network.{IsSoundNetwork, HasRiverOut}
 use Rattle.water_model.specs.RunOfRiver.{IsFirstRiver, RunsNaturally, water_at}
 use Rattle.water_model.specs.declared.types.Link.{Link}
 use Rattle.water_model.specs.declared.types.Node.{Node}
@@ -32,7 +35,9 @@ pub record IsLeast (p : ℕ → Bool) (n k : ℕ) : Type 0 where
 least : (n : ℕ) (p : ℕ → Bool) → ((k : ℕ) × IsLeast p n k) ⊎ ((k : ℕ) → k < n → p k ≡ false)
 least zero p = inr (λ k l. absurd (omega arith))
 least (suc n) p = elim (least n p) [
-  | inl some ↦ (let b = some.1.below in inl (some.0, record { below = omega arith; passes = some.1.passes; before = some.1.before }))
+  | inl some ↦
+      (let b = some.1.below in
+      inl (some.0, record { below = omega arith; passes = some.1.passes; before = some.1.before }))
   | inr none ↦ elim (cases_Bool (p n)) [
     | inl here ↦ inl (n, record { below = omega arith; passes = here; before = none })
     | inr fails ↦ inr (λ k l. elim (cases_lt k n) [
@@ -52,42 +57,60 @@ first_river links v out = elim (least (length links) test) [
           in_range = some.1.below;
           river = parts.1;
           first = λ other less same. elim (cases_Bool (is_river_in links other)) [
-            | inl river ↦ absurd (false≢true (sym (some.1.before other less) ∙ and_from (tail_in links other == v) (is_river_in links other) (eq-eqb (tail_in links other) v (same ∙ tail)) river))
+            | inl river ↦
+                absurd (false≢true
+                (sym (some.1.before other less)
+                ∙ and_from (tail_in links other == v) (is_river_in links other)
+                (eq-eqb (tail_in links other) v (same ∙ tail)) river))
             | inr canal ↦ canal
           ];
         },
         tail,
       ))
-  | inr none ↦ absurd (false≢true (sym (none out.link out.in_range) ∙ and_from (tail_in links out.link == v) (is_river_in links out.link) (eq-eqb (tail_in links out.link) v out.tail) out.river))
+  | inr none ↦
+      absurd (false≢true
+      (sym (none out.link out.in_range)
+      ∙ and_from (tail_in links out.link == v) (is_river_in links out.link) (eq-eqb (tail_in links out.link) v out.tail)
+      out.river))
 ]
   where
     test : ℕ → Bool
     test e = tail_in links e == v && is_river_in links e
 
 -- two first rivers of one node are one
-same_river : (links : List Link) (e f : ℕ) → IsFirstRiver links e → IsFirstRiver links f → tail_in links e ≡ tail_in links f → e ≡ f
+same_river : (links : List Link) (e f : ℕ) → IsFirstRiver links e → IsFirstRiver links f →
+    tail_in links e ≡ tail_in links f → e ≡ f
 same_river links e f a b at = elim (cases_eq e f) [
   | inl same ↦ same
   | inr other ↦ elim (cases_lt e f) [
-    | inl less ↦ (let no : is_river_in links e ≡ false = b.first e less at in let yes = a.river in absurd (false≢true (sym no ∙ yes)))
-    | inr more ↦ (let no : is_river_in links f ≡ false = a.first f (omega arith) (sym at) in let yes = b.river in absurd (false≢true (sym no ∙ yes)))
+    | inl less ↦
+        (let no : is_river_in links e ≡ false = b.first e less at in let yes = a.river in
+        absurd (false≢true (sym no ∙ yes)))
+    | inr more ↦
+        (let no : is_river_in links f ≡ false = a.first f (omega arith) (sym at) in let yes = b.river in
+        absurd (false≢true (sym no ∙ yes)))
   ]
 ]
 
 -- what leaves a node by links, and what leaves the basin there, is the water that stands there
-pub river_balance : (nodes : List Node) (links : List Link) (supply flow out : List ℕ) → IsSoundNetwork nodes links → RunsNaturally nodes links supply flow out →
+pub river_balance : (nodes : List Node) (links : List Link) (supply flow out : List ℕ) → IsSoundNetwork nodes links →
+    RunsNaturally nodes links supply flow out →
     (v : ℕ) → v < length nodes →
-    water_at links supply flow v ≡ total_where (length links) (λ e. tail_in links e == v) (λ e. slice_index flow e) + slice_index out v
+    water_at links supply flow v ≡ total_where (length links) (λ e. tail_in links e == v)
+    (λ e. slice_index flow e) + slice_index out v
 river_balance nodes links supply flow out sound run v l = elim (cases_Bool (is_outlet_in nodes v)) [
   | inl outlet ↦ (let at_outlet = run.outlets v l outlet in
       let none = total_zero (length links) (λ e. if tail_in links e == v then slice_index flow e else 0) (λ e m.
       no_value (tail_in links e == v) (slice_index flow e) (λ at. let no = sound.outlets_end e m in
-      absurd (false≢true (sym no ∙ (ap (is_outlet_in nodes) (eqb-true (tail_in links e) v at) ∙ outlet))))) in omega arith)
+      absurd (false≢true (sym no ∙ (ap (is_outlet_in nodes) (eqb-true (tail_in links e) v at) ∙ outlet))))) in
+      omega arith)
   | inr inner ↦ (let river = first_river links v (sound.rivers v l inner) in
       let dry = run.inner v l inner in
       let flows = run.rivers river.0 river.1 in
       let here = ap (water_at links supply flow) river.2 in
-      let one = total_pick (length links) river.0 (λ e. if tail_in links e == v then slice_index flow e else 0) river.1.in_range (λ e m ne.
+      let one =
+      total_pick (length links) river.0 (λ e. if tail_in links e == v then slice_index flow e else 0)
+      river.1.in_range (λ e m ne.
       no_value (tail_in links e == v) (slice_index flow e) (λ at. run.others e m (λ first.
       ne (same_river links e river.0 first river.1 (eqb-true (tail_in links e) v at ∙ sym river.2))))) in
       let own = own_value (tail_in links river.0) v (slice_index flow river.0) river.2 in omega arith)
@@ -101,7 +124,8 @@ river_balance nodes links supply flow out sound run v l = elim (cases_Bool (is_o
     own_value u v x e = grind (arith, nat_tests)
 
 -- no link carries more than all nodes are supplied with: of the nodes up to its tail no water comes from behind
-pub river_small : (nodes : List Node) (links : List Link) (rank : ℕ → ℕ) (supply flow out : List ℕ) → IsWithin (length nodes) links → IsSoundNetwork nodes links →
+pub river_small : (nodes : List Node) (links : List Link) (rank : ℕ → ℕ) (supply flow out : List ℕ) →
+    IsWithin (length nodes) links → IsSoundNetwork nodes links →
     IsForward links rank → RunsNaturally nodes links supply flow out → (e : ℕ) → e < length links →
     slice_index flow e ≤ total (length nodes) (λ v. slice_index supply v)
 river_small nodes links rank supply flow out within sound forward run e below =
@@ -121,49 +145,67 @@ river_small nodes links rank supply flow out within sound forward run e below =
 
     sums : total_where n up (λ v. water_at links supply flow v)
         ≡ total_where n up (λ v. total_where m (λ x. tail_in links x == v) f + slice_index out v)
-    sums = total_same n (λ v. if up v then water_at links supply flow v else 0) (λ v. if up v then total_where m (λ x. tail_in links x == v) f + slice_index out v else 0)
+    sums = total_same n (λ v. if up v then water_at links supply flow v else 0)
+        (λ v. if up v then total_where m (λ x. tail_in links x == v) f + slice_index out v else 0)
         (λ v l. ap (λ x. if up v then x else 0) (river_balance nodes links supply flow out sound run v l))
 
-    ins : total_where n up (λ v. water_at links supply flow v) ≡ total_where n up (λ v. slice_index supply v) + total_where n up (λ v. total_where m (λ x. head_in links x == v) f)
+    ins : total_where n up (λ v. water_at links supply flow v) ≡ total_where n up
+        (λ v. slice_index supply v) + total_where n up (λ v. total_where m (λ x. head_in links x == v) f)
     ins = total_where_add n up (λ v. slice_index supply v) (λ v. total_where m (λ x. head_in links x == v) f)
 
     outs : total_where n up (λ v. total_where m (λ x. tail_in links x == v) f + slice_index out v)
-        ≡ total_where n up (λ v. total_where m (λ x. tail_in links x == v) f) + total_where n up (λ v. slice_index out v)
+        ≡ total_where n up (λ v. total_where m (λ x. tail_in links x == v) f) + total_where n up
+        (λ v. slice_index out v)
     outs = total_where_add n up (λ v. total_where m (λ x. tail_in links x == v) f) (λ v. slice_index out v)
 
     -- one node among those up to the tail
     at_node : (k x : ℕ) → total n (λ v. if up v then (if k == v then x else 0) else 0) ≡ (if up k then x else 0)
-    at_node k x = total_same n (λ v. if up v then (if k == v then x else 0) else 0) (λ v. if k == v then (if up k then x else 0) else 0) (λ v l. swap_tests up k v x)
+    at_node k x =
+        total_same n (λ v. if up v then (if k == v then x else 0) else 0)
+        (λ v. if k == v then (if up k then x else 0) else 0) (λ v l. swap_tests up k v x)
         ∙ (total_at n k (if up k then x else 0) ∙ drop_test k n (nat_le (rank k) (rank (tail_in links e))) x)
       where
-        swap_tests : (y : ℕ → Bool) (k v x : ℕ) → (if y v then (if k == v then x else 0) else 0) ≡ (if k == v then (if y k then x else 0) else 0)
+        swap_tests : (y : ℕ → Bool) (k v x : ℕ) →
+            (if y v then (if k == v then x else 0) else 0) ≡ (if k == v then (if y k then x else 0) else 0)
         swap_tests y k v x = grind (arith, nat_tests)
 
-        drop_test : (k n : ℕ) (t : Bool) (x : ℕ) → (if nat_lt k n then (if nat_lt k n && t then x else 0) else 0) ≡ (if nat_lt k n && t then x else 0)
+        drop_test : (k n : ℕ) (t : Bool) (x : ℕ) →
+            (if nat_lt k n then (if nat_lt k n && t then x else 0) else 0) ≡ (if nat_lt k n && t then x else 0)
         drop_test k n t x = grind (arith, nat_tests)
 
-    heads : total_where n up (λ v. total_where m (λ x. head_in links x == v) f) ≡ total_where m (λ x. up (head_in links x)) f
-    heads = grouped n m up (λ x v. head_in links x == v) (λ x. up (head_in links x)) f (λ x y. at_node (head_in links x) y)
+    heads : total_where n up (λ v. total_where m (λ x. head_in links x == v) f) ≡ total_where m
+        (λ x. up (head_in links x)) f
+    heads = grouped n m up (λ x v. head_in links x == v) (λ x. up (head_in links x)) f
+        (λ x y. at_node (head_in links x) y)
 
-    tails : total_where n up (λ v. total_where m (λ x. tail_in links x == v) f) ≡ total_where m (λ x. up (tail_in links x)) f
-    tails = grouped n m up (λ x v. tail_in links x == v) (λ x. up (tail_in links x)) f (λ x y. at_node (tail_in links x) y)
+    tails : total_where n up (λ v. total_where m (λ x. tail_in links x == v) f) ≡ total_where m
+        (λ x. up (tail_in links x)) f
+    tails = grouped n m up (λ x v. tail_in links x == v) (λ x. up (tail_in links x)) f
+        (λ x y. at_node (tail_in links x) y)
 
     -- a link into these nodes leaves one of them, and the link at hand leaves them
-    crosses : total m (λ x. (if up (head_in links x) then f x else 0) + (if e == x then f e else 0)) ≤ total_where m (λ x. up (tail_in links x)) f
-    crosses = total_le m (λ x. (if up (head_in links x) then f x else 0) + (if e == x then f e else 0)) (λ x. if up (tail_in links x) then f x else 0)
-        (λ x l. cross (rank (tail_in links x)) (rank (head_in links x)) (rank (tail_in links e)) (tail_in links x) (head_in links x) n e x (f x) (f e)
+    crosses : total m (λ x. (if up (head_in links x) then f x else 0) + (if e == x then f e else 0)) ≤ total_where m
+        (λ x. up (tail_in links x)) f
+    crosses =
+        total_le m (λ x. (if up (head_in links x) then f x else 0) + (if e == x then f e else 0))
+        (λ x. if up (tail_in links x) then f x else 0)
+        (λ x l. cross (rank (tail_in links x)) (rank (head_in links x)) (rank (tail_in links e)) (tail_in links x)
+        (head_in links x) n e x (f x) (f e)
         (forward.runs x l) (within.ends x l).0 (ap f) (ap (λ y. rank (tail_in links y))))
       where
         cross : (p q r t h n e x a b : ℕ) → p < q → t < n → (e ≡ x → b ≡ a) → (e ≡ x → r ≡ p) →
-            (if nat_lt h n && nat_le q r then a else 0) + (if e == x then b else 0) ≤ (if nat_lt t n && nat_le p r then a else 0)
+            (if nat_lt h n && nat_le q r then a else 0) + (if e == x then b else 0) ≤ (if nat_lt t n && nat_le p r
+            then a else 0)
         cross p q r t h n e x a b o l same rank_same = grind (arith, nat_tests)
 
-    one : total m (λ x. (if up (head_in links x) then f x else 0) + (if e == x then f e else 0)) ≡ total_where m (λ x. up (head_in links x)) f + f e
+    one : total m (λ x. (if up (head_in links x) then f x else 0) + (if e == x then f e else 0)) ≡ total_where m
+        (λ x. up (head_in links x)) f + f e
     one = total_add m (λ x. if up (head_in links x) then f x else 0) (λ x. if e == x then f e else 0)
         ∙ ap (λ y. total_where m (λ x. up (head_in links x)) f + y) (total_at m e (f e) ∙ at_inside e m (f e) below)
 
     some : total_where n up (λ v. slice_index supply v) ≤ total n (λ v. slice_index supply v)
-    some = total_le n (λ v. if up v then slice_index supply v else 0) (λ v. slice_index supply v) (λ v l. at_most (up v) (slice_index supply v))
+    some = total_le n (λ v. if up v then slice_index supply v else 0) (λ v. slice_index supply v)
+        (λ v l. at_most (up v) (slice_index supply v))
       where
         at_most : (t : Bool) (x : ℕ) → (if t then x else 0) ≤ x
         at_most true x = omega arith
@@ -193,7 +235,9 @@ river_is_plan b month supply want p valid few natural = record {
   instream = λ r l _. natural.takes r l;
   outlets = λ n l inner. natural.run.inner n l inner;
   balance = λ n l. (let bal = river_balance b.nodes b.links supply p.flow p.out valid.network natural.run n l in
-      let none = total_zero (length b.rights) (λ r. if takes_at b r n then slice_index p.take r else 0) (λ r k. no_take (takes_at b r n) (slice_index p.take r) (natural.takes r k)) in omega arith);
+      let none =
+      total_zero (length b.rights) (λ r. if takes_at b r n then slice_index p.take r else 0)
+      (λ r k. no_take (takes_at b r n) (slice_index p.take r) (natural.takes r k)) in omega arith);
 }
   where
     within : IsWithin (length b.nodes) b.links
@@ -203,10 +247,13 @@ river_is_plan b month supply want p valid few natural = record {
     no_take true x h = h
     no_take false x h = refl
 
-    carried : (e : ℕ) → e < length b.links → ((IsFirstRiver b.links e → ⊥) → slice_index p.flow e ≡ 0) → slice_index p.flow e ≤ carry_of b month e
+    carried : (e : ℕ) → e < length b.links → ((IsFirstRiver b.links e → ⊥) → slice_index p.flow e ≡ 0) →
+        slice_index p.flow e ≤ carry_of b month e
     carried e l dry = elim (cases_lt (carry_of b month e) (slice_index p.flow e)) [
       | inr fits ↦ fits
       | inl more ↦ (let some = dry (λ first. let numbers = forward_numbers b.nodes b.links within valid.network in
-          let small = river_small b.nodes b.links numbers.rank supply p.flow p.out within valid.network numbers.forward natural.run e l in
+          let small =
+          river_small b.nodes b.links numbers.rank supply p.flow p.out within valid.network numbers.forward
+          natural.run e l in
           let carry = river_carry b month e first in absurd (omega arith)) in absurd (omega arith))
     ]

@@ -1,6 +1,7 @@
 -- What nodes in order say of cycles.
 use Rattle.std.proofs.Common.{◌≡◌, ℕ, zero, suc, ◌<◌, ◌≤◌, false, sym, ◌∙◌, subst, arith, List, length, inl, inr}
-use Rattle.std.proofs.lemmas.Bool.{cases_eq, cases_lt, and_parts, not-true, eqb-true, ltb-false, lt-ltb, false_from_ne_true, false≢true}
+use Rattle.std.proofs.lemmas.Bool.{cases_eq, cases_lt, and_parts, not-true, eqb-true, ltb-false, lt-ltb}
+use Rattle.std.proofs.lemmas.Bool.{false_from_ne_true, false≢true}
 use Rattle.std.specs.Prelude.{◌==◌, ◌&&◌, not, nat_lt, ◌⊎◌, slice_index}
 use Rattle.place_sums.proofs.Totals.{place_counted, IsCounted}
 use Rattle.water_model.specs.Network.{walks, tail_in, head_in}
@@ -16,10 +17,12 @@ use Rattle.river_net.proofs.Chains.{Chain, chain_start, chain_more, chain_turns}
 use Rattle.river_net.proofs.Releases.{order_fits}
 
 -- a node that waits for no link is on no cycle
-pub off_cycle : (g : GraphSeen) (order waits : List ℕ) (done : ℕ) → IsReleased g order waits done → (v : ℕ) → v < g.nodes → slice_index waits v ≡ 0 →
+pub off_cycle : (g : GraphSeen) (order waits : List ℕ) (done : ℕ) → IsReleased g order waits done → (v : ℕ) →
+    v < g.nodes → slice_index waits v ≡ 0 →
     walks g.links g.nodes v v ≡ false
 off_cycle g order waits done now v l free = false_from_ne_true (walks g.links g.nodes v v) (λ h.
-    let up = walk_rises g.links now.place (length order) g.nodes v v now.sorting.placing.forward (now.sorting.free v l l free) h in absurd (omega arith))
+    let up = walk_rises g.links now.place (length order) g.nodes v v now.sorting.placing.forward
+    (now.sorting.free v l l free) h in absurd (omega arith))
 
 -- a link leads to a node without a place from another without a place
 pub record HasOpenLink (g : GraphSeen) (order : List ℕ) (place : ℕ → ℕ) (node : ℕ) : Type 0 where
@@ -29,27 +32,33 @@ pub record HasOpenLink (g : GraphSeen) (order : List ℕ) (place : ℕ → ℕ) 
   pub tail : length order ≤ place (tail_in g.links link)
 
 -- a node without a place waits for such a link
-open_link : (g : GraphSeen) (order waits : List ℕ) → (now : IsReleased g order waits (length order)) → (v : ℕ) → v < g.nodes → length order ≤ now.place v →
+open_link : (g : GraphSeen) (order waits : List ℕ) → (now : IsReleased g order waits (length order)) → (v : ℕ) →
+    v < g.nodes → length order ≤ now.place v →
     HasOpenLink g order now.place v
 open_link g order waits now v l unplaced = elim (cases_eq (slice_index waits v) 0) [
   | inl free ↦ (let p = now.sorting.free v l l free in absurd (omega arith))
-  | inr some ↦ (let w = now.sorting.waiting v l in found (place_counted (length g.links) 0 (λ e. head_in g.links e == v && not (now.handled e)) (positive some w)))
+  | inr some ↦
+      (let w = now.sorting.waiting v l in
+      found (place_counted (length g.links) 0 (λ e. head_in g.links e == v && not (now.handled e)) (positive some w)))
 ]
   where
     positive : {m n : ℕ} → (m ≡ 0 → ⊥) → m ≡ n → 0 < n
     positive ne same = omega arith
 
-    found : IsCounted (length g.links) (λ e. head_in g.links e == v && not (now.handled e)) 0 → HasOpenLink g order now.place v
+    found : IsCounted (length g.links) (λ e. head_in g.links e == v && not (now.handled e)) 0 →
+        HasOpenLink g order now.place v
     found c =
         let parts = and_parts (head_in g.links c.place == v) (not (now.handled c.place)) c.passes in record {
           link = c.place;
           in_range = c.below;
           head = eqb-true (head_in g.links c.place) v parts.0;
-          tail = ltb-false (now.place (tail_in g.links c.place)) (length order) (sym (now.which c.place c.below) ∙ not-true (now.handled c.place) parts.1);
+          tail = ltb-false (now.place (tail_in g.links c.place)) (length order)
+              (sym (now.which c.place c.below) ∙ not-true (now.handled c.place) parts.1);
         }
 
 -- so there are chains of any length to it
-chain_to : (g : GraphSeen) (order waits : List ℕ) → IsWithin g.nodes g.links → (now : IsReleased g order waits (length order)) →
+chain_to : (g : GraphSeen) (order waits : List ℕ) → IsWithin g.nodes g.links →
+    (now : IsReleased g order waits (length order)) →
     (k v : ℕ) → v < g.nodes → length order ≤ now.place v → Chain g.links g.nodes k v
 chain_to g order waits within now zero v l unplaced = chain_start g.links g.nodes v l
 chain_to g order waits within now (suc k) v l unplaced =
@@ -59,7 +68,8 @@ chain_to g order waits within now (suc k) v l unplaced =
     (chain_to g order waits within now k (tail_in g.links one.link) (within.ends one.link one.in_range).0 one.tail))
 
 -- where no node is on a cycle, every node has its place
-pub all_placed : (g : GraphSeen) (order waits : List ℕ) → IsWithin g.nodes g.links → (now : IsReleased g order waits (length order)) →
+pub all_placed : (g : GraphSeen) (order waits : List ℕ) → IsWithin g.nodes g.links →
+    (now : IsReleased g order waits (length order)) →
     ((v : ℕ) → v < g.nodes → walks g.links g.nodes v v ≡ false) → (v : ℕ) → v < g.nodes → now.place v < length order
 all_placed g order waits within now none v l = elim (cases_lt (now.place v) (length order)) [
   | inl placed ↦ placed
@@ -91,9 +101,12 @@ running_order nodes links order waits within now none = record {
     fits = order_fits g order now.place now.sorting.placing
 
     count : length order ≡ length nodes
-    count = sym now.sorting.placing.number ∙ all_counted (length nodes) (λ v. nat_lt (now.place v) (length nodes)) (λ v l. let p = placed v l in lt-ltb (now.place v) (length nodes) (omega (arith, fits)))
+    count = sym now.sorting.placing.number
+        ∙ all_counted (length nodes) (λ v. nat_lt (now.place v) (length nodes)) (λ v l. let p = placed v l in
+        lt-ltb (now.place v) (length nodes) (omega (arith, fits)))
 
-    at_place : (v : ℕ) → now.place v < length order → (now.place v ≡ length nodes) ⊎ ((now.place v < length order) × (slice_index order (now.place v) ≡ v)) →
+    at_place : (v : ℕ) → now.place v < length order → (now.place v ≡ length nodes) ⊎
+        ((now.place v < length order) × (slice_index order (now.place v) ≡ v)) →
         slice_index order (now.place v) ≡ v
     at_place v p (inl none) = absurd (omega (arith, fits))
     at_place v p (inr at) = at.1

@@ -1,5 +1,6 @@
 -- Nodes get their places while links are handled.
-use Rattle.std.proofs.Common.{◌≡◌, ◌≢◌, ℕ, ◌+◌, ◌-◌, ◌<◌, ◌≤◌, Bool, true, false, refl, sym, ◌∙◌, ap, subst, arith, List, [], ◌∷◌, ◌++◌, length, inl, inr}
+use Rattle.std.proofs.Common.{◌≡◌, ◌≢◌, ℕ, ◌+◌, ◌-◌, ◌<◌, ◌≤◌, Bool, true, false, refl, sym, ◌∙◌, ap, subst, arith}
+use Rattle.std.proofs.Common.{List, [], ◌∷◌, ◌++◌, length, inl, inr}
 use Rattle.std.proofs.lemmas.Bool.{cases_eq, eqb-true, eq-eqb, ne_eqb, false≢true, or_cases, le-ltb}
 use Rattle.std.proofs.lemmas.Bool.Decides.{nat_tests}
 use Rattle.std.proofs.lemmas.List.{get_or-set_same, get_or-set_other, length-set}
@@ -27,21 +28,23 @@ sorting_place : (g : GraphSeen) (order waits : List ℕ) (place : ℕ → ℕ) (
     ((e : ℕ) → e < length g.links → handled e ≡ true → place (tail_in g.links e) < length order) →
     v < g.nodes → v < bound → place v ≡ g.nodes → slice_index waits v ≡ 0 →
     IsSorting g (order ++ v ∷ []) waits (with_place place v (length order)) handled bound
-sorting_place g order waits place handled bound v within placing count waiting free idle tails inside below unplaced none = record {
-  placing = placing_next g order place v within placing inside unplaced (λ e l at. tails e l (all_handled e l at));
-  count = count;
-  waiting = waiting;
-  free = λ u l b zero. elim (cases_eq u v) [
-    | inl same ↦ (let at = ap place' same in omega (arith, more, here))
-    | inr other ↦ (let f = free u l b other zero in let q = there u other in omega (arith, more))
-  ];
-  idle = λ u l placed. elim (cases_eq u v) [
-    | inl same ↦ (omega arith, ap (slice_index waits) same ∙ none)
-    | inr other ↦ idle u l (old u l (there u other) placed)
-  ];
-  tails = λ e l h. let t = tails e l h in
-      let q = there (tail_in g.links e) (λ same. let p = ap place same in absurd (omega (arith, full))) in omega (arith, more);
-}
+sorting_place g order waits place handled bound v within placing count waiting free idle tails inside below unplaced
+    none = record {
+      placing = placing_next g order place v within placing inside unplaced (λ e l at. tails e l (all_handled e l at));
+      count = count;
+      waiting = waiting;
+      free = λ u l b zero. elim (cases_eq u v) [
+        | inl same ↦ (let at = ap place' same in omega (arith, more, here))
+        | inr other ↦ (let f = free u l b other zero in let q = there u other in omega (arith, more))
+      ];
+      idle = λ u l placed. elim (cases_eq u v) [
+        | inl same ↦ (omega arith, ap (slice_index waits) same ∙ none)
+        | inr other ↦ idle u l (old u l (there u other) placed)
+      ];
+      tails = λ e l h. let t = tails e l h in
+          let q = there (tail_in g.links e) (λ same. let p = ap place same in absurd (omega (arith, full))) in
+          omega (arith, more);
+    }
   where
     place' : ℕ → ℕ
     place' = with_place place v (length order)
@@ -66,20 +69,23 @@ sorting_place g order waits place handled bound v within placing count waiting f
 
     all_handled : (e : ℕ) → e < length g.links → head_in g.links e ≡ v → handled e ≡ true
     all_handled e l at = tells (head_in g.links e) v (handled e) at
-        (none_passes (length g.links) (λ e. head_in g.links e == v && not (handled e)) (sym (waiting v inside) ∙ none) e l)
+        (none_passes (length g.links) (λ e. head_in g.links e == v && not (handled e)) (sym (waiting v inside) ∙ none) e
+        l)
       where
         tells : (x v : ℕ) (h : Bool) → x ≡ v → (x == v && not h) ≡ false → h ≡ true
         tells x v h same fails = grind (arith, nat_tests)
 
 -- at the start no link is handled
-pub sources_start : (g : GraphSeen) (order waits : List ℕ) → order ≡ [] → AreEntering g (length g.links) waits → HasSources g order waits 0
+pub sources_start : (g : GraphSeen) (order waits : List ℕ) → order ≡ [] → AreEntering g (length g.links) waits →
+    HasSources g order waits 0
 sources_start g order waits none entering = subst (λ xs. HasSources g xs waits 0) (sym none) record {
   place = λ v. g.nodes;
   sorting = record {
     placing = placing_start g;
     count = entering.count;
     waiting = λ v l. entering.each v l ∙ total_same (length g.links) (λ e. if head_in g.links e == v then 1 else 0)
-        (λ e. if head_in g.links e == v && not false then 1 else 0) (λ e k. ap (λ t. if t then 1 else 0) (unhandled (head_in g.links e == v)));
+        (λ e. if head_in g.links e == v && not false then 1 else 0)
+        (λ e k. ap (λ t. if t then 1 else 0) (unhandled (head_in g.links e == v)));
     free = λ v l below zero. absurd (omega arith);
     idle = λ v l placed. absurd (omega arith);
     tails = λ e l h. absurd (false≢true h);
@@ -91,19 +97,23 @@ sources_start g order waits none entering = subst (λ xs. HasSources g xs waits 
     unhandled false = refl
 
 -- a node that no link leads to gets its place
-pub source_next : (g : GraphSeen) (order order' waits : List ℕ) (v : ℕ) → IsWithin g.nodes g.links → v < g.nodes → slice_index waits v ≡ 0 →
+pub source_next : (g : GraphSeen) (order order' waits : List ℕ) (v : ℕ) → IsWithin g.nodes g.links → v < g.nodes →
+    slice_index waits v ≡ 0 →
     order' ≡ order ++ v ∷ [] → HasSources g order waits v → HasSources g order' waits (v + 1)
-source_next g order order' waits v within inside none more now = subst (λ xs. HasSources g xs waits (v + 1)) (sym more) record {
-  place = with_place now.place v (length order);
-  sorting = sorting_place g order waits now.place (λ e. false) (v + 1) v within now.sorting.placing now.sorting.count now.sorting.waiting
-      (λ u l b other zero. now.sorting.free u l (omega arith) zero)
-      (λ u l placed. let i = now.sorting.idle u l placed in let b = i.0 in (omega arith, i.1))
-      (λ e l h. absurd (false≢true h)) inside (omega arith)
-      (elim (now.sorting.placing.each v inside) [
-        | inl unplaced ↦ unplaced
-        | inr placed ↦ (let b = (now.sorting.idle v inside placed.0).0 in absurd (omega arith))
-      ]) none;
-}
+source_next g order order' waits v within inside none more now =
+    subst (λ xs. HasSources g xs waits (v + 1)) (sym more) record {
+      place = with_place now.place v (length order);
+      sorting =
+          sorting_place g order waits now.place (λ e. false) (v + 1) v within now.sorting.placing now.sorting.count
+          now.sorting.waiting
+          (λ u l b other zero. now.sorting.free u l (omega arith) zero)
+          (λ u l placed. let i = now.sorting.idle u l placed in let b = i.0 in (omega arith, i.1))
+          (λ e l h. absurd (false≢true h)) inside (omega arith)
+          (elim (now.sorting.placing.each v inside) [
+            | inl unplaced ↦ unplaced
+            | inr placed ↦ (let b = (now.sorting.idle v inside placed.0).0 in absurd (omega arith))
+          ]) none;
+    }
 
 -- any other node waits
 pub source_skip : (g : GraphSeen) (order waits : List ℕ) (v : ℕ) → slice_index waits v ≢ 0 →
@@ -141,8 +151,10 @@ and_link handled e f = handled f || f == e
 less_waiting : (g : GraphSeen) (handled : ℕ → Bool) (e v : ℕ) → e < length g.links → handled e ≡ false →
     waiting_at g (and_link handled e) v + (if head_in g.links e == v then 1 else 0) ≡ waiting_at g handled v
 less_waiting g handled e v below unhandled_yet =
-    let change = total_change (length g.links) e (λ f. if head_in g.links f == v && not (and_link handled e f) then 1 else 0)
-    (λ f. if head_in g.links f == v && not (handled f) then 1 else 0) below (λ f l other. same (head_in g.links f == v) (handled f) f e 1 other) in
+    let change =
+    total_change (length g.links) e (λ f. if head_in g.links f == v && not (and_link handled e f) then 1 else 0)
+    (λ f. if head_in g.links f == v && not (handled f) then 1 else 0) below
+    (λ f l other. same (head_in g.links f == v) (handled f) f e 1 other) in
     let gone = none (head_in g.links e == v) (handled e) e 1 in
     let was = one (head_in g.links e == v) (handled e) 1 unhandled_yet in
     omega arith
@@ -157,8 +169,10 @@ less_waiting g handled e v below unhandled_yet =
     one t h x unhandled_yet = grind (arith, nat_tests)
 
 -- the head of a link that is not handled waits
-pub waits_for : (g : GraphSeen) (order waits : List ℕ) (place : ℕ → ℕ) (handled : ℕ → Bool) (e : ℕ) → IsWithin g.nodes g.links →
-    IsSorting g order waits place handled g.nodes → e < length g.links → handled e ≡ false → 0 < slice_index waits (head_in g.links e)
+pub waits_for : (g : GraphSeen) (order waits : List ℕ) (place : ℕ → ℕ) (handled : ℕ → Bool) (e : ℕ) →
+    IsWithin g.nodes g.links →
+    IsSorting g order waits place handled g.nodes → e < length g.links → handled e ≡ false →
+    0 < slice_index waits (head_in g.links e)
 waits_for g order waits place handled e within now below unhandled_yet =
     let inside = (within.ends e below).1 in
     let less = less_waiting g handled e (head_in g.links e) below unhandled_yet in
@@ -169,7 +183,8 @@ waits_for g order waits place handled e within now below unhandled_yet =
     own u x = grind (arith, nat_tests)
 
 -- what handling a link leaves: old places stay, and at most its head gets a new one
-pub record IsSettled (g : GraphSeen) (order waits : List ℕ) (place : ℕ → ℕ) (handled : ℕ → Bool) (e : ℕ) (order' waits' : List ℕ) : Type 0 where
+pub record IsSettled (g : GraphSeen) (order waits : List ℕ) (place : ℕ → ℕ) (handled : ℕ →
+    Bool) (e : ℕ) (order' waits' : List ℕ) : Type 0 where
   pub place' : ℕ → ℕ
   pub sorting : IsSorting g order' waits' place' (and_link handled e) g.nodes
   pub keeps : (u : ℕ) → place u < length order → place' u ≡ place u
@@ -178,7 +193,8 @@ pub record IsSettled (g : GraphSeen) (order waits : List ℕ) (place : ℕ → �
   pub more : length order ≤ length order'
 
 -- handling a link
-pub settled : (g : GraphSeen) (order waits : List ℕ) (place : ℕ → ℕ) (handled : ℕ → Bool) (e : ℕ) (order' waits' : List ℕ) →
+pub settled : (g : GraphSeen) (order waits : List ℕ) (place : ℕ → ℕ) (handled : ℕ →
+    Bool) (e : ℕ) (order' waits' : List ℕ) →
     IsWithin g.nodes g.links → IsSorting g order waits place handled g.nodes → e < length g.links → handled e ≡ false →
     place (tail_in g.links e) < length order →
     waits' ≡ slice_set waits (head_in g.links e) (slice_index waits (head_in g.links e) - 1) →
@@ -186,8 +202,14 @@ pub settled : (g : GraphSeen) (order waits : List ℕ) (place : ℕ → ℕ) (ha
     IsSettled g order waits place handled e order' waits'
 settled g order waits place handled e order' waits' within now below unhandled_yet behind waits_are order_is =
     elim (cases_eq (slice_index waits h) 1) [
-      | inl last ↦ subst (λ xs. IsSettled g order waits place handled e xs waits') (sym (order_is ∙ ap (λ t. if t then order ++ h ∷ [] else order) (eq-eqb (slice_index waits h) 1 last))) (placed last)
-      | inr further ↦ subst (λ xs. IsSettled g order waits place handled e xs waits') (sym (order_is ∙ ap (λ t. if t then order ++ h ∷ [] else order) (ne_eqb (slice_index waits h) 1 further))) (kept further)
+      | inl last ↦
+          subst (λ xs. IsSettled g order waits place handled e xs waits')
+          (sym (order_is ∙ ap (λ t. if t then order ++ h ∷ [] else order) (eq-eqb (slice_index waits h) 1 last)))
+          (placed last)
+      | inr further ↦
+          subst (λ xs. IsSettled g order waits place handled e xs waits')
+          (sym (order_is ∙ ap (λ t. if t then order ++ h ∷ [] else order) (ne_eqb (slice_index waits h) 1 further)))
+          (kept further)
     ]
   where
     h : ℕ
@@ -200,10 +222,12 @@ settled g order waits place handled e order' waits' within now below unhandled_y
     some = waits_for g order waits place handled e within now below unhandled_yet
 
     at : slice_index waits' h ≡ slice_index waits h - 1
-    at = ap (λ (xs : List ℕ). slice_index xs h) waits_are ∙ get_or-set_same waits h (slice_index waits h - 1) 0 (let c = now.count in omega (arith, inside))
+    at = ap (λ (xs : List ℕ). slice_index xs h) waits_are ∙ get_or-set_same waits h (slice_index waits h - 1) 0 (let c =
+        now.count in omega (arith, inside))
 
     off : (u : ℕ) → u ≢ h → slice_index waits' u ≡ slice_index waits u
-    off u ne = ap (λ (xs : List ℕ). slice_index xs u) waits_are ∙ get_or-set_other waits h u (slice_index waits h - 1) 0 ne
+    off u ne =
+        ap (λ (xs : List ℕ). slice_index xs u) waits_are ∙ get_or-set_other waits h u (slice_index waits h - 1) 0 ne
 
     count : length waits' ≡ g.nodes
     count = ap length waits_are ∙ (length-set waits h (slice_index waits h - 1) ∙ now.count)
@@ -216,10 +240,14 @@ settled g order waits place handled e order' waits' within now below unhandled_y
 
     waiting : (u : ℕ) → u < g.nodes → slice_index waits' u ≡ waiting_at g (and_link handled e) u
     waiting u l = elim (cases_eq u h) [
-      | inl same ↦ ap (slice_index waits') same ∙ (let less = less_waiting g handled e h below unhandled_yet in let one = own h 1 in
-          let w = now.waiting h inside in let t : slice_index waits' h ≡ waiting_at g (and_link handled e) h = omega (arith, at) in
+      | inl same ↦
+          ap (slice_index waits') same ∙ (let less = less_waiting g handled e h below unhandled_yet in let one =
+          own h 1 in
+          let w = now.waiting h inside in let t : slice_index waits' h ≡ waiting_at g (and_link handled e) h =
+          omega (arith, at) in
           t ∙ ap (waiting_at g (and_link handled e)) (sym same))
-      | inr other ↦ off u other ∙ (let less = less_waiting g handled e u below unhandled_yet in let none = apart u h 1 other in
+      | inr other ↦
+          off u other ∙ (let less = less_waiting g handled e u below unhandled_yet in let none = apart u h 1 other in
           let w = now.waiting u l in omega arith)
     ]
 
@@ -236,7 +264,11 @@ settled g order waits place handled e order' waits' within now below unhandled_y
     ]
 
     idle : (u : ℕ) → u < g.nodes → place u < length order → (u < g.nodes) × (slice_index waits' u ≡ 0)
-    idle u l p = (l, off u (λ same. let i = (now.idle u l p).1 in let q = ap (slice_index waits) same in absurd (omega (arith, some))) ∙ (now.idle u l p).1)
+    idle u l p = (
+      l,
+      off u (λ same. let i = (now.idle u l p).1 in let q = ap (slice_index waits) same in
+          absurd (omega (arith, some))) ∙ (now.idle u l p).1,
+    )
 
     kept : (slice_index waits h ≡ 1 → ⊥) → IsSettled g order waits place handled e order waits'
     kept further = record {
@@ -262,10 +294,17 @@ settled g order waits place handled e order' waits' within now below unhandled_y
     placed last = record {
       place' = with_place place h (length order);
       sorting = sorting_place g order waits' place (and_link handled e) g.nodes h within now.placing count waiting
-          (λ u l b other zero. now.free u l b (sym (off u other) ∙ zero)) idle tails inside inside unplaced (omega (arith, at));
-      keeps = λ u l. off_place place h (length order) u (λ same. let p = ap place same in let r = room g order place h now.placing inside unplaced in absurd (omega (arith, unplaced)));
+          (λ u l b other zero. now.free u l b (sym (off u other) ∙ zero)) idle tails inside inside unplaced
+          (omega (arith, at));
+      keeps = λ u l. off_place place h (length order) u (λ same. let p = ap place same in let r =
+          room g order place h now.placing inside unplaced in absurd (omega (arith, unplaced)));
       grows = λ u l. elim (cases_eq u h) [
-        | inl same ↦ inr (ap place same ∙ unplaced, ap (with_place place h (length order)) same ∙ at_place place h (length order))
+        | inl same ↦
+            inr (
+              ap place same ∙ unplaced,
+              ap (with_place place h (length order)) same
+                  ∙ at_place place h (length order),
+            )
         | inr other ↦ inl (off_place place h (length order) u other)
       ];
       same = λ k l. grind (arith, common_steps);

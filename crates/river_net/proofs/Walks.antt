@@ -1,6 +1,8 @@
 -- Walks over links.
-use Rattle.std.proofs.Common.{◌≡◌, ℕ, zero, suc, ◌<◌, ◌≤◌, Bool, true, refl, sym, ◌∙◌, ap, subst, arith, List, [], ◌∷◌, length, inl, inr}
-use Rattle.std.proofs.lemmas.Bool.{cases_lt, or_cases, or_left, or_right, and_parts, and_from, eqb-true, eq-eqb, false≢true}
+use Rattle.std.proofs.Common.{◌≡◌, ℕ, zero, suc, ◌<◌, ◌≤◌, Bool, true, refl, sym, ◌∙◌, ap, subst, arith, List, [], ◌∷◌}
+use Rattle.std.proofs.Common.{length, inl, inr}
+use Rattle.std.proofs.lemmas.Bool.{cases_lt, or_cases, or_left, or_right, and_parts, and_from, eqb-true, eq-eqb}
+use Rattle.std.proofs.lemmas.Bool.{false≢true}
 use Rattle.std.proofs.lemmas.Option.{slice_get_within}
 use Rattle.std.specs.Prelude.{◌==◌, ◌&&◌, ◌||◌, ◌⊎◌, Some, slice_get, unwrap_or, option_map}
 use Rattle.std.specs.List.{list_any}
@@ -8,7 +10,8 @@ use Rattle.water_model.specs.Network.{walks, tail_in, head_in}
 use Rattle.water_model.specs.declared.types.Link.{Link}
 
 -- an entry that passes
-pub any_place : {X : Type 0} (p : X → Bool) (xs : List X) → list_any p xs ≡ true → (k : ℕ) × (x : X) × (slice_get xs k ≡ Some x) × (p x ≡ true)
+pub any_place : {X : Type 0} (p : X → Bool) (xs : List X) → list_any p xs ≡ true → (k : ℕ) × (x : X) ×
+    (slice_get xs k ≡ Some x) × (p x ≡ true)
 any_place p [] h = absurd (false≢true h)
 any_place p (x ∷ xs) h = elim (or_cases (p x) (list_any p xs) h) [
   | inl here ↦ (0, x, refl, here)
@@ -16,13 +19,15 @@ any_place p (x ∷ xs) h = elim (or_cases (p x) (list_any p xs) h) [
 ]
 
 -- and back
-pub place_any : {X : Type 0} (p : X → Bool) (xs : List X) (k : ℕ) (x : X) → slice_get xs k ≡ Some x → p x ≡ true → list_any p xs ≡ true
+pub place_any : {X : Type 0} (p : X → Bool) (xs : List X) (k : ℕ) (x : X) → slice_get xs k ≡ Some x → p x ≡ true →
+    list_any p xs ≡ true
 place_any p [] k x at h = cc
 place_any p (y ∷ xs) zero x at h = or_left (p y) (list_any p xs) (let same : y ≡ x = cc in ap p same ∙ h)
 place_any p (y ∷ xs) (suc k) x at h = or_right (p y) (list_any p xs) (place_any p xs k x at h)
 
 -- the link at a place
-pub link_at : (links : List Link) (e : ℕ) → e < length links → (l : Link) × (slice_get links e ≡ Some l) × (tail_in links e ≡ l.from) × (head_in links e ≡ l.to)
+pub link_at : (links : List Link) (e : ℕ) → e < length links → (l : Link) × (slice_get links e ≡ Some l) ×
+    (tail_in links e ≡ l.from) × (head_in links e ≡ l.to)
 link_at [] e l = absurd (omega arith)
 link_at (x ∷ links) zero l = (x, refl, refl, refl)
 link_at (x ∷ links) (suc e) l = link_at links e (omega arith)
@@ -57,9 +62,11 @@ unfolding walks
 walk_by links k from to begin =
     let at = link_at links begin.link begin.in_range in
     place_any (λ l. l.from == from && (l.to == to || walks links k l.to to)) links begin.link at.0 at.1
-    (and_from (at.0.from == from) (at.0.to == to || walks links k at.0.to to) (eq-eqb at.0.from from (sym at.2 ∙ begin.tail)) (elim begin.rest [
+    (and_from (at.0.from == from) (at.0.to == to || walks links k at.0.to to)
+    (eq-eqb at.0.from from (sym at.2 ∙ begin.tail)) (elim begin.rest [
       | inl there ↦ or_left (at.0.to == to) (walks links k at.0.to to) (eq-eqb at.0.to to (sym at.3 ∙ there))
-      | inr further ↦ or_right (at.0.to == to) (walks links k at.0.to to) (ap (λ v. walks links k v to) (sym at.3) ∙ further)
+      | inr further ↦
+          or_right (at.0.to == to) (walks links k at.0.to to) (ap (λ v. walks links k v to) (sym at.3) ∙ further)
     ]))
 
 -- no link is no walk
@@ -68,8 +75,10 @@ unfolding walks
 no_walk links from to h = false≢true h
 
 -- one link is a walk
-pub walk_one : (links : List Link) (k e : ℕ) → e < length links → walks links (suc k) (tail_in links e) (head_in links e) ≡ true
-walk_one links k e l = walk_by links k (tail_in links e) (head_in links e) record { link = e; in_range = l; tail = refl; rest = inl refl }
+pub walk_one : (links : List Link) (k e : ℕ) → e < length links →
+    walks links (suc k) (tail_in links e) (head_in links e) ≡ true
+walk_one links k e l =
+    walk_by links k (tail_in links e) (head_in links e) record { link = e; in_range = l; tail = refl; rest = inl refl }
 
 -- a bound that is not less allows the walk too
 walk_up : (links : List Link) (k from to : ℕ) → walks links k from to ≡ true → walks links (suc k) from to ≡ true
@@ -80,12 +89,18 @@ walk_up links (suc k) from to h =
       link = begin.link;
       in_range = begin.in_range;
       tail = begin.tail;
-      rest = elim begin.rest [ inl there ↦ inl there | inr further ↦ inr (walk_up links k (head_in links begin.link) to further) ];
+      rest = elim begin.rest [
+        | inl there ↦ inl there
+        | inr further ↦
+            inr (walk_up links k (head_in links begin.link) to further)
+      ];
     }
 
 -- a greater bound allows the walk too
-pub walk_within : (links : List Link) (j k from to : ℕ) → j ≤ k → walks links j from to ≡ true → walks links k from to ≡ true
-walk_within links j zero from to le h = let none : j ≡ 0 = omega arith in subst (λ i. walks links i from to ≡ true) none h
+pub walk_within : (links : List Link) (j k from to : ℕ) → j ≤ k → walks links j from to ≡ true →
+    walks links k from to ≡ true
+walk_within links j zero from to le h = let none : j ≡ 0 = omega arith in
+    subst (λ i. walks links i from to ≡ true) none h
 walk_within links j (suc k) from to le h = elim (cases_lt j (suc k)) [
   | inl below ↦ walk_up links k from to (walk_within links j k from to (omega arith) h)
   | inr above ↦ (let same : j ≡ suc k = omega arith in subst (λ i. walks links i from to ≡ true) same h)
@@ -116,14 +131,16 @@ walk_rises links rank bound (suc k) from to forward below h =
     let begin = walk_begins links k from to h in
     let tail = ap rank begin.tail in
     elim begin.rest [
-      | inl there ↦ (let head = ap rank there in let up = forward begin.link begin.in_range (omega arith) in omega arith)
+      | inl there ↦
+          (let head = ap rank there in let up = forward begin.link begin.in_range (omega arith) in omega arith)
       | inr further ↦ (let rest = walk_rises links rank bound k (head_in links begin.link) to forward below further in
           let up = forward begin.link begin.in_range (omega arith) in omega arith)
     ]
 
 -- a walk does not leave a set that no link leaves
 pub walk_stays : (links : List Link) (inside : ℕ → Bool) (start k from : ℕ) →
-    ((e : ℕ) → e < length links → inside (tail_in links e) ≡ true → (inside (head_in links e) ≡ true) × (head_in links e ≡ start → ⊥)) →
+    ((e : ℕ) → e < length links → inside (tail_in links e) ≡ true → (inside (head_in links e) ≡ true) ×
+    (head_in links e ≡ start → ⊥)) →
     inside from ≡ true → walks links k from start ≡ true → ⊥
 walk_stays links inside start zero from closed here h = no_walk links from start h
 walk_stays links inside start (suc k) from closed here h =

@@ -12,8 +12,8 @@ use Rattle.water_model.specs.declared.types.Node.{Node}
 use Rattle.water_model.specs.declared.types.Plan.{Plan}
 use Rattle.river_net.specs.NetFaults.{net_fault}
 
--- The run of the river of a valid basin is a plan, in any month and for any wants, where the supplies sum to no more than
--- a river carries.
+-- The run of the river of a valid basin is a plan, in any month and for any wants, where the supplies sum to no more
+-- than a river carries.
 abbrev pub RunOfRiverIsPlan : Type 0
 RunOfRiverIsPlan =
     (b : Basin) (month : Month) (supply want : List ℕ) (p : Plan) → IsValidBasin b →

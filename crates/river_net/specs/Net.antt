@@ -1,5 +1,6 @@
 -- What a network says of its nodes and links.
-use Rattle.std.specs.Prelude.{◌≡◌, ℕ, ◌<◌, true, false, List, length, slice_index, slice_index_or, Option, Some, None, All}
+use Rattle.std.specs.Prelude.{◌≡◌, ℕ, ◌<◌, true, false, List, length, slice_index, slice_index_or, Option, Some, None}
+use Rattle.std.specs.Prelude.{All}
 use Rattle.place_sums.specs.Sums.{total}
 use Rattle.water_model.specs.Network.{tail_in, head_in, is_outlet_in, HasNodes, IsForward, IsSoundNetwork}
 use Rattle.water_model.specs.RunOfRiver.{IsFirstRiver}

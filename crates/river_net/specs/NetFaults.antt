@@ -1,12 +1,14 @@
 -- What is at fault in a network.
-use Rattle.std.specs.Prelude.{◌≡◌, ◌==◌, ℕ, List, length, Bool, not, ◌&&◌, Option, Some, None, is_none, option_map, position, slice_index_or, ⊤}
+use Rattle.std.specs.Prelude.{◌≡◌, ◌==◌, ℕ, List, length, Bool, not, ◌&&◌, Option, Some, None, is_none, option_map}
+use Rattle.std.specs.Prelude.{position, slice_index_or, ⊤}
 use Rattle.std.specs.List.{find, list_any, range_with_len}
 use Rattle.std.specs.Option.{option_or}
 use Rattle.water_model.specs.Network.{is_outlet_in, is_river_kind, is_on_cycle}
 use Rattle.water_model.specs.declared.types.Link.{Link}
 use Rattle.water_model.specs.declared.types.Node.{Node}
 use Rattle.river_net.specs.declared.refused.NetRefused.{NetRefused}
-use Rattle.river_net.specs.declared.refused.NetRefused.TheVariants.{SelfLink, LinkFromOutlet, NoRiver, DirectedCycle, OutOfMemory}
+use Rattle.river_net.specs.declared.refused.NetRefused.TheVariants.{SelfLink, LinkFromOutlet, NoRiver, DirectedCycle}
+use Rattle.river_net.specs.declared.refused.NetRefused.TheVariants.{OutOfMemory}
 
 -- a link from a node to itself
 abbrev pub is_self_link : Link → Bool

@@ -1,5 +1,6 @@
 -- Water sent down rivers, node by node in the order of a network.
-use Rattle.std.specs.Prelude.{◌≡◌, ◌≢◌, ◌⊎◌, ℕ, ◌+◌, ◌<◌, ◌≤◌, ◌^◌, ◌==◌, Option, IfSome, false, List, length, slice_index}
+use Rattle.std.specs.Prelude.{◌≡◌, ◌≢◌, ◌⊎◌, ℕ, ◌+◌, ◌<◌, ◌≤◌, ◌^◌, ◌==◌, Option, IfSome, false, List, length}
+use Rattle.std.specs.Prelude.{slice_index}
 use Rattle.place_sums.specs.Sums.{total, total_where}
 use Rattle.water_model.specs.Network.{tail_in, head_in, is_outlet_in}
 use Rattle.water_model.specs.RunOfRiver.{IsFirstRiver}
@@ -21,7 +22,8 @@ pub record IsSent (link node head : ℕ) (flow flow' out out' : ℕ → ℕ) : T
   pub others : (v : ℕ) → v ≢ node → v ≢ head → out' v ≡ out v
 
 -- the nodes with the first places have sent their water on
-pub record IsRunning (nodes : List Node) (links : List Link) (supply place : ℕ → ℕ) (done : ℕ) (flow out : ℕ → ℕ) : Type 0 where
+pub record IsRunning (nodes : List Node) (links : List Link) (supply place : ℕ → ℕ) (done : ℕ) (flow out : ℕ →
+    ℕ) : Type 0 where
   pub balance : (v : ℕ) → v < length nodes →
       supply v + total_where (length links) (λ e. head_in links e == v) flow
       ≡ total_where (length links) (λ e. tail_in links e == v) flow + out v

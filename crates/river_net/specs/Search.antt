@@ -27,7 +27,8 @@ pub record IsExpanded (g : GraphSeen) (start : ℕ) (seen : List Bool) (queue : 
       (has seen (head_in g.links e) ≡ true) × (head_in g.links e ≡ start → ⊥)
 
 -- so were those before the next that leave the node behind them
-pub record IsExpanding (g : GraphSeen) (start : ℕ) (seen : List Bool) (queue : List ℕ) (done node : ℕ) (next : Option ℕ) : Type 0 where
+pub record IsExpanding (g : GraphSeen) (start : ℕ) (seen : List Bool) (queue : List ℕ) (done node : ℕ)
+    (next : Option ℕ) : Type 0 where
   pub expanded : IsExpanded g start seen queue done
   pub within : done < length queue
   pub at : slice_index queue done ≡ node

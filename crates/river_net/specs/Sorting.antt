@@ -1,5 +1,6 @@
 -- How nodes get their places in an order in which each link runs forward.
-use Rattle.std.specs.Prelude.{◌≡◌, ◌⊎◌, ℕ, ◌<◌, ◌≤◌, ◌==◌, ◌&&◌, ◌||◌, Bool, true, false, not, nat_lt, List, length, slice_index, Option, Some, None, IfSome}
+use Rattle.std.specs.Prelude.{◌≡◌, ◌⊎◌, ℕ, ◌<◌, ◌≤◌, ◌==◌, ◌&&◌, ◌||◌, Bool, true, false, not, nat_lt, List, length}
+use Rattle.std.specs.Prelude.{slice_index, Option, Some, None, IfSome}
 use Rattle.place_sums.specs.Sums.{count_where}
 use Rattle.water_model.specs.Network.{tail_in, head_in}
 use Rattle.river_net.specs.GraphSeen.{GraphSeen}
@@ -9,8 +10,8 @@ pub record AreEntering (g : GraphSeen) (bound : ℕ) (counts : List ℕ) : Type 
   pub count : length counts ≡ g.nodes
   pub each : (v : ℕ) → v < g.nodes → slice_index counts v ≡ count_where bound (λ e. head_in g.links e == v)
 
--- the nodes of the order have their places in it, behind all nodes from which links lead to them; any other node has the
--- place `nodes`
+-- the nodes of the order have their places in it, behind all nodes from which links lead to them; any other node has
+-- the place `nodes`
 pub record IsPlacing (g : GraphSeen) (order : List ℕ) (place : ℕ → ℕ) : Type 0 where
   pub each : (v : ℕ) → v < g.nodes →
       (place v ≡ g.nodes) ⊎ ((place v < length order) × (slice_index order (place v) ≡ v))
@@ -19,16 +20,17 @@ pub record IsPlacing (g : GraphSeen) (order : List ℕ) (place : ℕ → ℕ) : 
       place (tail_in g.links e) < place (head_in g.links e)
   pub number : count_where g.nodes (λ v. nat_lt (place v) g.nodes) ≡ length order
 
--- each node waits for the links that lead to it and are not handled; of the nodes below a bound those that wait for none
--- have places
-pub record IsSorting (g : GraphSeen) (order waits : List ℕ) (place : ℕ → ℕ) (handled : ℕ → Bool) (bound : ℕ) : Type 0 where
-  pub placing : IsPlacing g order place
-  pub count : length waits ≡ g.nodes
-  pub waiting : (v : ℕ) → v < g.nodes →
-      slice_index waits v ≡ count_where (length g.links) (λ e. head_in g.links e == v && not (handled e))
-  pub free : (v : ℕ) → v < g.nodes → v < bound → slice_index waits v ≡ 0 → place v < length order
-  pub idle : (v : ℕ) → v < g.nodes → place v < length order → (v < bound) × (slice_index waits v ≡ 0)
-  pub tails : (e : ℕ) → e < length g.links → handled e ≡ true → place (tail_in g.links e) < length order
+-- each node waits for the links that lead to it and are not handled; of the nodes below a bound those that wait for
+-- none have places
+pub record IsSorting (g : GraphSeen) (order waits : List ℕ) (place : ℕ → ℕ) (handled : ℕ → Bool) (bound : ℕ) : Type 0
+  where
+    pub placing : IsPlacing g order place
+    pub count : length waits ≡ g.nodes
+    pub waiting : (v : ℕ) → v < g.nodes →
+        slice_index waits v ≡ count_where (length g.links) (λ e. head_in g.links e == v && not (handled e))
+    pub free : (v : ℕ) → v < g.nodes → v < bound → slice_index waits v ≡ 0 → place v < length order
+    pub idle : (v : ℕ) → v < g.nodes → place v < length order → (v < bound) × (slice_index waits v ≡ 0)
+    pub tails : (e : ℕ) → e < length g.links → handled e ≡ true → place (tail_in g.links e) < length order
 
 -- no link is handled, and the nodes below a bound that no link leads to have places
 pub record HasSources (g : GraphSeen) (order waits : List ℕ) (bound : ℕ) : Type 0 where

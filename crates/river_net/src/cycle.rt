@@ -1,5 +1,6 @@
 //! The first node on a cycle of links.
-ghost use Rattle.std.specs.Prelude.{◌≡◌, ℕ, ◌+◌, ◌<◌, ◌++◌, ◌∷◌, [], if◌then◌else◌, true, false, IfOk, OnOk, length, slice_index, slice_set};
+ghost use Rattle.std.specs.Prelude.{◌≡◌, ℕ, ◌+◌, ◌<◌, ◌++◌, ◌∷◌, [], if◌then◌else◌, true, false, IfOk, OnOk, length};
+ghost use Rattle.std.specs.Prelude.{slice_index, slice_set};
 ghost use Rattle.std.specs.Bool.{OnTrue, OnFalse};
 ghost use Rattle.std.specs.List.{find, range_with_len};
 ghost use Rattle.water_model.specs.Lookups.{has};
@@ -85,8 +86,8 @@ fn reaches_itself(alloc: Global, graph: &Graph, node: u32) -> Result<bool, Alloc
     Ok(false)
 }
 
-/// The first node that reaches itself. Given are the counts of [`crate::sorting::Sorting`]: where one is 0, the node does
-/// not, so it is not searched from.
+/// The first node that reaches itself. Given are the counts of [`crate::sorting::Sorting`]: where one is 0, the node
+/// does not, so it is not searched from.
 pub fn node_on_cycle(alloc: Global, graph: &Graph, waits: &[u32]) -> Result<Option<u32>, AllocError>
     requires count { length waits.now ≡ graph.now.nodes }
     requires waiting { (v : ℕ) → v < graph.now.nodes → slice_index waits.now v ≡ 0 →

@@ -1,5 +1,6 @@
 //! The network of a basin.
-ghost use Rattle.std.specs.Prelude.{◌≡◌, ◌<◌, ◌≤◌, ◌^◌, List, length, map, All, None, IfOk, OnOk, IfErr, IfSome, IfNone, slice_index};
+ghost use Rattle.std.specs.Prelude.{◌≡◌, ◌<◌, ◌≤◌, ◌^◌, List, length, map, All, None, IfOk, OnOk, IfErr, IfSome};
+ghost use Rattle.std.specs.Prelude.{IfNone, slice_index};
 ghost use Rattle.water_model.specs.Network.{HasNodes, IsSoundNetwork};
 ghost use Rattle.water_model.specs.RunOfRiver.{RunsNaturally};
 ghost use Rattle.water_model.specs.declared.types.Link.{Link};
@@ -63,9 +64,9 @@ fn send(river: Option<u32>, heads: &[u32], node: usize, flow: &mut [u64], out: &
 
 impl Net {
     /// The network of nodes and links, which name each other by their places, from 0. Where something is at fault, the
-    /// answer is the first fault: a link from a node to itself, else a link from an outlet, else a node that is no outlet
-    /// and that no river leaves, else a cycle of links. It takes memory: `OutOfMemory` comes only where it runs out,
-    /// and then says nothing of nodes and links.
+    /// answer is the first fault: a link from a node to itself, else a link from an outlet, else a node that is no
+    /// outlet and that no river leaves, else a cycle of links. It takes memory: `OutOfMemory` comes only where it runs
+    /// out, and then says nothing of nodes and links.
     pub fn build(alloc: Global, nodes: &[Node], links: &[Link]) -> Result<Net, NetRefused>
         requires some { 1 ≤ length nodes.now }
         requires few_nodes { length nodes.now ≤ 2000 }
@@ -106,9 +107,9 @@ impl Net {
         &self.order
     }
 
-    /// Writes the run of the river for the supplies of the nodes: the flow of each link and the outflow of each node, all
-    /// in 1,000 cubic metres. Each node that is no outlet sends all its water down its first river, no water runs down
-    /// any other link, and each outlet lets its water out of the basin.
+    /// Writes the run of the river for the supplies of the nodes: the flow of each link and the outflow of each node,
+    /// all in 1,000 cubic metres. Each node that is no outlet sends all its water down its first river, no water runs
+    /// down any other link, and each outlet lets its water out of the basin.
     pub fn natural(&self, supply: &[u64], flow: &mut [u64], out: &mut [u64])
         requires net { IsNetOfSome self.now }
         requires supply { length supply.now ≡ length self.now.order }

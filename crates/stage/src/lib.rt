@@ -14,8 +14,8 @@ use std::test::Fail;
 use steps::Steps;
 use water_edge::{MemoryShelf, MemorySink};
 
-/// The bytes of the files BASIN, BASIN2, SERIES, RESULT and SCRIPT, how many bytes a part of a file has at most, where 0
-/// counts as 1, and the numbers of the calls of the shelf, of out and of err that fail.
+/// The bytes of the files BASIN, BASIN2, SERIES, RESULT and SCRIPT, how many bytes a part of a file has at most, where
+/// 0 counts as 1, and the numbers of the calls of the shelf, of out and of err that fail.
 #[derive(Drop)]
 pub struct Set {
     pub basin: Vec<u8>,

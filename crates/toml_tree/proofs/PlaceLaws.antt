@@ -1,5 +1,8 @@
 -- The first places of texts, kept in a map.
-use Rattle.std.proofs.Common.{◌≡◌, ℕ, ◌+◌, ◌<◌, ◌≤◌, suc, List, [], ◌∷◌, ◌++◌, length, map, take, drop, get_or, slice_get, slice_index, Bool, true, false, Option, Some, None, is_some, if◌then◌else◌, refl, sym, ap, ◌∙◌, inl, inr, arith, add-zero, count_by, option_map, option_and_then, IfSome, MatchOption, zero, append_assoc}
+use Rattle.std.proofs.Common.{◌≡◌, ℕ, ◌+◌, ◌<◌, ◌≤◌, suc, List, [], ◌∷◌, ◌++◌, length, map, take, drop, get_or}
+use Rattle.std.proofs.Common.{slice_get, slice_index, Bool, true, false, Option, Some, None, is_some, if◌then◌else◌}
+use Rattle.std.proofs.Common.{refl, sym, ap, ◌∙◌, inl, inr, arith, add-zero, count_by, option_map, option_and_then}
+use Rattle.std.proofs.Common.{IfSome, MatchOption, zero, append_assoc}
 use Rattle.std.proofs.lemmas.List.{drop_all, append-nil, take_more, length-take}
 use Rattle.std.proofs.lemmas.Option.{slice_get-map, slice_get_read, slice_get_within, get_or_from_slice_get}
 use Rattle.std.proofs.lemmas.Bool.{cases_Bool, false≢true}
@@ -24,7 +27,8 @@ bytes_eq-sym xs ys =
     elim (cases_Bool (bytes_eq xs ys)) [
       | inl same ↦ same ∙ sym ((bytes_eq-Decides ys xs).1 (sym ((bytes_eq-Decides xs ys).0 same)))
       | inr other ↦ elim (cases_Bool (bytes_eq ys xs)) [
-        | inl same ↦ absurd (false≢true (sym other ∙ (bytes_eq-Decides xs ys).1 (sym ((bytes_eq-Decides ys xs).0 same))))
+        | inl same ↦
+            absurd (false≢true (sym other ∙ (bytes_eq-Decides xs ys).1 (sym ((bytes_eq-Decides ys xs).0 same))))
         | inr same ↦ other ∙ sym same
       ]
     ]
@@ -43,7 +47,8 @@ or_assoc (Some n) s t = refl
 
 -- a text that was not kept is kept from now on
 pub added : {S : Type 0} (t : Bor (List ℕ)) (old new : IndexMap (Bor (List ℕ)) ℕ S) (place : ℕ)
-    → UpdatesBy (λ x y. bytes_eq x.now y.now) (λ k. bytes_eq t.now k.now) old new (Some place) → is_some (get_by (λ k. bytes_eq t.now k.now) old) ≡ false
+    → UpdatesBy (λ x y. bytes_eq x.now y.now) (λ k. bytes_eq t.now k.now) old new (Some place) →
+    is_some (get_by (λ k. bytes_eq t.now k.now) old) ≡ false
     → (q : List ℕ) → kept_at new q ≡ option_or (kept_at old q) (if bytes_eq q t.now then Some place else None)
 added t old new place updates absent q =
     let there = hash_map_updates_str t.now old new (Some place) updates q in
@@ -56,7 +61,8 @@ added t old new place updates absent q =
           rw (bytes_eq-sym q t.now) (rw other (here ∙ sym (or_none (kept_at old q)))))
     ]
 
-pub texts_view : (key : List ℕ) (vs : List Value) → texts_behind key (items_view vs) ≡ map (λ v. option_and_then as_str (get key (view v))) vs
+pub texts_view : (key : List ℕ) (vs : List Value) →
+    texts_behind key (items_view vs) ≡ map (λ v. option_and_then as_str (get key (view v))) vs
 texts_view key [] = refl
 texts_view key (v ∷ vs) = ap (λ texts. option_and_then as_str (get key (view v)) ∷ texts) (texts_view key vs)
 
@@ -68,12 +74,15 @@ pub add_assoc : (a b c : ℕ) → (a + b) + c ≡ a + (b + c)
 add_assoc a b c = omega arith
 
 -- the first place in one list and then another
-pub first_from-append : {X : Type 0} (p : X → Bool) (n : ℕ) (xs ys : List X) → first_from p n (xs ++ ys) ≡ option_or (first_from p n xs) (first_from p (n + length xs) ys)
+pub first_from-append : {X : Type 0} (p : X → Bool) (n : ℕ) (xs ys : List X) →
+    first_from p n (xs ++ ys) ≡ option_or (first_from p n xs) (first_from p (n + length xs) ys)
 first_from-append p n [] ys = rw add-zero refl
 first_from-append p n (x ∷ xs) ys =
     elim (cases_Bool (p x)) [
       | inl here ↦ rw here refl
-      | inr other ↦ rw other (first_from-append p (n + 1) xs ys ∙ ap (λ m. option_or (first_from p (n + 1) xs) (first_from p m ys)) (omega arith))
+      | inr other ↦
+          rw other (first_from-append p (n + 1) xs ys
+          ∙ ap (λ m. option_or (first_from p (n + 1) xs) (first_from p m ys)) (omega arith))
     ]
 
 -- and among one text more
@@ -130,7 +139,8 @@ module _ {S : Type 0} (old mid new : IndexMap (Bor (List ℕ)) ℕ S) (from : �
 
 -- after a count
 pub counted_more : {S : Type 0} (t : Bor (List ℕ)) (old new : IndexMap (Bor (List ℕ)) ℕ S) (before : ℕ)
-    → UpdatesBy (λ x y. bytes_eq x.now y.now) (λ k. bytes_eq t.now k.now) old new (Some (before + 1)) → before ≡ counted old t.now
+    → UpdatesBy (λ x y. bytes_eq x.now y.now) (λ k. bytes_eq t.now k.now) old new (Some (before + 1)) →
+    before ≡ counted old t.now
     → (q : List ℕ) → counted new q ≡ counted old q + (if bytes_eq q t.now then 1 else 0)
 counted_more t old new before updates was q =
     let there = hash_map_updates_str t.now old new (Some (before + 1)) updates q in
@@ -142,8 +152,10 @@ counted_more t old new before updates was q =
           rw (bytes_eq-sym q t.now) (rw other (rw here (omega arith))))
     ]
 
-pub counts_all : {V : Type 0} (f : V → Option (List ℕ)) (seen : List (Option (List ℕ))) (earlier : List ℕ) (rows : List V) (i : ℕ) → length rows ≤ i
-    → earlier ++ earlier_from seen (map f (drop i rows)) ≡ earlier_from [] (map f rows) → earlier ≡ earlier_from [] (map f rows)
+pub counts_all : {V : Type 0} (f : V → Option (List ℕ)) (seen : List (Option (List ℕ))) (earlier : List ℕ)
+    (rows : List V) (i : ℕ) → length rows ≤ i
+    → earlier ++ earlier_from seen (map f (drop i rows)) ≡ earlier_from [] (map f rows) →
+    earlier ≡ earlier_from [] (map f rows)
 counts_all f seen earlier rows i h e = sym (append-nil earlier) ∙ (rw (drop_all i rows h) at e)
 
 pub get_item_view : (n : ℕ) (vs : List Value) → get_item n (items_view vs) ≡ option_map view (slice_get vs n)
@@ -152,26 +164,31 @@ get_item_view zero (v ∷ vs) = refl
 get_item_view (suc n) (v ∷ vs) = get_item_view n vs
 
 pub earlier_get : (seen texts : List (Option (List ℕ))) (k : ℕ) → slice_index (earlier_from seen texts) k
-    ≡ option_map_or (λ text. option_map_or (λ q. count_by (is_the_text q) (seen ++ take k texts)) text 0) (slice_get texts k) 0
+    ≡ option_map_or (λ text. option_map_or (λ q. count_by (is_the_text q) (seen ++ take k texts)) text 0)
+    (slice_get texts k) 0
 earlier_get seen [] k = refl
 earlier_get seen (text ∷ texts) zero = rw (append-nil seen) refl
-earlier_get seen (text ∷ texts) (suc k) = earlier_get (seen ++ text ∷ []) texts k ∙ rw (append_assoc seen (text ∷ []) (take k texts)) refl
+earlier_get seen (text ∷ texts) (suc k) =
+    earlier_get (seen ++ text ∷ []) texts k ∙ rw (append_assoc seen (text ∷ []) (take k texts)) refl
 
 none_past : (n : ℕ) (vs : List Value) → length vs ≤ n → None ≡ get_item n (items_view vs)
 none_past n [] h = refl
 none_past zero (v ∷ vs) h = absurd (omega arith)
 none_past (suc n) (v ∷ vs) h = none_past n vs (omega arith)
 
-got_there : (x : Value) (n : ℕ) (vs : List Value) → n < length vs → x ≡ get_or vs n x → Some (view x) ≡ get_item n (items_view vs)
+got_there : (x : Value) (n : ℕ) (vs : List Value) → n < length vs → x ≡ get_or vs n x →
+    Some (view x) ≡ get_item n (items_view vs)
 got_there x n [] h e = absurd (omega arith)
 got_there x zero (v ∷ vs) h e = ap (λ y. Some (view y)) e
 got_there x (suc n) (v ∷ vs) h e = got_there x n vs (omega arith) e
 
 -- what `get` says of a slice of values, by their items
-pub item_got : (r : Option (Bor Value)) (n : ℕ) (vs : List Value) → IfSome r (λ x. x.now ≡ get_or vs n x.now) → MatchOption r (length vs ≤ n) (λ x. (n < length vs) × HoldsAt (λ y. x.now ≡ y) vs n)
+pub item_got : (r : Option (Bor Value)) (n : ℕ) (vs : List Value) → IfSome r (λ x. x.now ≡ get_or vs n x.now) →
+    MatchOption r (length vs ≤ n) (λ x. (n < length vs) × HoldsAt (λ y. x.now ≡ y) vs n)
     → option_map (λ x. view x.now) r ≡ get_item n (items_view vs)
 item_got None n vs e m = none_past n vs m
 item_got (Some x) n vs e m = got_there x.now n vs m.0 e
 
-pub earlier_is : (texts : List (Option (List ℕ))) (earlier : List ℕ) (k : ℕ) → earlier ≡ earlier_from [] texts → slice_index earlier k ≡ earlier_like texts k
+pub earlier_is : (texts : List (Option (List ℕ))) (earlier : List ℕ) (k : ℕ) → earlier ≡ earlier_from [] texts →
+    slice_index earlier k ≡ earlier_like texts k
 earlier_is texts earlier k e = rw e (earlier_get [] texts k)

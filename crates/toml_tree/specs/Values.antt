@@ -1,5 +1,6 @@
 -- The values at the keys of a table. What isn't there, or isn't in its range, has the stated default.
-use Rattle.std.specs.Prelude.{ℕ, nat_le, List, [], map, ℤ, pos, negsuc, Bool, false, ◌&&◌, Option, if◌then◌else◌, option_and_then, unwrap_or}
+use Rattle.std.specs.Prelude.{ℕ, nat_le, List, [], map, ℤ, pos, negsuc, Bool, false, ◌&&◌, Option, if◌then◌else◌}
+use Rattle.std.specs.Prelude.{option_and_then, unwrap_or}
 use Rattle.std.specs.List.{range_with_len}
 use Rattle.std.specs.Option.{option_map_or}
 use Rattle.toml.specs.Data.{Data, get_item, Members, get_member, as_integer, as_str, as_array}

@@ -1,5 +1,6 @@
 //! The first places of texts in lists.
-ghost use Rattle.std.specs.Prelude.{◌≡◌, ◌+◌, ◌<◌, ◌^◌, [], List, ℕ, length, codes, IfOk, OnOk, OnErr, MatchResult, Some, None, option_map, option_and_then, if◌then◌else◌};
+ghost use Rattle.std.specs.Prelude.{◌≡◌, ◌+◌, ◌<◌, ◌^◌, [], List, ℕ, length, codes, IfOk, OnOk, OnErr, MatchResult};
+ghost use Rattle.std.specs.Prelude.{Some, None, option_map, option_and_then, if◌then◌else◌};
 ghost use Rattle.std.specs.Option.{option_or, option_map_or};
 ghost use Rattle.indexmap.specs.IndexMap.{IsUnchanged};
 ghost use Rattle.toml.specs.Data.{as_str, get};
@@ -87,9 +88,11 @@ fn count_text<'a>(
     text: Option<&'a str>,
 ) -> Result<u64, AllocError>
     requires { (q : List ℕ) → counted counts.old q + 1 < 2 ^ 64 }
-    ensures before { IfOk result (λ n. n ≡ option_map_or (λ q. counted counts.old q) (option_map (λ t. t.now) text.entry) 0) }
+    ensures before { IfOk result
+        (λ n. n ≡ option_map_or (λ q. counted counts.old q) (option_map (λ t. t.now) text.entry) 0) }
     ensures counts { OnOk result ((q : List ℕ) →
-        counted counts.new q ≡ counted counts.old q + (if is_the_text q (option_map (λ t. t.now) text.entry) then 1 else 0)) }
+        counted counts.new q ≡ counted counts.old
+        q + (if is_the_text q (option_map (λ t. t.now) text.entry) then 1 else 0)) }
 {
     match text {
         Some(text) => {

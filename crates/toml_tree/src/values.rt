@@ -3,7 +3,8 @@ ghost use Rattle.std.specs.Prelude.{◌≡◌, ◌≤◌, option_map};
 ghost use Rattle.toml.specs.Data.{get_item, get_member, as_array};
 ghost use Rattle.toml.specs.View.{view, table_view, items_view};
 ghost use Rattle.toml_tree.specs.Items.{items_len};
-ghost use Rattle.toml_tree.specs.Values.{is_between, ranged, whole_of, whole_at, month_number, monthly_of, text_at, text_or_empty};
+ghost use Rattle.toml_tree.specs.Values.{is_between, ranged, whole_of, whole_at, month_number, monthly_of, text_at};
+ghost use Rattle.toml_tree.specs.Values.{text_or_empty};
 
 use toml::{Table, Value};
 

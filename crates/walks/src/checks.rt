@@ -99,8 +99,8 @@ fn accepts_other_cuts(rt: HostRuntime) -> Result<(), Fail> {
     Ok(())
 }
 
-/// A senior whose reach has the node of a junior: the text of the run, and one in which a smaller set shows the same shortage, so
-/// that nobody calls the junior.
+/// A senior whose reach has the node of a junior: the text of the run, and one in which a smaller set shows the same
+/// shortage, so that nobody calls the junior.
 const HIDDEN: [&str; 3] = [
     "format = 1\nfirst_month = \"1900-07\"\nmonths = 1\n[[node]]\nname = \"top\"\ninflow = 50\n[[node]]\nname = \"low\"\n[[node]]\nname = \"mouth\"\noutlet = true\n[[link]]\nname = \"a\"\nfrom = \"top\"\nto = \"low\"\n[[link]]\nname = \"b\"\nfrom = \"low\"\nto = \"mouth\"\n[[diversion]]\nname = \"old\"\nnode = \"top\"\ndate = \"1890-01-01\"\nwant = 100\n[[diversion]]\nname = \"new\"\nnode = \"low\"\ndate = \"1920-01-01\"\nwant = 10\n",
     "river-result 1\nrun 1900-07 1\nmonth 1900-07\nflow a 0\nflow b 0\ndeliver old 50 100\ndeliver new 0 10\nout mouth 0\ncall old\nin top\nin low\nin mouth\ncall new\nin top\nin low\nin mouth\ncalled new old\nend\ndone 1\n",
@@ -404,8 +404,8 @@ fn refutes_flows_and_ends(rt: HostRuntime) -> Result<(), Fail> {
     Ok(())
 }
 
-/// Whole texts and the answers: two faults in one line, of which the first kind is answered, and in two lines, of which the
-/// first line is.
+/// Whole texts and the answers: two faults in one line, of which the first kind is answered, and in two lines, of which
+/// the first line is.
 const TWICE: [((&str, &str), &str, &str); 6] = [
     (JUNIOR_DRY, "", "refuted 1 EarlyEnd\n"),
     (JUNIOR_DRY, "x\n", "refuted 1 BadLine\n"),

@@ -1,4 +1,5 @@
-//! Canals that are shut in some months, and wants that stand in the series. The texts of the runs are worked out by hand.
+//! Canals that are shut in some months, and wants that stand in the series. The texts of the runs are worked out by
+//! hand.
 use basin_cli::Status;
 use stage::{expect, files};
 use std::alloc::Global;

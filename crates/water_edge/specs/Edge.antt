@@ -1,5 +1,6 @@
 -- What a call of a shelf or a sink answers, and what it leaves behind.
-use Rattle.std.specs.Prelude.{◌≡◌, ◌≢◌, ℕ, ◌+◌, ◌-◌, ◌^◌, ◌<◌, ◌≤◌, min, List, length, take, drop, ⊤, Option, None, Some, IfSome, Result, Ok, Err, Vec}
+use Rattle.std.specs.Prelude.{◌≡◌, ◌≢◌, ℕ, ◌+◌, ◌-◌, ◌^◌, ◌<◌, ◌≤◌, min, List, length, take, drop, ⊤, Option, None}
+use Rattle.std.specs.Prelude.{Some, IfSome, Result, Ok, Err, Vec}
 use Rattle.std.specs.declared.alloc.Global.{Global}
 use Rattle.std.specs.Io.KnownBytes.{Appends}
 use Rattle.water_edge.specs.declared.shelf.ShelfRefused.{ShelfRefused}
@@ -19,7 +20,8 @@ pub record HasCause (before now : ℕ) (fault : Type 0) : Type 0 where
   pub rose : fault → Rose before now
 
 -- the bytes that are told under each name stay, and each name that was served still is
-pub record SameShelf (told_old told_new : List ℕ → Option (List ℕ)) (serves_old serves_new : List ℕ → Type 0) : Type 0 where
+pub record SameShelf (told_old told_new : List ℕ → Option (List ℕ)) (serves_old serves_new : List ℕ →
+    Type 0) : Type 0 where
   pub told : (name : List ℕ) → told_new name ≡ told_old name
   pub served : (name : List ℕ) → serves_old name → serves_new name
 

@@ -1,5 +1,6 @@
 -- A shelf and a sink in memory, as contracts see them.
-use Rattle.std.specs.Prelude.{ℕ, ◌+◌, ◌-◌, ◌<◌, min, List, [], ◌∷◌, ◌++◌, length, Contains, ◌⊎◌, Option, None, Some, IsNone, Result, Ok, Err, Vec, String, string_bytes, if◌then◌else◌}
+use Rattle.std.specs.Prelude.{ℕ, ◌+◌, ◌-◌, ◌<◌, min, List, [], ◌∷◌, ◌++◌, length, Contains, ◌⊎◌, Option, None, Some}
+use Rattle.std.specs.Prelude.{IsNone, Result, Ok, Err, Vec, String, string_bytes, if◌then◌else◌}
 use Rattle.std.specs.Str.{bytes_eq}
 use Rattle.std.specs.declared.alloc.Global.{Global}
 use Rattle.water_edge.specs.declared.shelf.ShelfRefused.{ShelfRefused}
@@ -42,7 +43,8 @@ after_read shelf _ = record shelf { calls = next_count shelf.calls }
 abbrev pub part_length : ShelfState → List ℕ → ℕ → ℕ → ℕ
 part_length shelf whole from room = min (min room shelf.most) (length whole - from)
 
--- a sink: the bytes taken, how many there may be, the numbers of the calls that are to fail, and how many there were and failed
+-- a sink: the bytes taken, how many there may be, the numbers of the calls that are to fail, and how many there were
+-- and failed
 pub record SinkState : Type 0 where
   pub bytes : List ℕ
   pub room : ℕ

@@ -1,9 +1,11 @@
 //! A shelf and a sink in memory, which fail where they are told to.
-ghost use Rattle.std.specs.Prelude.{◌≡◌, ◌+◌, ◌-◌, ◌^◌, ◌<◌, ◌≤◌, ◌↔◌, min, [], None, Some, ⊤, Contains, IfOk, IfSome, IsErr, IsErrOf, IsOk, IsTrue, OnOk, option_map, map, length, vec_len};
+ghost use Rattle.std.specs.Prelude.{◌≡◌, ◌+◌, ◌-◌, ◌^◌, ◌<◌, ◌≤◌, ◌↔◌, min, [], None, Some, ⊤, Contains, IfOk, IfSome};
+ghost use Rattle.std.specs.Prelude.{IsErr, IsErrOf, IsOk, IsTrue, OnOk, option_map, map, length, vec_len};
 ghost use Rattle.std.specs.Io.KnownBytes.{Keeps};
 ghost use Rattle.water_edge.specs.declared.shelf.ShelfRefused.TheVariants.{Failed, OutOfMemory};
 ghost use Rattle.water_edge.specs.Edge.{next_count, AsksFor, HasCause, IsPart, SameShelf, ReadsPart, ReadsWhole, Puts};
-ghost use Rattle.water_edge.specs.Memory.{plain_file, file_of, part_length, after_read, after_put, FailsToRead, FailsToPut};
+ghost use Rattle.water_edge.specs.Memory.{plain_file, file_of, part_length, after_read, after_put, FailsToRead};
+ghost use Rattle.water_edge.specs.Memory.{FailsToPut};
 
 use crate::{Shelf, ShelfRefused, Sink, SinkFailed};
 use std::alloc::{AllocError, Global};

@@ -1,19 +1,23 @@
 -- The balance of a month and of a run.
-use Rattle.std.proofs.Common.{◌≡◌, ℕ, zero, suc, ◌+◌, ◌-◌, ◌<◌, ◌≤◌, Bool, true, false, refl, sym, ◌∙◌, ap, arith, List, [], ◌∷◌, length, map, replicate, sum, take, add-one}
+use Rattle.std.proofs.Common.{◌≡◌, ℕ, zero, suc, ◌+◌, ◌-◌, ◌<◌, ◌≤◌, Bool, true, false, refl, sym, ◌∙◌, ap, arith, List}
+use Rattle.std.proofs.Common.{[], ◌∷◌, length, map, replicate, sum, take, add-one}
 use Rattle.std.proofs.lemmas.List.{length-replicate}
 use Rattle.std.proofs.lemmas.Option.{get_or_from_slice_get}
 use Rattle.std.proofs.Common.{subst, length-take}
 use Rattle.std.proofs.lemmas.Bool.Decides.{nat_tests}
 use Rattle.std.proofs.lemmas.List.Sums.{sum_by-cons, sum_by_more}
-use Rattle.std.specs.Prelude.{if◌then◌else◌, ◌==◌, nat_lt, ◌&&◌, not, slice_index, slice_get, sum_by, Option, Some, None, All, unwrap_or, option_map}
+use Rattle.std.specs.Prelude.{if◌then◌else◌, ◌==◌, nat_lt, ◌&&◌, not, slice_index, slice_get, sum_by, Option, Some}
+use Rattle.std.specs.Prelude.{None, All, unwrap_or, option_map}
 use Rattle.place_sums.specs.Sums.{total, total_where}
 use Rattle.water_model.specs.Lookups.{has}
-use Rattle.water_model.specs.Basin.{head_of, tail_of, is_at, taking_node, taking_node_of_kind, node_of_reservoir, instream_link, link_of_kind}
+use Rattle.water_model.specs.Basin.{head_of, tail_of, is_at, taking_node, taking_node_of_kind, node_of_reservoir}
+use Rattle.water_model.specs.Basin.{instream_link, link_of_kind}
 use Rattle.water_model.specs.Plans.{IsPlan}
 use Rattle.water_model.specs.Cuts.{enters, leaves, takes_within, node_within}
 use Rattle.water_model.specs.Hydrology.{inflow_at, stored_at, evaporation, in_year}
 use Rattle.water_model.specs.History.{IsPartialHistory, Follows, is_zone_of, is_zone_of_kind, opening_after}
-use Rattle.water_model.specs.Valid.{IsValidBasin, IsValidLink, IsValidReservoir, IsValidRight, HasValidPlace, is_diversion, is_diversion_kind}
+use Rattle.water_model.specs.Valid.{IsValidBasin, IsValidLink, IsValidReservoir, IsValidRight, HasValidPlace}
+use Rattle.water_model.specs.Valid.{is_diversion, is_diversion_kind}
 use Rattle.water_model.specs.Balance.{HistoriesAreBalanced, IsBalanced, whole_inflow, diverted}
 use Rattle.water_text.specs.declared.month.Month.{Month}
 use Rattle.water_model.specs.declared.types.Basin.{Basin}
@@ -24,7 +28,8 @@ use Rattle.water_model.specs.declared.types.Plan.{Plan}
 use Rattle.water_model.specs.declared.types.Reservoir.{Reservoir}
 use Rattle.water_model.specs.declared.types.RightKind.{RightKind}
 use Rattle.water_model.specs.declared.types.RightKind.TheVariants.{Diversion, Instream, Zone}
-use Rattle.place_sums.proofs.Totals.{total_same, total_zero, total_add, total_exchange, total_at, total_start, total_first}
+use Rattle.place_sums.proofs.Totals.{total_same, total_zero, total_add, total_exchange, total_at, total_start}
+use Rattle.place_sums.proofs.Totals.{total_first}
 use Rattle.water_model.proofs.Sets.{grouped, at_some_place}
 use Rattle.water_model.proofs.CutBalance.{cut_balance}
 use Rattle.water_model.proofs.Duality.{delivery_by_take}
@@ -32,7 +37,8 @@ use Rattle.water_model.proofs.Duality.{delivery_by_take}
 -- the sum of a list is that over its places
 pub sum_total : (xs : List ℕ) → sum xs ≡ total (length xs) (λ k. slice_index xs k)
 sum_total [] = sym (total_start (λ k. slice_index [] k))
-sum_total (x ∷ xs) = omega (arith, sum_by-cons (λ x. x) x xs, sum_total xs, total_first (length xs) (λ k. slice_index (x ∷ xs) k))
+sum_total (x ∷ xs) =
+    omega (arith, sum_by-cons (λ x. x) x xs, sum_total xs, total_first (length xs) (λ k. slice_index (x ∷ xs) k))
 
 -- all nodes
 abbrev all_nodes : Basin → List Bool
@@ -44,11 +50,13 @@ has_all (suc n) zero l = refl
 has_all (suc n) (suc k) l = has_all n k (omega arith)
 
 -- a sum over places that all pass
-pub total_where_all : (n : ℕ) (p : ℕ → Bool) (f : ℕ → ℕ) → ((k : ℕ) → k < n → p k ≡ true) → total_where n p f ≡ total n f
+pub total_where_all : (n : ℕ) (p : ℕ → Bool) (f : ℕ → ℕ) → ((k : ℕ) → k < n → p k ≡ true) →
+    total_where n p f ≡ total n f
 total_where_all n p f h = total_same n (λ k. if p k then f k else 0) f (λ k l. ap (λ t. if t then f k else 0) (h k l))
 
 pub total_where_none_pass : (n : ℕ) (p : ℕ → Bool) (f : ℕ → ℕ) → ((k : ℕ) → k < n → p k ≡ false) → total_where n p f ≡ 0
-total_where_none_pass n p f h = total_zero n (λ k. if p k then f k else 0) (λ k l. ap (λ t. if t then f k else 0) (h k l))
+total_where_none_pass n p f h =
+    total_zero n (λ k. if p k then f k else 0) (λ k l. ap (λ t. if t then f k else 0) (h k l))
 
 -- what holds of each entry holds of what is read of it
 pub entry_holds : {X : Type 0} (P : X → Type 0) (xs : List X) (k : ℕ) → All P xs → k < length xs →
@@ -109,8 +117,12 @@ plan_balance b month supply want p valid plan =
     let cut = cut_balance b month supply want p (all_nodes b) plan (length-replicate nodes true) in
     let supplies = total_where_all nodes (λ n. has (all_nodes b) n) (λ n. slice_index supply n) (has_all nodes) in
     let outs = total_where_all nodes (λ n. has (all_nodes b) n) (λ n. slice_index p.out n) (has_all nodes) in
-    let ins = total_where_none_pass (length b.links) (λ e. enters b (all_nodes b) e) (λ e. slice_index p.flow e) none_enters in
-    let leave = total_where_none_pass (length b.links) (λ e. leaves b (all_nodes b) e) (λ e. slice_index p.flow e) none_leaves in
+    let ins =
+    total_where_none_pass (length b.links) (λ e. enters b (all_nodes b) e) (λ e. slice_index p.flow e)
+    none_enters in
+    let leave =
+    total_where_none_pass (length b.links) (λ e. leaves b (all_nodes b) e) (λ e. slice_index p.flow e)
+    none_leaves in
     let takes = total_same (length b.rights) (λ r. if takes_within b (all_nodes b) r then slice_index p.take r else 0)
     (λ r. slice_index p.take r) take_within in
     omega (arith, cut, supplies, outs, ins, leave, takes)
@@ -120,13 +132,16 @@ plan_balance b month supply want p valid plan =
 
     none_enters : (e : ℕ) → e < length b.links → enters b (all_nodes b) e ≡ false
     none_enters e l = both_in (has (all_nodes b) (head_of b e)) (has (all_nodes b) (tail_of b e))
-        (has_all (length b.nodes) (head_of b e) (ends b valid e l).1) (has_all (length b.nodes) (tail_of b e) (ends b valid e l).0)
+        (has_all (length b.nodes) (head_of b e) (ends b valid e l).1)
+        (has_all (length b.nodes) (tail_of b e) (ends b valid e l).0)
 
     none_leaves : (e : ℕ) → e < length b.links → leaves b (all_nodes b) e ≡ false
     none_leaves e l = both_in (has (all_nodes b) (tail_of b e)) (has (all_nodes b) (head_of b e))
-        (has_all (length b.nodes) (tail_of b e) (ends b valid e l).0) (has_all (length b.nodes) (head_of b e) (ends b valid e l).1)
+        (has_all (length b.nodes) (tail_of b e) (ends b valid e l).0)
+        (has_all (length b.nodes) (head_of b e) (ends b valid e l).1)
 
-    take_within : (r : ℕ) → r < length b.rights → (if takes_within b (all_nodes b) r then slice_index p.take r else 0) ≡ slice_index p.take r
+    take_within : (r : ℕ) → r < length b.rights →
+        (if takes_within b (all_nodes b) r then slice_index p.take r else 0) ≡ slice_index p.take r
     take_within r l = of_kind k.kind k.node k.place
       where
         k : KindIs b r
@@ -139,7 +154,8 @@ plan_balance b month supply want p valid plan =
         of_kind (Zone reservoir level) e h = rw (e, at_reservoir b valid reservoir h.0) refl
 
 -- what a right takes is a diversion's delivery or goes into the closing of a zone's reservoir
-take_goes : (b : Basin) (series : Inflows) (before : List MonthRecord) (m : MonthRecord) → IsValidBasin b → Follows b series before m →
+take_goes : (b : Basin) (series : Inflows) (before : List MonthRecord) (m : MonthRecord) → IsValidBasin b →
+    Follows b series before m →
     (r : ℕ) → r < length b.rights →
     slice_index m.plan.take r
     ≡ (if is_diversion b r then slice_index m.delivered r else 0)
@@ -152,16 +168,21 @@ take_goes b series before m valid follows r l = of_kind k.kind k.link k.diversio
     x : ℕ
     x = slice_index m.plan.take r
 
-    no_zones : ((v : ℕ) → is_zone_of b r v ≡ false) → total (length b.reservoirs) (λ v. if is_zone_of b r v then slice_index m.plan.take r else 0) ≡ 0
-    no_zones h = total_where_none_pass (length b.reservoirs) (λ v. is_zone_of b r v) (λ v. slice_index m.plan.take r) (λ v l. h v)
+    no_zones : ((v : ℕ) → is_zone_of b r v ≡ false) →
+        total (length b.reservoirs) (λ v. if is_zone_of b r v then slice_index m.plan.take r else 0) ≡ 0
+    no_zones h =
+        total_where_none_pass (length b.reservoirs) (λ v. is_zone_of b r v) (λ v. slice_index m.plan.take r)
+        (λ v l. h v)
 
     of_kind : (kind : RightKind) → instream_link b r ≡ link_of_kind kind → is_diversion b r ≡ is_diversion_kind kind →
-        ((v : ℕ) → is_zone_of b r v ≡ is_zone_of_kind kind v) → taking_node b r ≡ taking_node_of_kind b kind → HasValidPlace b kind →
+        ((v : ℕ) → is_zone_of b r v ≡ is_zone_of_kind kind v) → taking_node b r ≡ taking_node_of_kind b kind →
+        HasValidPlace b kind →
         slice_index m.plan.take r ≡ (if is_diversion b r then slice_index m.delivered r else 0)
         + total (length b.reservoirs) (λ v. if is_zone_of b r v then slice_index m.plan.take r else 0)
     of_kind (Diversion node) on d z at h =
         let none = no_zones z in
-        let taken : slice_index m.delivered r ≡ slice_index m.plan.take r = follows.delivered r l ∙ delivery_by_take b m.want m.plan r on in
+        let taken : slice_index m.delivered r ≡ slice_index m.plan.take r =
+        follows.delivered r l ∙ delivery_by_take b m.want m.plan r on in
         rw d (omega arith)
     of_kind (Instream link) on d z at h =
         let none = no_zones z in
@@ -169,7 +190,8 @@ take_goes b series before m valid follows r l = of_kind k.kind k.link k.diversio
         rw d (omega arith)
     of_kind (Zone reservoir level) on d z at h =
         let all = total_same (length b.reservoirs) (λ v. if is_zone_of b r v then slice_index m.plan.take r else 0)
-        (λ v. if reservoir == v then slice_index m.plan.take r else 0) (λ v l. ap (λ t. if t then slice_index m.plan.take r else 0) (z v)) in
+        (λ v. if reservoir == v then slice_index m.plan.take r else 0)
+        (λ v l. ap (λ t. if t then slice_index m.plan.take r else 0) (z v)) in
         let one = total_at (length b.reservoirs) reservoir (slice_index m.plan.take r) in
         let inside = in_range (slice_index m.plan.take r) reservoir (length b.reservoirs) h.0 in
         rw d (omega arith)
@@ -178,20 +200,27 @@ take_goes b series before m valid follows r l = of_kind k.kind k.link k.diversio
         in_range x k n h = grind (arith, nat_tests)
 
 -- the balance of a month
-pub month_balance : (b : Basin) (series : Inflows) (before : List MonthRecord) (m : MonthRecord) → IsValidBasin b → Follows b series before m →
+pub month_balance : (b : Basin) (series : Inflows) (before : List MonthRecord) (m : MonthRecord) → IsValidBasin b →
+    Follows b series before m →
     sum m.opening + whole_inflow b series m.index + sum m.returned
     ≡ sum m.closing + sum m.evaporated + diverted b m + sum m.plan.out
 month_balance b series before m valid follows =
     let balance = plan_balance b m.month m.supply m.want m.plan valid follows.plan in
     let supply = total_same nodes (λ n. slice_index m.supply n)
-    (λ n. inflow_at b series n m.index + slice_index m.returned n + stored_at b m.opening m.evaporated n) follows.supply in
-    let parts = total_add nodes (λ n. inflow_at b series n m.index + slice_index m.returned n) (λ n. stored_at b m.opening m.evaporated n) in
+    (λ n. inflow_at b series n m.index + slice_index m.returned n + stored_at b m.opening m.evaporated n)
+    follows.supply in
+    let parts =
+    total_add nodes (λ n. inflow_at b series n m.index + slice_index m.returned n)
+    (λ n. stored_at b m.opening m.evaporated n) in
     let parts2 = total_add nodes (λ n. inflow_at b series n m.index) (λ n. slice_index m.returned n) in
-    let takes = total_same rights (λ r. slice_index m.plan.take r) (λ r. diverted_part r + total reservoirs (λ v. zone_part r v))
+    let takes =
+    total_same rights (λ r. slice_index m.plan.take r)
+    (λ r. diverted_part r + total reservoirs (λ v. zone_part r v))
     (take_goes b series before m valid follows) in
     let split = total_add rights diverted_part (λ r. total reservoirs (λ v. zone_part r v)) in
     let swap = total_exchange rights reservoirs zone_part in
-    let closing = total_same reservoirs (λ v. slice_index m.closing v) (λ v. total rights (λ r. zone_part r v)) follows.closing in
+    let closing =
+    total_same reservoirs (λ v. slice_index m.closing v) (λ v. total rights (λ r. zone_part r v)) follows.closing in
     omega (
       arith,
       balance,
@@ -230,26 +259,37 @@ month_balance b series before m valid follows =
     by_list xs n e = sum_total xs ∙ ap (λ k. total k (λ i. slice_index xs i)) e
 
     -- what stands at nodes is what the reservoirs hold
-    stored : total nodes (λ n. stored_at b m.opening m.evaporated n) ≡ total reservoirs (λ v. slice_index m.opening v - slice_index m.evaporated v)
+    stored : total nodes (λ n. stored_at b m.opening m.evaporated n) ≡ total reservoirs
+        (λ v. slice_index m.opening v - slice_index m.evaporated v)
     stored =
-        sym (total_where_all nodes (λ n. has (all_nodes b) n) (λ n. stored_at b m.opening m.evaporated n) (has_all nodes))
+        sym (total_where_all nodes (λ n. has (all_nodes b) n) (λ n. stored_at b m.opening m.evaporated n)
+        (has_all nodes))
         ∙ (grouped nodes reservoirs (λ n. has (all_nodes b) n) (λ v n. is_at (node_of_reservoir b v) n)
-        (λ v. node_within (node_of_reservoir b v) (all_nodes b)) (λ v. slice_index m.opening v - slice_index m.evaporated v)
+        (λ v. node_within (node_of_reservoir b v) (all_nodes b))
+        (λ v. slice_index m.opening v - slice_index m.evaporated v)
         (λ v x. at_some_place nodes (all_nodes b) (length-replicate nodes true) (node_of_reservoir b v) x)
         ∙ total_where_all reservoirs (λ v. node_within (node_of_reservoir b v) (all_nodes b))
         (λ v. slice_index m.opening v - slice_index m.evaporated v) (at_reservoir b valid))
 
     -- no more evaporates than was stored
-    kept : total reservoirs (λ v. slice_index m.opening v - slice_index m.evaporated v) + total reservoirs (λ v. slice_index m.evaporated v)
+    kept : total reservoirs (λ v. slice_index m.opening v - slice_index m.evaporated v) + total reservoirs
+        (λ v. slice_index m.evaporated v)
         ≡ total reservoirs (λ v. slice_index m.opening v)
-    kept = sym (total_add reservoirs (λ v. slice_index m.opening v - slice_index m.evaporated v) (λ v. slice_index m.evaporated v))
-        ∙ total_same reservoirs (λ v. slice_index m.opening v - slice_index m.evaporated v + slice_index m.evaporated v) (λ v. slice_index m.opening v) one
+    kept = sym
+        (total_add reservoirs (λ v. slice_index m.opening v - slice_index m.evaporated v)
+        (λ v. slice_index m.evaporated v))
+        ∙ total_same reservoirs (λ v. slice_index m.opening v - slice_index m.evaporated v + slice_index m.evaporated v)
+        (λ v. slice_index m.opening v) one
       where
-        at_most : (v : ℕ) (o : Option Reservoir) → unwrap_or (option_map (λ r. evaporation r.area (slice_index m.opening v) (slice_index r.rate (in_year b m.index))) o) 0 ≤ slice_index m.opening v
+        at_most : (v : ℕ) (o : Option Reservoir) →
+            unwrap_or
+            (option_map (λ r. evaporation r.area (slice_index m.opening v) (slice_index r.rate (in_year b m.index))) o)
+            0 ≤ slice_index m.opening v
         at_most v None = omega arith
         at_most v (Some r) = omega arith
 
-        one : (v : ℕ) → v < reservoirs → slice_index m.opening v - slice_index m.evaporated v + slice_index m.evaporated v ≡ slice_index m.opening v
+        one : (v : ℕ) → v < reservoirs →
+            slice_index m.opening v - slice_index m.evaporated v + slice_index m.evaporated v ≡ slice_index m.opening v
         one v l = omega (arith, follows.evaporated v l, at_most v (slice_get b.reservoirs v))
 
 pub entry_at : {X : Type 0} (xs : List X) (k : ℕ) → k < length xs → (x : X) × (slice_get xs k ≡ Some x)
@@ -271,7 +311,8 @@ opening_after_more b records i m l e =
     ap (slice_get (take (suc i) records)) last ∙ (slice_get-take records i ∙ e) in
     ap (λ o. unwrap_or (option_map (λ m. m.closing) o) (map (λ v. v.opening) b.reservoirs)) at
 
-balanced_up_to : (b : Basin) (series : Inflows) (records : List MonthRecord) → IsValidBasin b → IsPartialHistory b series records →
+balanced_up_to : (b : Basin) (series : Inflows) (records : List MonthRecord) → IsValidBasin b →
+    IsPartialHistory b series records →
     (i : ℕ) → i ≤ length records → IsBalanced b series (take i records)
 balanced_up_to b series records valid partial zero l = omega arith
 balanced_up_to b series records valid partial (suc i) l =
@@ -284,7 +325,8 @@ balanced_up_to b series records valid partial (suc i) l =
         ∙ (sum_by_more f records i m (omega arith)
         ∙ ap (λ x. sum_by f (take i records) + f x) (get_or_from_slice_get records i m m e))
 
-    more : (m : MonthRecord) × (slice_get records i ≡ Some m) → IsBalanced b series (take i records) → IsBalanced b series (take (suc i) records)
+    more : (m : MonthRecord) × (slice_get records i ≡ Some m) → IsBalanced b series (take i records) →
+        IsBalanced b series (take (suc i) records)
     more found before =
         let m : MonthRecord = found.0 in
         let follows = partial.each i m found.1 in

@@ -9,7 +9,8 @@ use Rattle.water_model.specs.Cuts.{enters, leaves, takes_within}
 use Rattle.water_text.specs.declared.month.Month.{Month}
 use Rattle.water_model.specs.declared.types.Basin.{Basin}
 use Rattle.water_model.specs.declared.types.Plan.{Plan}
-use Rattle.water_model.proofs.Sets.{grouped, at_place, at_some_place, total_where_add, total_where_same, total_crossing, total_swap}
+use Rattle.water_model.proofs.Sets.{grouped, at_place, at_some_place, total_where_add, total_where_same, total_crossing}
+use Rattle.water_model.proofs.Sets.{total_swap}
 
 pub cut_balance : (b : Basin) (month : Month) (supply want : List ℕ) (p : Plan) (cut : List Bool) →
     IsPlan b month supply want p → length cut ≡ length b.nodes →
@@ -30,7 +31,8 @@ cut_balance b month supply want p cut plan len =
     (λ n. outflow_from b p.flow n + taken_at b p.take n + slice_index p.out n)
     plan.balance in
     let ins = total_where_add nodes y (λ n. slice_index supply n) (λ n. inflow_to b p.flow n) in
-    let outs = total_where_add nodes y (λ n. outflow_from b p.flow n + taken_at b p.take n) (λ n. slice_index p.out n) in
+    let outs =
+    total_where_add nodes y (λ n. outflow_from b p.flow n + taken_at b p.take n) (λ n. slice_index p.out n) in
     let outs2 = total_where_add nodes y (λ n. outflow_from b p.flow n) (λ n. taken_at b p.take n) in
     let heads = grouped nodes links y (λ e n. head_of b e == n) h f (λ e x. at_place nodes cut len (head_of b e) x) in
     let tails = grouped nodes links y (λ e n. tail_of b e == n) t f (λ e x. at_place nodes cut len (tail_of b e) x) in

@@ -1,9 +1,11 @@
 -- What a change of a region leaves of the sets that a list of cuts keeps there.
-use Rattle.std.proofs.Common.{◌≡◌, ◌≢◌, ℕ, zero, suc, ◌+◌, ◌*◌, ◌<◌, ◌≤◌, Bool, List, length, get_or, take, drop, replicate, map, refl, ap, sym, ◌∙◌, inl, inr, zero-add, arith}
+use Rattle.std.proofs.Common.{◌≡◌, ◌≢◌, ℕ, zero, suc, ◌+◌, ◌*◌, ◌<◌, ◌≤◌, Bool, List, length, get_or, take, drop}
+use Rattle.std.proofs.Common.{replicate, map, refl, ap, sym, ◌∙◌, inl, inr, zero-add, arith}
 use Rattle.std.specs.Prelude.{◌⊎◌, Option, Some, None, slice_set, nat_lt, if◌then◌else◌, unwrap_or, option_map}
 use Rattle.std.specs.List.{range_with_len}
 use Rattle.std.proofs.lemmas.Bool.{cases_eq, lt-ltb}
-use Rattle.std.proofs.lemmas.List.{length-set, length-replicate, get_or-set_same, get_or-set_other, get_or-replicate, get_or_append_left, take_all}
+use Rattle.std.proofs.lemmas.List.{length-set, length-replicate, get_or-set_same, get_or-set_other, get_or-replicate}
+use Rattle.std.proofs.lemmas.List.{get_or_append_left, take_all}
 use Rattle.std.proofs.lemmas.List.FromFn.{length-map-range_with_len, get_or-map-range_with_len}
 use Rattle.std.proofs.lemmas.Option.{slice_get-get_or}
 use Rattle.std.proofs.lemmas.Simd.{map-map}
@@ -14,7 +16,8 @@ use Rattle.bit_words.specs.Marks.{words_for, marks}
 use Rattle.bit_words.proofs.Lists.{one_changed, all_one}
 use Rattle.word_region.specs.Words.{Words, words_at, with_words, zeroed}
 use Rattle.word_region.specs.declared.Place.{Place}
-use Rattle.word_region.proofs.Words.{LiesOutside, words_at-set_other, words_at-with_words, words_at-with_words_other, length-with_words, length-zeroed, get_or-with_words_before}
+use Rattle.word_region.proofs.Words.{LiesOutside, words_at-set_other, words_at-with_words, words_at-with_words_other}
+use Rattle.word_region.proofs.Words.{length-with_words, length-zeroed, get_or-with_words_before}
 use Rattle.water_model.specs.CutInside.{has_set, set_place, set_at, set_in, cut_sets, KeepsSets}
 use Rattle.water_model.specs.CutSets.{set_of, with_set, without_sets}
 

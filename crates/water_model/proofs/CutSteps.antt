@@ -1,5 +1,6 @@
 -- What the calls of a list of cuts know of a right, and its region after what they call.
-use Rattle.std.proofs.Common.{◌≡◌, ℕ, zero, suc, ◌+◌, ◌<◌, ◌≤◌, List, length, get_or, replicate, refl, ap, sym, subst, ◌∙◌, arith}
+use Rattle.std.proofs.Common.{◌≡◌, ℕ, zero, suc, ◌+◌, ◌<◌, ◌≤◌, List, length, get_or, replicate, refl, ap, sym, subst}
+use Rattle.std.proofs.Common.{◌∙◌, arith}
 use Rattle.std.specs.Prelude.{None, IsSome, slice_set}
 use Rattle.std.proofs.lemmas.List.{length-replicate}
 use Rattle.word_region.specs.Words.{Words, with_words, zeroed}

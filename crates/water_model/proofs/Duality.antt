@@ -1,13 +1,16 @@
 -- Weak duality: what a cut allows, over any plan.
 use Rattle.std.proofs.Common.{◌≡◌, ℕ, ◌+◌, ◌<◌, ◌≤◌, Bool, true, false, refl, ◌∙◌, ap, arith, List, [], ◌∷◌, length}
 use Rattle.std.proofs.lemmas.Bool.Decides.{nat_tests}
-use Rattle.std.specs.Prelude.{◌==◌, slice_index, slice_get, ◌&&◌, ◌||◌, not, Option, Some, None, nat_lt, unwrap_or, option_map}
+use Rattle.std.specs.Prelude.{◌==◌, slice_index, slice_get, ◌&&◌, ◌||◌, not, Option, Some, None, nat_lt, unwrap_or}
+use Rattle.std.specs.Prelude.{option_map}
 use Rattle.place_sums.specs.Sums.{total_where}
 use Rattle.water_model.specs.Lookups.{has}
-use Rattle.water_model.specs.Basin.{taking_node, taking_node_of_kind, instream_link, link_of_kind, is_at, is_on_link, is_senior, priority_of}
+use Rattle.water_model.specs.Basin.{taking_node, taking_node_of_kind, instream_link, link_of_kind, is_at, is_on_link}
+use Rattle.water_model.specs.Basin.{is_senior, priority_of}
 use Rattle.water_model.specs.Rights.{is_lower}
 use Rattle.water_model.specs.Plans.{IsPlan, delivery, delivery_by_link, carry_of}
-use Rattle.water_model.specs.Cuts.{enters, leaves, takes_within, node_within, kept_on, cut_kept, cut_capacity, IsCut, Separates}
+use Rattle.water_model.specs.Cuts.{enters, leaves, takes_within, node_within, kept_on, cut_kept, cut_capacity, IsCut}
+use Rattle.water_model.specs.Cuts.{Separates}
 use Rattle.water_text.specs.declared.month.Month.{Month}
 use Rattle.water_model.specs.declared.types.Basin.{Basin}
 use Rattle.water_model.specs.declared.types.Right.{Right}
@@ -67,7 +70,8 @@ links_out : (b : Basin) (want delivered : List ℕ) (q : Plan) (r : ℕ) (cut : 
     + total_where (length b.links) (λ e. leaves b cut e && is_on_link b r e) (λ e. slice_index q.flow e)
     ≤ total_where (length b.links) (λ e. leaves b cut e) (λ e. slice_index q.flow e)
 links_out b want delivered q r cut keeps =
-    let split = total_crossing (length b.links) (λ e. leaves b cut e) (λ e. is_on_link b r e) (λ e. slice_index q.flow e) in
+    let split =
+    total_crossing (length b.links) (λ e. leaves b cut e) (λ e. is_on_link b r e) (λ e. slice_index q.flow e) in
     let kept = total_where_le (length b.links) (λ e. leaves b cut e && not (is_on_link b r e))
     (λ e. leaves b cut e && not (is_on_link b r e)) (λ e. kept_on b delivered r e) (λ e. slice_index q.flow e)
     (λ e l h. (
@@ -80,7 +84,8 @@ links_out b want delivered q r cut keeps =
     both : (p q : Bool) → p && q ≡ true → (p ≡ true) × (q ≡ true)
     both p q h = grind (arith, nat_tests)
 
-    one : (e s : ℕ) → s < length b.rights → is_on_link b s e && is_senior b s r ≡ true → slice_index delivered s ≤ slice_index q.flow e
+    one : (e s : ℕ) → s < length b.rights → is_on_link b s e && is_senior b s r ≡ true →
+        slice_index delivered s ≤ slice_index q.flow e
     one e s l h =
         let tests = both (is_on_link b s e) (is_senior b s r) h in
         let on_link = delivery_le_flow b want q s e tests.0 in
@@ -92,11 +97,15 @@ takes_in : (b : Basin) (want delivered : List ℕ) (q : Plan) (r : ℕ) (cut : L
     ((s : ℕ) → s < length b.rights → is_senior b s r ≡ true → slice_index delivered s ≤ delivery b want q s) →
     total_where (length b.rights) (λ s. takes_within b cut s && is_senior b s r) (λ s. slice_index delivered s)
     + total_where (length b.rights) (λ s. takes_within b cut s && s == r) (λ s. slice_index q.take s)
-    + total_where (length b.rights) (λ s. (takes_within b cut s && not (s == r)) && not (is_senior b s r)) (λ s. slice_index q.take s)
+    + total_where (length b.rights) (λ s. (takes_within b cut s && not (s == r)) && not (is_senior b s r))
+    (λ s. slice_index q.take s)
     ≤ total_where (length b.rights) (λ s. takes_within b cut s) (λ s. slice_index q.take s)
 takes_in b want delivered q r cut keeps =
-    let split = total_crossing (length b.rights) (λ s. takes_within b cut s) (λ s. s == r) (λ s. slice_index q.take s) in
-    let split2 = total_crossing (length b.rights) (λ s. takes_within b cut s && not (s == r)) (λ s. is_senior b s r) (λ s. slice_index q.take s) in
+    let split =
+    total_crossing (length b.rights) (λ s. takes_within b cut s) (λ s. s == r) (λ s. slice_index q.take s) in
+    let split2 =
+    total_crossing (length b.rights) (λ s. takes_within b cut s && not (s == r)) (λ s. is_senior b s r)
+    (λ s. slice_index q.take s) in
     let kept = total_where_le (length b.rights) (λ s. takes_within b cut s && is_senior b s r)
     (λ s. (takes_within b cut s && not (s == r)) && is_senior b s r)
     (λ s. slice_index delivered s) (λ s. slice_index q.take s) one in
@@ -112,7 +121,8 @@ takes_in b want delivered q r cut keeps =
     three p q t h i j = grind (arith, nat_tests)
 
     one : (s : ℕ) → s < length b.rights → takes_within b cut s && is_senior b s r ≡ true →
-        ((takes_within b cut s && not (s == r)) && is_senior b s r ≡ true) × (slice_index delivered s ≤ slice_index q.take s)
+        ((takes_within b cut s && not (s == r)) && is_senior b s r ≡ true) ×
+        (slice_index delivered s ≤ slice_index q.take s)
     one s l h =
         let tests = both (takes_within b cut s) (is_senior b s r) h in
         let take = delivery_by_take b want q s (taking_on_no_link b cut s tests.0) in
@@ -121,7 +131,8 @@ takes_in b want delivered q r cut keeps =
 
 -- the right's own delivery leaves the cut
 own_part : (b : Basin) (want : List ℕ) (q : Plan) (r : ℕ) (cut : List Bool) → r < length b.rights → IsCut b r cut →
-    delivery b want q r ≤ total_where (length b.links) (λ e. leaves b cut e && is_on_link b r e) (λ e. slice_index q.flow e)
+    delivery b want q r ≤ total_where (length b.links) (λ e. leaves b cut e && is_on_link b r e)
+    (λ e. slice_index q.flow e)
     + total_where (length b.rights) (λ s. takes_within b cut s && s == r) (λ s. slice_index q.take s)
 own_part b want q r cut l is_cut =
     of_link (instream_link b r) refl is_cut.separates
@@ -146,17 +157,20 @@ own_part b want q r cut l is_cut =
         let on_link : is_on_link b r link ≡ true = ap (λ o. is_at o link) h ∙ same link in
         omega (
           arith,
-          term_le_total_where (length b.links) (λ e. leaves b cut e && is_on_link b r e) (λ e. slice_index q.flow e) link separates.0
+          term_le_total_where (length b.links) (λ e. leaves b cut e && is_on_link b r e) (λ e. slice_index q.flow e)
+              link separates.0
               (two (leaves b cut link) (is_on_link b r link) separates.1 on_link),
         )
 
--- what a cut allows: the right's delivery, what is kept for its seniors, the takes of its juniors and the outflow come in
+-- what a cut allows: the right's delivery, what is kept for its seniors, the takes of its juniors and the outflow come
+-- in
 pub cut_slack : (b : Basin) (month : Month) (supply delivered : List ℕ) (r : ℕ) (cut : List Bool)
     (supply' want' : List ℕ) (q : Plan) → r < length b.rights → IsCut b r cut → IsPlan b month supply' want' q →
     ((n : ℕ) → n < length b.nodes → has cut n ≡ true → slice_index supply' n ≡ slice_index supply n) →
     ((s : ℕ) → s < length b.rights → is_senior b s r ≡ true → slice_index delivered s ≤ delivery b want' q s) →
     delivery b want' q r + cut_kept b delivered r cut
-    + total_where (length b.rights) (λ s. (takes_within b cut s && not (s == r)) && not (is_senior b s r)) (λ s. slice_index q.take s)
+    + total_where (length b.rights) (λ s. (takes_within b cut s && not (s == r)) && not (is_senior b s r))
+    (λ s. slice_index q.take s)
     + total_where (length b.nodes) (λ n. has cut n) (λ n. slice_index q.out n)
     ≤ cut_capacity b month supply cut
 cut_slack b month supply delivered r cut supply' want' q l is_cut plan agree keeps =
@@ -164,9 +178,13 @@ cut_slack b month supply delivered r cut supply' want' q l is_cut plan agree kee
     let links = links_out b want' delivered q r cut keeps in
     let takes = takes_in b want' delivered q r cut keeps in
     let own = own_part b want' q r cut l is_cut in
-    let supplies = total_where_le (length b.nodes) (λ n. has cut n) (λ n. has cut n) (λ n. slice_index supply' n) (λ n. slice_index supply n)
+    let supplies =
+    total_where_le (length b.nodes) (λ n. has cut n) (λ n. has cut n) (λ n. slice_index supply' n)
+    (λ n. slice_index supply n)
     (λ n l h. (h, le_of_eq (agree n l h))) in
-    let carries = total_where_le (length b.links) (λ e. enters b cut e) (λ e. enters b cut e) (λ e. slice_index q.flow e) (λ e. carry_of b month e)
+    let carries =
+    total_where_le (length b.links) (λ e. enters b cut e) (λ e. enters b cut e) (λ e. slice_index q.flow e)
+    (λ e. carry_of b month e)
     (λ e l h. (h, plan.carries e l)) in
     omega (arith, balance, links, takes, own, supplies, carries)
   where

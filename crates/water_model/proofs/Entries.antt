@@ -1,5 +1,6 @@
 -- The entries of a basin: how many there are, and their order.
-use Rattle.std.proofs.Common.{◌≡◌, ◌≢◌, ℕ, zero, suc, ◌<◌, ◌≤◌, Bool, true, false, List, [], ◌∷◌, length, get_or, refl, sym, ap, ◌∙◌, inl, inr, arith, Some, None, map}
+use Rattle.std.proofs.Common.{◌≡◌, ◌≢◌, ℕ, zero, suc, ◌<◌, ◌≤◌, Bool, true, false, List, [], ◌∷◌, length, get_or, refl}
+use Rattle.std.proofs.Common.{sym, ap, ◌∙◌, inl, inr, arith, Some, None, map}
 use Rattle.std.specs.Prelude.{slice_get, All, nat_eq}
 use Rattle.std.specs.List.{list_any, AllPairs}
 use Rattle.std.proofs.lemmas.Bool.Decides.{nat_tests, Decides-eqb}
@@ -15,7 +16,8 @@ use Rattle.water_model.specs.declared.space.Space.{Space}
 use Rattle.water_model.specs.declared.space.Space.TheVariants as space
 use Rattle.water_model.specs.declared.types.Basin.{Basin}
 use Rattle.water_model.specs.declared.types.Reservoir.{Reservoir}
-use Rattle.water_model.proofs.Order.{Has, length-by_seniority, length-numbers_from, numbers_from-below, numbers_from-get, numbers_from-has, seniors_below, seniors_have}
+use Rattle.water_model.proofs.Order.{Has, length-by_seniority, length-numbers_from, numbers_from-below}
+use Rattle.water_model.proofs.Order.{numbers_from-get, numbers_from-has, seniors_below, seniors_have}
 
 -- Reservoirs are at most as many as nodes, since each node has one at most.
 

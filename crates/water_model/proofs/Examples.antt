@@ -47,15 +47,18 @@ basin rights = record {
 abbrev two : Basin
 two = basin (right 1890 (Diversion 1) 60 ∷ right 1920 (Diversion 0) 50 ∷ [])
 
-all_bound : cut_bound two (record { year = 1900; month = 1 }) (80 ∷ 0 ∷ 0 ∷ []) (60 ∷ 20 ∷ []) 1 (true ∷ true ∷ true ∷ []) ≡ pos 20
+all_bound : cut_bound two (record { year = 1900; month = 1 }) (80 ∷ 0 ∷ 0 ∷ []) (60 ∷ 20 ∷ []) 1
+    (true ∷ true ∷ true ∷ []) ≡ pos 20
 unfolding total greatest_where
 all_bound = refl
 
-top_mid_bound : cut_bound two (record { year = 1900; month = 1 }) (80 ∷ 0 ∷ 0 ∷ []) (60 ∷ 20 ∷ []) 1 (true ∷ true ∷ false ∷ []) ≡ pos 20
+top_mid_bound : cut_bound two (record { year = 1900; month = 1 }) (80 ∷ 0 ∷ 0 ∷ []) (60 ∷ 20 ∷ []) 1
+    (true ∷ true ∷ false ∷ []) ≡ pos 20
 unfolding total greatest_where
 top_mid_bound = refl
 
-top_bound : cut_bound two (record { year = 1900; month = 1 }) (80 ∷ 0 ∷ 0 ∷ []) (60 ∷ 20 ∷ []) 1 (true ∷ false ∷ false ∷ []) ≡ pos 80
+top_bound : cut_bound two (record { year = 1900; month = 1 }) (80 ∷ 0 ∷ 0 ∷ []) (60 ∷ 20 ∷ []) 1
+    (true ∷ false ∷ false ∷ []) ≡ pos 80
 unfolding total greatest_where
 top_bound = refl
 
@@ -71,9 +74,11 @@ kept_first : kept_on three (40 ∷ 0 ∷ 30 ∷ []) 1 0 ≡ 30
 unfolding greatest_where
 kept_first = refl
 
-top_bound_kept : cut_bound three (record { year = 1900; month = 1 }) (40 ∷ 0 ∷ 0 ∷ []) (40 ∷ 0 ∷ 30 ∷ []) 1 (true ∷ false ∷ false ∷ []) ≡ pos 10
+top_bound_kept : cut_bound three (record { year = 1900; month = 1 }) (40 ∷ 0 ∷ 0 ∷ []) (40 ∷ 0 ∷ 30 ∷ []) 1
+    (true ∷ false ∷ false ∷ []) ≡ pos 10
 unfolding total greatest_where
 top_bound_kept = refl
 
-fish : delivery three (60 ∷ 50 ∷ 30 ∷ []) (record { flow = 40 ∷ 0 ∷ []; take = 40 ∷ 0 ∷ 0 ∷ []; out = 0 ∷ 0 ∷ 0 ∷ [] }) 2 ≡ 30
+fish : delivery three (60 ∷ 50 ∷ 30 ∷ []) (record { flow = 40 ∷ 0 ∷ []; take = 40 ∷ 0 ∷ 0 ∷ []; out = 0 ∷ 0 ∷ 0 ∷ [] })
+    2 ≡ 30
 fish = refl

@@ -1,6 +1,8 @@
 -- Where a gauge's amounts and a right's wants stand in a series.
-use Rattle.std.proofs.Common.{◌≡◌, ℕ, suc, ◌+◌, ◌*◌, ◌^◌, ◌<◌, ◌≤◌, Bool, true, false, refl, sym, ap, subst, ◌∙◌, arith, List, [], ◌∷◌, length, get_or, inl, inr, filter}
-use Rattle.std.specs.Prelude.{◌==◌, if◌then◌else◌, slice_get, slice_index, Some, unwrap_or, option_map, Result, Ok, Err, MatchResult}
+use Rattle.std.proofs.Common.{◌≡◌, ℕ, suc, ◌+◌, ◌*◌, ◌^◌, ◌<◌, ◌≤◌, Bool, true, false, refl, sym, ap, subst, ◌∙◌, arith}
+use Rattle.std.proofs.Common.{List, [], ◌∷◌, length, get_or, inl, inr, filter}
+use Rattle.std.specs.Prelude.{◌==◌, if◌then◌else◌, slice_get, slice_index, Some, unwrap_or, option_map, Result, Ok, Err}
+use Rattle.std.specs.Prelude.{MatchResult}
 use Rattle.std.specs.List.Sorted.{IsBinarySearchResult, IsStrictlyIncreasing}
 use Rattle.std.specs.Ordering.{nat_cmp}
 use Rattle.std.proofs.lemmas.Bool.{cases_lt}
@@ -25,7 +27,8 @@ use Rattle.water_model.proofs.Order.{Has, numbers_from-get, numbers_from-has, le
 pub place_is : (xs : List ℕ) (x i : ℕ) → i ≤ length xs → ((k : ℕ) → k < i → get_or xs k 0 ≡ x → ⊥) →
     (i < length xs → get_or xs i 0 ≡ x) → i ≡ place_in xs x
 place_is xs x i within before here =
-    sym (position_or_len_is (λ y. y == x) xs i 0 within (λ k l. differs (get_or xs k 0) x (before k l)) (λ l. same (get_or xs i 0) x (here l)))
+    sym (position_or_len_is (λ y. y == x) xs i 0 within (λ k l. differs (get_or xs k 0) x (before k l))
+    (λ l. same (get_or xs i 0) x (here l)))
   where
     differs : (a c : ℕ) → (a ≡ c → ⊥) → a == c ≡ false
     differs a c h = grind (arith, nat_tests)
@@ -44,13 +47,16 @@ rises from n = λ k l. (let within : k + 1 < n = omega (arith, length-numbers_fr
 
 pub gauges_rise : (b : Basin) (series : Inflows) → IsSeriesOf b series → IsStrictlyIncreasing series.gauged
 gauges_rise b series fits =
-    subst IsStrictlyIncreasing (sym fits.gauged) (IsStrictlyIncreasing-filter (λ n. is_gauged b n) (places_of b.nodes) (rises 0 (length b.nodes)))
+    subst IsStrictlyIncreasing (sym fits.gauged)
+    (IsStrictlyIncreasing-filter (λ n. is_gauged b n) (places_of b.nodes) (rises 0 (length b.nodes)))
 
 pub wanted_rise : (b : Basin) (series : Inflows) → IsSeriesOf b series → IsStrictlyIncreasing series.wanted
 wanted_rise b series fits =
-    subst IsStrictlyIncreasing (sym fits.wanted) (IsStrictlyIncreasing-filter (λ r. is_in_series b r) (places_of b.rights) (rises 0 (length b.rights)))
+    subst IsStrictlyIncreasing (sym fits.wanted)
+    (IsStrictlyIncreasing-filter (λ r. is_in_series b r) (places_of b.rights) (rises 0 (length b.rights)))
 
-pub searched_place : (xs : List ℕ) (x : ℕ) (r : Result ℕ ℕ) → IsStrictlyIncreasing xs → IsBinarySearchResult (λ y. nat_cmp y x) xs r →
+pub searched_place : (xs : List ℕ) (x : ℕ) (r : Result ℕ ℕ) → IsStrictlyIncreasing xs →
+    IsBinarySearchResult (λ y. nat_cmp y x) xs r →
     MatchResult r (λ i. i ≡ place_in xs x) (λ i. length xs ≡ place_in xs x)
 searched_place xs x r up h = by_result r (searched xs x r h no_less)
   where
@@ -64,9 +70,12 @@ searched_place xs x r up h = by_result r (searched xs x r h no_less)
     ]
 
     by_result : (r : Result ℕ ℕ) → MatchResult r (λ i. (i < length xs) × (get_or xs i 0 ≡ x))
-        (λ i. (i ≤ length xs) × ((k : ℕ) → k < i → get_or xs k 0 < x) × ((k : ℕ) → i ≤ k → k < length xs → x < get_or xs k 0)) →
+        (λ i. (i ≤ length xs) × ((k : ℕ) → k < i → get_or xs k 0 < x) ×
+        ((k : ℕ) → i ≤ k → k < length xs → x < get_or xs k 0)) →
         MatchResult r (λ i. i ≡ place_in xs x) (λ i. length xs ≡ place_in xs x)
-    by_result (Ok i) found = place_is xs x i (omega (arith, found.0)) (λ k l e. (let less = below k i l found.0 in omega (arith, found.1))) (λ l. found.1)
+    by_result (Ok i) found =
+        place_is xs x i (omega (arith, found.0)) (λ k l e. (let less = below k i l found.0 in omega (arith, found.1)))
+        (λ l. found.1)
     by_result (Err i) missing = place_is xs x (length xs) (omega arith) (λ k l e. elim (cases_lt k i) [
       | inl before ↦ omega (arith, missing.1 k before)
       | inr behind ↦ omega (arith, missing.2 k behind l)
@@ -76,7 +85,8 @@ filter-has : (p : ℕ → Bool) (xs : List ℕ) (x : ℕ) → Has xs x → p x �
 filter-has p [] x h e = h
 filter-has p (y ∷ ys) x h e = by_test (p y) refl (filter-has p ys x)
   where
-    by_test : (t : Bool) → p y ≡ t → (Has ys x → p x ≡ true → Has (filter p ys) x) → Has (if t then y ∷ filter p ys else filter p ys) x
+    by_test : (t : Bool) → p y ≡ t → (Has ys x → p x ≡ true → Has (filter p ys) x) →
+        Has (if t then y ∷ filter p ys else filter p ys) x
     by_test true f further = elim h [ inl is ↦ inl is | inr rest ↦ inr (further rest e) ]
     by_test false f further = elim h [
       | inl is ↦ let clash : false ≡ true = sym f ∙ (ap p (sym is) ∙ e) in cc
@@ -98,7 +108,8 @@ has_place (y ∷ ys) x h = by_test (y == x) refl (has_place ys x)
     ]
 
 -- a gauged node stands in the series
-pub gauge_within : (b : Basin) (series : Inflows) (node : ℕ) → IsSeriesOf b series → node < length b.nodes → is_gauged b node ≡ true →
+pub gauge_within : (b : Basin) (series : Inflows) (node : ℕ) → IsSeriesOf b series → node < length b.nodes →
+    is_gauged b node ≡ true →
     place_in series.gauged node < length series.gauged
 gauge_within b series node fits l gauged =
     has_place series.gauged node (rw fits.gauged (filter-has (λ n. is_gauged b n) (places_of b.nodes) node
@@ -112,13 +123,16 @@ filter_short : (p : ℕ → Bool) (xs : List ℕ) → length (filter p xs) ≤ l
 filter_short p [] = omega arith
 filter_short p (x ∷ xs) = by_test (p x) (filter_short p xs)
   where
-    by_test : (t : Bool) → length (filter p xs) ≤ length xs → length (if t then x ∷ filter p xs else filter p xs) ≤ suc (length xs)
+    by_test : (t : Bool) → length (filter p xs) ≤ length xs →
+        length (if t then x ∷ filter p xs else filter p xs) ≤ suc (length xs)
     by_test true h = omega arith
     by_test false h = omega arith
 
 -- a node whose entry is gauged is gauged
-gauged_here : (b : Basin) (node : ℕ) (n : Node) → slice_get b.nodes node ≡ Some n → n.inflow ≡ Gauged → is_gauged b node ≡ true
-gauged_here b node n at e = ap (λ o. unwrap_or (option_map (λ m. is_gauged_kind m.inflow) o) false) at ∙ ap is_gauged_kind e
+gauged_here : (b : Basin) (node : ℕ) (n : Node) → slice_get b.nodes node ≡ Some n → n.inflow ≡ Gauged →
+    is_gauged b node ≡ true
+gauged_here b node n at e = ap (λ o. unwrap_or (option_map (λ m. is_gauged_kind m.inflow) o) false) at
+    ∙ ap is_gauged_kind e
 
 -- where a number of a month stands in a table of so many columns
 small_cell : (i m l p : ℕ) → i * l + p < m * l → m ≤ 1200 → l ≤ 2000 → i * l + p < 2 ^ 64
@@ -129,7 +143,8 @@ pub record HasCell (b : Basin) (series : Inflows) (node index : ℕ) : Type 0 wh
   pub within : index * length series.gauged + place_in series.gauged node < length series.amount
   pub small : index * length series.gauged + place_in series.gauged node < 2 ^ 64
 
-pub has_cell : (b : Basin) (series : Inflows) (node index : ℕ) (n : Node) → IsValidBasin b → IsSeriesOf b series → node < length b.nodes →
+pub has_cell : (b : Basin) (series : Inflows) (node index : ℕ) (n : Node) → IsValidBasin b → IsSeriesOf b series →
+    node < length b.nodes →
     index < b.months → slice_get b.nodes node ≡ Some n → n.inflow ≡ Gauged → HasCell b series node index
 has_cell b series node index n valid fits l k at e = record {
   within = rw fits.amounts cell;
@@ -137,20 +152,31 @@ has_cell b series node index n valid fits l k at e = record {
 }
   where
     cell : index * length series.gauged + place_in series.gauged node < b.months * length series.gauged
-    cell = cell_within index b.months (length series.gauged) (place_in series.gauged node) k (gauge_within b series node fits l (gauged_here b node n at e))
+    cell = cell_within index b.months (length series.gauged) (place_in series.gauged node) k
+        (gauge_within b series node fits l (gauged_here b node n at e))
 
     few : length series.gauged ≤ 2000
-    few = rw fits.gauged (omega (arith, filter_short (λ m. is_gauged b m) (places_of b.nodes), length-numbers_from 0 (length b.nodes), valid.few.nodes))
+    few = rw fits.gauged
+        (omega (
+          arith,
+          filter_short (λ m. is_gauged b m) (places_of b.nodes),
+          length-numbers_from 0 (length b.nodes),
+          valid.few.nodes,
+        ))
 
 -- what stands there is the inflow
-pub cell_is_inflow : (b : Basin) (series : Inflows) (node index : ℕ) (n : Node) (x : ℕ) → slice_get b.nodes node ≡ Some n → n.inflow ≡ Gauged →
-    slice_get series.amount (index * length series.gauged + place_in series.gauged node) ≡ Some x → x ≡ inflow_at b series node index
+pub cell_is_inflow : (b : Basin) (series : Inflows) (node index : ℕ) (n : Node) (x : ℕ) →
+    slice_get b.nodes node ≡ Some n → n.inflow ≡ Gauged →
+    slice_get series.amount (index * length series.gauged + place_in series.gauged node) ≡ Some x →
+    x ≡ inflow_at b series node index
 cell_is_inflow b series node index n x at e cell =
     sym (get_or_from_slice_get series.amount (index * length series.gauged + place_in series.gauged node) x 0 cell)
-    ∙ sym (ap (λ o. unwrap_or (option_map (λ m. inflow_of_kind b series node index m.inflow) o) 0) at ∙ ap (inflow_of_kind b series node index) e)
+    ∙ sym (ap (λ o. unwrap_or (option_map (λ m. inflow_of_kind b series node index m.inflow) o) 0) at
+    ∙ ap (inflow_of_kind b series node index) e)
 
 -- a right in the series has its wants there
-pub wanted_within : (b : Basin) (series : Inflows) (right : ℕ) → IsSeriesOf b series → right < length b.rights → is_in_series b right ≡ true →
+pub wanted_within : (b : Basin) (series : Inflows) (right : ℕ) → IsSeriesOf b series → right < length b.rights →
+    is_in_series b right ≡ true →
     place_in series.wanted right < length series.wanted
 wanted_within b series right fits l e =
     has_place series.wanted right (rw fits.wanted (filter-has (λ r. is_in_series b r) (places_of b.rights) right
@@ -161,7 +187,8 @@ pub record HasWant (b : Basin) (series : Inflows) (right index : ℕ) : Type 0 w
   pub within : index * length series.wanted + place_in series.wanted right < length series.want
   pub small : index * length series.wanted + place_in series.wanted right < 2 ^ 64
 
-pub has_want : (b : Basin) (series : Inflows) (right index : ℕ) (r : Right) → IsValidBasin b → IsSeriesOf b series → right < length b.rights →
+pub has_want : (b : Basin) (series : Inflows) (right index : ℕ) (r : Right) → IsValidBasin b → IsSeriesOf b series →
+    right < length b.rights →
     index < b.months → slice_get b.rights right ≡ Some r → r.series ≡ true → HasWant b series right index
 has_want b series right index r valid fits l k at e = record {
   within = rw fits.wants cell;
@@ -172,13 +199,21 @@ has_want b series right index r valid fits l k at e = record {
     named = ap (λ o. unwrap_or (option_map (λ (x : Right). x.series) o) false) at ∙ e
 
     cell : index * length series.wanted + place_in series.wanted right < b.months * length series.wanted
-    cell = cell_within index b.months (length series.wanted) (place_in series.wanted right) k (wanted_within b series right fits l named)
+    cell = cell_within index b.months (length series.wanted) (place_in series.wanted right) k
+        (wanted_within b series right fits l named)
 
     few : length series.wanted ≤ 2000
-    few = rw fits.wanted (omega (arith, filter_short (λ x. is_in_series b x) (places_of b.rights), length-numbers_from 0 (length b.rights), valid.few.rights))
+    few = rw fits.wanted
+        (omega (
+          arith,
+          filter_short (λ x. is_in_series b x) (places_of b.rights),
+          length-numbers_from 0 (length b.rights),
+          valid.few.rights,
+        ))
 
 -- what stands there is the right's number
-pub want_is_number : (b : Basin) (series : Inflows) (right index : ℕ) (r : Right) (x : ℕ) → slice_get b.rights right ≡ Some r → r.series ≡ true →
+pub want_is_number : (b : Basin) (series : Inflows) (right index : ℕ) (r : Right) (x : ℕ) →
+    slice_get b.rights right ≡ Some r → r.series ≡ true →
     slice_get series.want (index * length series.wanted + place_in series.wanted right) ≡ Some x →
     x ≡ of_entry b.rights right (λ y. number_of b series right index y) 0
 want_is_number b series right index r x at e cell =
@@ -187,7 +222,8 @@ want_is_number b series right index r x at e cell =
     ∙ ap (λ t. if t then table_at series.wanted series.want index right else slice_index r.want (in_year b index)) e)
 
 -- and the number of a right that isn't in the series is that of the calendar month
-pub month_is_number : (b : Basin) (series : Inflows) (right index : ℕ) (r : Right) → slice_get b.rights right ≡ Some r → r.series ≡ false →
+pub month_is_number : (b : Basin) (series : Inflows) (right index : ℕ) (r : Right) → slice_get b.rights right ≡ Some r →
+    r.series ≡ false →
     slice_index r.want (in_year b index) ≡ of_entry b.rights right (λ y. number_of b series right index y) 0
 month_is_number b series right index r at e =
     sym (ap (λ o. unwrap_or (option_map (λ y. number_of b series right index y) o) 0) at

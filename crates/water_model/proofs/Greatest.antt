@@ -1,5 +1,6 @@
 -- Tight cuts and greatest plans.
-use Rattle.std.proofs.Common.{◌≡◌, ℕ, suc, pos, ◌-ℤ◌, ◌≤ℤ◌, ◌+◌, ◌<◌, ◌≤◌, Bool, true, false, refl, sym, ◌∙◌, ap, arith, List, [], ◌∷◌, length, inl, inr, take}
+use Rattle.std.proofs.Common.{◌≡◌, ℕ, suc, pos, ◌-ℤ◌, ◌≤ℤ◌, ◌+◌, ◌<◌, ◌≤◌, Bool, true, false, refl, sym, ◌∙◌, ap, arith}
+use Rattle.std.proofs.Common.{List, [], ◌∷◌, length, inl, inr, take}
 use Rattle.std.proofs.lemmas.Int.{ints}
 use Rattle.std.proofs.lemmas.Bool.{cases_lt, cases_eq}
 use Rattle.std.proofs.lemmas.Bool.Decides.{nat_tests}
@@ -10,7 +11,9 @@ use Rattle.water_model.specs.Basin.{is_senior, instream_link}
 use Rattle.water_model.specs.Plans.{IsPlan, IsGreatest, DeliversSame, DeliversMore, delivery, delivery_by_link}
 use Rattle.water_model.specs.Cuts.{IsTight, cut_kept, cut_capacity, takes_within}
 use Rattle.water_model.specs.History.{Follows, cut_of}
-use Rattle.water_model.specs.Laws.{CutBounds, CutsMakeGreatest, NobodyCouldGetMore, ServesSeniors, TightCutLeavesNothing, GreatestPlansDeliverSame, ReachIsUnique, AreDeliveries, TightMeansBound, MostJuniorInjuresNobody}
+use Rattle.water_model.specs.Laws.{CutBounds, CutsMakeGreatest, NobodyCouldGetMore, ServesSeniors}
+use Rattle.water_model.specs.Laws.{TightCutLeavesNothing, GreatestPlansDeliverSame, ReachIsUnique, AreDeliveries}
+use Rattle.water_model.specs.Laws.{TightMeansBound, MostJuniorInjuresNobody}
 use Rattle.water_text.specs.declared.month.Month.{Month}
 use Rattle.water_model.specs.declared.types.Basin.{Basin}
 use Rattle.water_model.specs.declared.types.Inflows.{Inflows}
@@ -23,7 +26,8 @@ use Rattle.water_model.proofs.Seniority.{first_where, IsFirst, senior_trans, sen
 
 pub cut_bounds : CutBounds
 cut_bounds b month supply delivered r cut supply' want' q l is_cut plan agrees serves =
-    let slack = cut_slack b month supply delivered r cut supply' want' q l is_cut plan (λ n k h. agrees.each n h) serves.each in
+    let slack =
+    cut_slack b month supply delivered r cut supply' want' q l is_cut plan (λ n k h. agrees.each n h) serves.each in
     bound (delivery b want' q r) (cut_kept b delivered r cut) (cut_capacity b month supply cut) (omega arith)
   where
     bound : (d k c : ℕ) → d + k ≤ c → pos d ≤ℤ (pos c -ℤ pos k)
@@ -39,7 +43,8 @@ tight_leaves_nothing b month supply want delivered p r cut l plan are tight = re
 }
   where
     slack : delivery b want p r + cut_kept b delivered r cut
-        + total_where (length b.rights) (λ s. (takes_within b cut s && not (s == r)) && not (is_senior b s r)) (λ s. slice_index p.take s)
+        + total_where (length b.rights) (λ s. (takes_within b cut s && not (s == r)) && not (is_senior b s r))
+        (λ s. slice_index p.take s)
         + total_where (length b.nodes) (λ n. has cut n) (λ n. slice_index p.out n)
         ≤ cut_capacity b month supply cut
     slack = cut_slack b month supply delivered r cut supply want p l tight.is_cut plan (λ n k h. refl)
@@ -48,7 +53,8 @@ tight_leaves_nothing b month supply want delivered p r cut l plan are tight = re
         le_of_eq : {x y : ℕ} → x ≡ y → x ≤ y
         le_of_eq h = omega arith
 
-    none_taken : total_where (length b.rights) (λ s. (takes_within b cut s && not (s == r)) && not (is_senior b s r)) (λ s. slice_index p.take s) ≡ 0
+    none_taken : total_where (length b.rights) (λ s. (takes_within b cut s && not (s == r)) && not (is_senior b s r))
+        (λ s. slice_index p.take s) ≡ 0
     none_taken = omega (arith, slack, tight.tight, are.each r l)
 
     none_out : total_where (length b.nodes) (λ n. has cut n) (λ n. slice_index p.out n) ≡ 0
@@ -79,7 +85,8 @@ delivery_le_want b month supply want q r l plan = of_link (instream_link b r)
     of_link None = plan.wants r l
     of_link (Some link) = omega arith
 
--- where two plans deliver the same to a right's seniors and the right is met or has a tight cut, no other plan delivers it more
+-- where two plans deliver the same to a right's seniors and the right is met or has a tight cut, no other plan delivers
+-- it more
 pub no_more : (b : Basin) (month : Month) (supply want delivered : List ℕ) (p q : Plan) (r : ℕ) → r < length b.rights →
     IsPlan b month supply want q → AreDeliveries b want p delivered →
     (slice_index want r ≤ slice_index delivered r) ⊎ ((cut : List Bool) × IsTight b month supply delivered r cut) →
@@ -96,7 +103,8 @@ no_more b month supply want delivered p q r l plan are (inr tight) same =
           (λ s k h. at_least s k (same s k h)),
     )
   where
-    at_least : (s : ℕ) → s < length b.rights → delivery b want p s ≡ delivery b want q s → slice_index delivered s ≤ delivery b want q s
+    at_least : (s : ℕ) → s < length b.rights → delivery b want p s ≡ delivery b want q s →
+        slice_index delivered s ≤ delivery b want q s
     at_least s k e = omega (arith, are.each s k)
 
 -- a plan in which each right is met or has a tight cut is greatest
@@ -119,7 +127,8 @@ cuts_make_plan_greatest b month supply want delivered p plan are cuts = record {
       | inr first ↦ inr (more first.0 first.1)
     ]
       where
-        more : (r : ℕ) → IsFirst b (λ r. not (delivery b want p r == delivery b want q r)) (length b.rights) r → DeliversMore b want p q
+        more : (r : ℕ) → IsFirst b (λ r. not (delivery b want p r == delivery b want q r)) (length b.rights) r →
+            DeliversMore b want p q
         more r first = record {
           right = r;
           in_range = first.below;
@@ -138,7 +147,8 @@ record_is_greatest b series before m follows =
     (record { each = follows.delivered }) met_or_cut
   where
     met_or_cut : (r : ℕ) → r < length b.rights →
-        (slice_index m.want r ≤ slice_index m.delivered r) ⊎ ((cut : List Bool) × IsTight b m.month m.supply m.delivered r cut)
+        (slice_index m.want r ≤ slice_index m.delivered r) ⊎
+        ((cut : List Bool) × IsTight b m.month m.supply m.delivered r cut)
     met_or_cut r l = elim (cases_lt (slice_index m.delivered r) (slice_index m.want r)) [
       | inl short ↦ let cut = follows.short r l short in inr (cut.0, cut.2)
       | inr met ↦ inl met
@@ -194,8 +204,16 @@ reach_unique b month supply delivered r one other f g =
 -- tightness by sums is tightness by the bound
 pub tight_bound : TightMeansBound
 tight_bound b month supply delivered r cut = (
-  (λ t. (t.is_cut, to_bound (cut_capacity b month supply cut) (slice_index delivered r) (cut_kept b delivered r cut) t.tight)),
-  λ h. record { is_cut = h.0; tight = from_bound (cut_capacity b month supply cut) (slice_index delivered r) (cut_kept b delivered r cut) h.1 },
+  (λ t. (
+    t.is_cut,
+    to_bound (cut_capacity b month supply cut) (slice_index delivered r) (cut_kept b delivered r cut)
+        t.tight,
+  )),
+  λ h. record {
+    is_cut = h.0;
+    tight =
+        from_bound (cut_capacity b month supply cut) (slice_index delivered r) (cut_kept b delivered r cut) h.1;
+  },
 )
   where
     to_bound : (c d k : ℕ) → c ≡ d + k → (pos c -ℤ pos k) ≡ pos d
@@ -214,21 +232,32 @@ most_junior_injures_nobody b month supply want delivered p q junior plan are cut
     by_case (inr more) r l n = elim (cases_eq more.right junior) [
       | inl last ↦ sym (more.same_to_seniors r l (ap (is_senior b r) last ∙ seniors r l n))
       | inr other ↦ absurd (let le = no_more b month supply want delivered p q more.right more.in_range gq.plan are
-          (cuts more.right more.in_range other) (λ s k h. sym (more.same_to_seniors s k h)) in let lt = more.more in omega arith)
+          (cuts more.right more.in_range other) (λ s k h. sym (more.same_to_seniors s k h)) in let lt = more.more in
+          omega arith)
     ]
 
 -- what a record delivers to a right is the most that any plan can that serves the right's seniors as well
-pub record_gives_most : (b : Basin) (series : Inflows) (before : List MonthRecord) (m : MonthRecord) → Follows b series before m →
-    (q : Plan) → IsPlan b m.month m.supply m.want q → (r : ℕ) → r < length b.rights → ServesSeniors b m.delivered m.want q r →
+pub record_gives_most : (b : Basin) (series : Inflows) (before : List MonthRecord) (m : MonthRecord) →
+    Follows b series before m →
+    (q : Plan) → IsPlan b m.month m.supply m.want q → (r : ℕ) → r < length b.rights →
+    ServesSeniors b m.delivered m.want q r →
     delivery b m.want q r ≤ slice_index m.delivered r
-record_gives_most b series before m follows q plan r l serves = elim (cases_lt (slice_index m.delivered r) (slice_index m.want r)) [
-  | inl short ↦ by_cut (follows.short r l short)
-  | inr met ↦ omega (arith, delivery_le_want b m.month m.supply m.want q r l plan)
-]
+record_gives_most b series before m follows q plan r l serves =
+    elim (cases_lt (slice_index m.delivered r) (slice_index m.want r)) [
+      | inl short ↦ by_cut (follows.short r l short)
+      | inr met ↦ omega (arith, delivery_le_want b m.month m.supply m.want q r l plan)
+    ]
   where
-    by_cut : (cut : List Bool) × (cut_of m r ≡ Some cut) × IsTight b m.month m.supply m.delivered r cut → delivery b m.want q r ≤ slice_index m.delivered r
+    by_cut : (cut : List Bool) × (cut_of m r ≡ Some cut) × IsTight b m.month m.supply m.delivered r cut →
+        delivery b m.want q r ≤ slice_index m.delivered r
     by_cut cut =
-        omega (arith, cut.2.tight, cut_slack b m.month m.supply m.delivered r cut.0 m.supply m.want q l cut.2.is_cut plan (λ n k h. refl) serves.each)
+        omega (
+          arith,
+          cut.2.tight,
+          cut_slack b m.month m.supply m.delivered r cut.0 m.supply m.want q l cut.2.is_cut
+              plan (λ n k h. refl) serves.each,
+        )
 
 pub nobody_could_get_more : NobodyCouldGetMore
-nobody_could_get_more b series records history i m at = record_gives_most b series (take i records) m (history.each i m at)
+nobody_could_get_more b series records history i m at =
+    record_gives_most b series (take i records) m (history.each i m at)

@@ -1,5 +1,6 @@
 -- Partial histories grow record by record.
-use Rattle.std.proofs.Common.{◌≡◌, ℕ, zero, suc, ◌<◌, ◌≤◌, refl, sym, ◌∙◌, ap, subst, arith, List, [], ◌∷◌, ◌++◌, length, take, inl, inr, length-append}
+use Rattle.std.proofs.Common.{◌≡◌, ℕ, zero, suc, ◌<◌, ◌≤◌, refl, sym, ◌∙◌, ap, subst, arith, List, [], ◌∷◌, ◌++◌}
+use Rattle.std.proofs.Common.{length, take, inl, inr, length-append}
 use Rattle.std.specs.Prelude.{slice_get, Some, None, ◌⊎◌}
 use Rattle.std.proofs.lemmas.List.{take-append-le}
 use Rattle.std.proofs.Math.Seq.{take-length}
@@ -18,7 +19,8 @@ at_end : {X : Type 0} (xs : List X) (y x : X) (i : ℕ) → slice_get (xs ++ y �
 at_end [] y x zero h = inr (refl, cc)
 at_end [] y x (suc i) h = let none : None ≡ Some x = h in cc
 at_end (z ∷ zs) y x zero h = inl h
-at_end (z ∷ zs) y x (suc i) h = elim (at_end zs y x i h) [ inl within ↦ inl within | inr last ↦ inr (ap suc last.0, last.1) ]
+at_end (z ∷ zs) y x (suc i) h =
+    elim (at_end zs y x i h) [ inl within ↦ inl within | inr last ↦ inr (ap suc last.0, last.1) ]
 
 pub nothing_is_partial : (b : Basin) (series : Inflows) → IsPartialHistory b series []
 nothing_is_partial b series = record { within = omega arith; each = λ i m h. none i m h }
@@ -27,7 +29,8 @@ nothing_is_partial b series = record { within = omega arith; each = λ i m h. no
     none i m h = let never : None ≡ Some m = h in cc
 
 -- a record that follows a partial history makes a longer one
-pub one_month_more : (b : Basin) (series : Inflows) (records : List MonthRecord) (m : MonthRecord) → IsPartialHistory b series records →
+pub one_month_more : (b : Basin) (series : Inflows) (records : List MonthRecord) (m : MonthRecord) →
+    IsPartialHistory b series records →
     length records < b.months → Follows b series records m → IsPartialHistory b series (records ++ m ∷ [])
 one_month_more b series records m partial left follows = record {
   within = omega (arith, length-append records (m ∷ []));
@@ -41,10 +44,13 @@ one_month_more b series records m partial left follows = record {
         Follows b series (take i (records ++ m ∷ [])) n
     by_place i n (inl within) =
         let below : i < length records = slice_get_within records i n within in
-        subst (λ (before : List MonthRecord). Follows b series before n) (sym (front i (omega arith))) (partial.each i n within)
+        subst (λ (before : List MonthRecord). Follows b series before n) (sym (front i (omega arith)))
+        (partial.each i n within)
     by_place i n (inr last) =
-        let whole : take i (records ++ m ∷ []) ≡ records = ap (λ k. take k (records ++ m ∷ [])) last.0 ∙ front (length records) (omega arith) ∙ take-length records in
-        subst (λ (before : List MonthRecord). Follows b series before n) (sym whole) (subst (Follows b series records) last.1 follows)
+        let whole : take i (records ++ m ∷ []) ≡ records =
+        ap (λ k. take k (records ++ m ∷ [])) last.0 ∙ front (length records) (omega arith) ∙ take-length records in
+        subst (λ (before : List MonthRecord). Follows b series before n) (sym whole)
+        (subst (Follows b series records) last.1 follows)
 
 -- a partial history of all months is a history
 pub all_months : (b : Basin) (series : Inflows) (records : List MonthRecord) → IsPartialHistory b series records →

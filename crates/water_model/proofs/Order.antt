@@ -1,5 +1,6 @@
 -- Lists of numbers, and the order of rights.
-use Rattle.std.proofs.Common.{◌≡◌, ℕ, zero, suc, ◌+◌, ◌≤◌, ◌<◌, Bool, true, false, List, [], ◌∷◌, length, refl, sym, ap, ◌∙◌, arith, inl, inr}
+use Rattle.std.proofs.Common.{◌≡◌, ℕ, zero, suc, ◌+◌, ◌≤◌, ◌<◌, Bool, true, false, List, [], ◌∷◌, length, refl, sym, ap}
+use Rattle.std.proofs.Common.{◌∙◌, arith, inl, inr}
 use Rattle.std.specs.Prelude.{slice_get, Some, None, find, filter, ◌⊎◌, ◌≢◌, if◌then◌else◌}
 use Rattle.water_model.specs.Rights.{is_senior_in, AreStrict}
 use Rattle.water_model.specs.declared.types.Right.{Right}
@@ -32,7 +33,8 @@ pub numbers_from-below : (from n x : ℕ) → Has (numbers_from from n) x → (f
 unfolding numbers_from
 numbers_from-below from zero x h = absurd h
 numbers_from-below from (suc n) x (inl e) = (omega arith, omega arith)
-numbers_from-below from (suc n) x (inr h) = let b = numbers_from-below (suc from) n x h in (omega (arith, b.0), omega (arith, b.1))
+numbers_from-below from (suc n) x (inr h) = let b = numbers_from-below (suc from) n x h in
+    (omega (arith, b.0), omega (arith, b.1))
 
 -- the elements that pass a test
 pub has-filter : (p : ℕ → Bool) (xs : List ℕ) (k : ℕ) → Has xs k → p k ≡ true → Has (filter p xs) k
@@ -61,7 +63,8 @@ put_right-has : (rights : List Right) (r : ℕ) (xs : List ℕ) (x : ℕ) → Ha
 put_right-has rights r [] x h = h
 put_right-has rights r (y ∷ ys) x h = by_test (is_senior_in rights r y) refl (put_right-has rights r ys x)
   where
-    by_test : (t : Bool) → is_senior_in rights r y ≡ t → (Has (put_right rights r ys) x → (x ≡ r) ⊎ Has ys x) → (x ≡ r) ⊎ Has (y ∷ ys) x
+    by_test : (t : Bool) → is_senior_in rights r y ≡ t → (Has (put_right rights r ys) x → (x ≡ r) ⊎ Has ys x) →
+        (x ≡ r) ⊎ Has (y ∷ ys) x
     by_test true e further = let here : Has (r ∷ y ∷ ys) x = rw e at h in here
     by_test false e further = by_place (rw e at h)
       where
@@ -73,7 +76,8 @@ has-put_right : (rights : List Right) (r : ℕ) (xs : List ℕ) (x : ℕ) → (x
 has-put_right rights r [] x h = h
 has-put_right rights r (y ∷ ys) x h = by_test (is_senior_in rights r y) refl (has-put_right rights r ys x)
   where
-    by_test : (t : Bool) → is_senior_in rights r y ≡ t → ((x ≡ r) ⊎ Has ys x → Has (put_right rights r ys) x) → Has (put_right rights r (y ∷ ys)) x
+    by_test : (t : Bool) → is_senior_in rights r y ≡ t → ((x ≡ r) ⊎ Has ys x → Has (put_right rights r ys) x) →
+        Has (put_right rights r (y ∷ ys)) x
     by_test true e further = rw e h
     by_test false e further = rw e (by_place h)
       where
@@ -85,17 +89,23 @@ has-put_right rights r (y ∷ ys) x h = by_test (is_senior_in rights r y) refl (
 sort_rights-has : (rights : List Right) (xs : List ℕ) (x : ℕ) → Has (sort_rights rights xs) x → Has xs x
 sort_rights-has rights [] x h = h
 sort_rights-has rights (y ∷ ys) x h =
-    elim (put_right-has rights y (sort_rights rights ys) x h) [ inl is ↦ inl is | inr rest ↦ inr (sort_rights-has rights ys x rest) ]
+    elim (put_right-has rights y (sort_rights rights ys) x h) [
+      | inl is ↦ inl is
+      | inr rest ↦
+          inr (sort_rights-has rights ys x rest)
+    ]
 
 has-sort_rights : (rights : List Right) (xs : List ℕ) (x : ℕ) → Has xs x → Has (sort_rights rights xs) x
 has-sort_rights rights [] x h = h
 has-sort_rights rights (y ∷ ys) x (inl is) = has-put_right rights y (sort_rights rights ys) x (inl is)
-has-sort_rights rights (y ∷ ys) x (inr rest) = has-put_right rights y (sort_rights rights ys) x (inr (has-sort_rights rights ys x rest))
+has-sort_rights rights (y ∷ ys) x (inr rest) =
+    has-put_right rights y (sort_rights rights ys) x (inr (has-sort_rights rights ys x rest))
 
 -- every right stands in the order, and nothing else
 pub seniors_have : (rights : List Right) (r : ℕ) → r < length rights → Has (by_seniority rights) r
 unfolding by_seniority
-seniors_have rights r h = has-sort_rights rights (places_of rights) r (numbers_from-has 0 (length rights) r r h (omega arith))
+seniors_have rights r h =
+    has-sort_rights rights (places_of rights) r (numbers_from-has 0 (length rights) r r h (omega arith))
 
 pub seniors_below : (rights : List Right) (r : ℕ) → Has (by_seniority rights) r → r < length rights
 unfolding by_seniority
@@ -129,13 +139,15 @@ abbrev pub IsOrdered : List Right → List ℕ → Type 0
 IsOrdered rights [] = Unit {0}
 IsOrdered rights (x ∷ xs) = ((y : ℕ) → Has xs y → is_senior_in rights x y ≡ true) × IsOrdered rights xs
 
-put_right-ordered : (rights : List Right) (r : ℕ) (xs : List ℕ) → ((y : ℕ) → Has xs y → is_senior_in rights r y ≡ false → is_senior_in rights y r ≡ true) →
+put_right-ordered : (rights : List Right) (r : ℕ) (xs : List ℕ) →
+    ((y : ℕ) → Has xs y → is_senior_in rights r y ≡ false → is_senior_in rights y r ≡ true) →
     IsOrdered rights xs → IsOrdered rights (put_right rights r xs)
 put_right-ordered rights r [] t h = (λ y k. absurd k, tt)
 put_right-ordered rights r (y ∷ ys) t h =
     by_test (is_senior_in rights r y) refl (put_right-ordered rights r ys (λ z k. t z (inr k)) h.1)
   where
-    by_test : (s : Bool) → is_senior_in rights r y ≡ s → IsOrdered rights (put_right rights r ys) → IsOrdered rights (put_right rights r (y ∷ ys))
+    by_test : (s : Bool) → is_senior_in rights r y ≡ s → IsOrdered rights (put_right rights r ys) →
+        IsOrdered rights (put_right rights r (y ∷ ys))
     by_test true e further = rw e (in_front, h)
       where
         in_front : (z : ℕ) → Has (y ∷ ys) z → is_senior_in rights r z ≡ true
@@ -149,13 +161,16 @@ put_right-ordered rights r (y ∷ ys) t h =
           | inr rest ↦ h.0 z rest
         ]
 
-sort_rights-ordered : (rights : List Right) → AreStrict rights → (from n : ℕ) → from + n ≤ length rights → IsOrdered rights (sort_rights rights (numbers_from from n))
+sort_rights-ordered : (rights : List Right) → AreStrict rights → (from n : ℕ) → from + n ≤ length rights →
+    IsOrdered rights (sort_rights rights (numbers_from from n))
 unfolding numbers_from
 sort_rights-ordered rights strict from zero h = tt
 sort_rights-ordered rights strict from (suc n) h =
-    put_right-ordered rights from (sort_rights rights (numbers_from (suc from) n)) (λ y k e. other y k e) (sort_rights-ordered rights strict (suc from) n (omega arith))
+    put_right-ordered rights from (sort_rights rights (numbers_from (suc from) n)) (λ y k e. other y k e)
+    (sort_rights-ordered rights strict (suc from) n (omega arith))
   where
-    other : (y : ℕ) → Has (sort_rights rights (numbers_from (suc from) n)) y → is_senior_in rights from y ≡ false → is_senior_in rights y from ≡ true
+    other : (y : ℕ) → Has (sort_rights rights (numbers_from (suc from) n)) y → is_senior_in rights from y ≡ false →
+        is_senior_in rights y from ≡ true
     other y k e =
         let within = numbers_from-below (suc from) n y (sort_rights-has rights (numbers_from (suc from) n) y k) in
         let differ : from ≢ y = λ same. omega (arith, within.0) in
@@ -177,15 +192,19 @@ find-passes p [] c h = let none : None ≡ Some c = h in cc
 find-passes p (x ∷ xs) c h = by_test (p x) refl (find-passes p xs c)
   where
     by_test : (t : Bool) → p x ≡ t → (find p xs ≡ Some c → (p c ≡ true) × Has xs c) → (p c ≡ true) × Has (x ∷ xs) c
-    by_test true e further = let here : Some x ≡ Some c = rw e at h in let same : x ≡ c = cc in (ap p (sym same) ∙ e, inl (sym same))
+    by_test true e further = let here : Some x ≡ Some c = rw e at h in let same : x ≡ c = cc in
+        (ap p (sym same) ∙ e, inl (sym same))
     by_test false e further = let f = further (rw e at h) in (f.0, inr f.1)
 
-pub find-first : (rights : List Right) (p : ℕ → Bool) (xs : List ℕ) (c o : ℕ) → IsOrdered rights xs → find p xs ≡ Some c → Has xs o → p o ≡ true →
+pub find-first : (rights : List Right) (p : ℕ → Bool) (xs : List ℕ) (c o : ℕ) → IsOrdered rights xs →
+    find p xs ≡ Some c → Has xs o → p o ≡ true →
     (o ≡ c) ⊎ (is_senior_in rights c o ≡ true)
 find-first rights p [] c o w h k q = absurd k
 find-first rights p (x ∷ xs) c o w h k q = by_test (p x) refl (find-first rights p xs c o w.1)
   where
-    by_test : (t : Bool) → p x ≡ t → (find p xs ≡ Some c → Has xs o → p o ≡ true → (o ≡ c) ⊎ (is_senior_in rights c o ≡ true)) → (o ≡ c) ⊎ (is_senior_in rights c o ≡ true)
+    by_test : (t : Bool) → p x ≡ t →
+        (find p xs ≡ Some c → Has xs o → p o ≡ true → (o ≡ c) ⊎ (is_senior_in rights c o ≡ true)) → (o ≡ c) ⊎
+        (is_senior_in rights c o ≡ true)
     by_test true e further = let here : Some x ≡ Some c = rw e at h in let same : x ≡ c = cc in by_place k same
       where
         by_place : Has (x ∷ xs) o → x ≡ c → (o ≡ c) ⊎ (is_senior_in rights c o ≡ true)

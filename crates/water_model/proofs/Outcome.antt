@@ -1,5 +1,6 @@
 -- Two histories have one outcome.
-use Rattle.std.proofs.Common.{◌≡◌, ℕ, zero, suc, ◌+◌, ◌<◌, ◌≤◌, refl, sym, ◌∙◌, ap, ap₂, subst, arith, List, [], ◌∷◌, ◌++◌, length, map, sum, take}
+use Rattle.std.proofs.Common.{◌≡◌, ℕ, zero, suc, ◌+◌, ◌<◌, ◌≤◌, refl, sym, ◌∙◌, ap, ap₂, subst, arith, List, [], ◌∷◌}
+use Rattle.std.proofs.Common.{◌++◌, length, map, sum, take}
 use Rattle.std.proofs.Common.{length-take}
 use Rattle.std.proofs.lemmas.Grind.{same_number_lists}
 use Rattle.std.proofs.lemmas.Option.{slice_get_within}
@@ -8,7 +9,8 @@ use Rattle.place_sums.specs.Sums.{total}
 use Rattle.water_model.specs.Lookups.{of_entry}
 use Rattle.water_model.specs.Basin.{taking_node, taking_node_of_kind, instream_link, link_of_kind}
 use Rattle.water_model.specs.Plans.{IsPlan, IsGreatest, DeliversSame, delivery}
-use Rattle.water_model.specs.Hydrology.{run_month, inflow_at, stored_at, evaporation, in_year, returned_at, used_of, want_of}
+use Rattle.water_model.specs.Hydrology.{run_month, inflow_at, stored_at, evaporation, in_year, returned_at, used_of}
+use Rattle.water_model.specs.Hydrology.{want_of}
 use Rattle.water_model.specs.History.{IsPartialHistory, Follows, is_zone_of, opening_after}
 use Rattle.water_model.specs.Laws.{HaveSameOutcome, HistoriesHaveOneOutcome}
 use Rattle.water_model.specs.Valid.{IsValidBasin}
@@ -47,7 +49,8 @@ same_takes b month supply want p q valid plan other same r l = of_kind k.kind k.
     by_take : instream_link b r ≡ None → slice_index p.take r ≡ slice_index q.take r
     by_take on = sym (delivery_by_take b want p r on) ∙ (same r l ∙ delivery_by_take b want q r on)
 
-    of_kind : (kind : RightKind) → taking_node b r ≡ taking_node_of_kind b kind → instream_link b r ≡ link_of_kind kind →
+    of_kind : (kind : RightKind) → taking_node b r ≡ taking_node_of_kind b kind →
+        instream_link b r ≡ link_of_kind kind →
         slice_index p.take r ≡ slice_index q.take r
     of_kind (Diversion node) at on = by_take on
     of_kind (Instream link) at on = plan.instream r l at ∙ sym (other.instream r l at)
@@ -68,7 +71,8 @@ same_month b series before others m n valid same f g = record {
   delivered = same_lists m.delivered n.delivered (length b.rights) f.fits.delivered g.fits.delivered
       (λ r l. f.delivered r l ∙ (deliver r l ∙ sym (g_delivered r l)));
   closing = same_lists m.closing n.closing (length b.reservoirs) f.fits.closing g.fits.closing
-      (λ v l. f.closing v l ∙ (total_same (length b.rights) (λ r. if is_zone_of b r v then slice_index m.plan.take r else 0)
+      (λ v l. f.closing v l
+      ∙ (total_same (length b.rights) (λ r. if is_zone_of b r v then slice_index m.plan.take r else 0)
       (λ r. if is_zone_of b r v then slice_index n.plan.take r else 0)
       (λ r k. ap (λ x. if is_zone_of b r v then x else 0) (takes r k)) ∙ sym (g.closing v l)));
   outflow = omega (
@@ -98,8 +102,10 @@ same_month b series before others m n valid same f g = record {
         (λ v l. f.evaporated v l ∙ (by_opening v ∙ sym (g.evaporated v l)))
       where
         by_opening : (v : ℕ) →
-            of_entry b.reservoirs v (λ r. evaporation r.area (slice_index m.opening v) (slice_index r.rate (in_year b m.index))) 0
-            ≡ of_entry b.reservoirs v (λ r. evaporation r.area (slice_index n.opening v) (slice_index r.rate (in_year b n.index))) 0
+            of_entry b.reservoirs v
+            (λ r. evaporation r.area (slice_index m.opening v) (slice_index r.rate (in_year b m.index))) 0
+            ≡ of_entry b.reservoirs v
+            (λ r. evaporation r.area (slice_index n.opening v) (slice_index r.rate (in_year b n.index))) 0
         by_opening v = rw (opening, index) refl
 
     returned : m.returned ≡ n.returned
@@ -110,7 +116,8 @@ same_month b series before others m n valid same f g = record {
     supply = same_lists m.supply n.supply (length b.nodes) f.fits.supply g.fits.supply
         (λ k l. f.supply k l ∙ (by_parts k ∙ sym (g.supply k l)))
       where
-        by_parts : (k : ℕ) → inflow_at b series k m.index + slice_index m.returned k + stored_at b m.opening m.evaporated k
+        by_parts : (k : ℕ) →
+            inflow_at b series k m.index + slice_index m.returned k + stored_at b m.opening m.evaporated k
             ≡ inflow_at b series k n.index + slice_index n.returned k + stored_at b n.opening n.evaporated k
         by_parts k = rw (opening, index, returned, evaporated) refl
 
@@ -136,7 +143,9 @@ same_month b series before others m n valid same f g = record {
     g_delivered r l = g.delivered r l ∙ ap (λ w. delivery b w n.plan r) (sym want)
 
     deliver : DeliversSame b m.want m.plan n.plan
-    deliver = greatest_same b m.month m.supply m.want m.plan n.plan valid.roll.strict (record_is_greatest b series before m f) g_greatest
+    deliver =
+        greatest_same b m.month m.supply m.want m.plan n.plan valid.roll.strict (record_is_greatest b series before m f)
+        g_greatest
 
     takes : (r : ℕ) → r < length b.rights → slice_index m.plan.take r ≡ slice_index n.plan.take r
     takes = same_takes b m.month m.supply m.want m.plan n.plan valid f.plan g_plan deliver
@@ -163,11 +172,13 @@ same_before b series records others valid f g len (suc i) l =
       storage = opening_after_more b records i m.0 (omega arith) m.1
           ∙ (month.closing ∙ sym (opening_after_more b others i n.0 (omega arith) n.1));
       deliveries = map_take_suc (λ k. k.delivered) records i m.0 m.1
-          ∙ (ap₂ (λ ds d. ds ++ d ∷ []) same.deliveries month.delivered ∙ sym (map_take_suc (λ k. k.delivered) others i n.0 n.1));
+          ∙ (ap₂ (λ ds d. ds ++ d ∷ []) same.deliveries month.delivered
+          ∙ sym (map_take_suc (λ k. k.delivered) others i n.0 n.1));
     }
       where
         month : HaveSameOutcome m.0 n.0
-        month = same_month b series (take i records) (take i others) m.0 n.0 valid same (f.each i m.0 m.1) (g.each i n.0 n.1)
+        month = same_month b series (take i records) (take i others) m.0 n.0 valid same (f.each i m.0 m.1)
+            (g.each i n.0 n.1)
 
 pub one_outcome : HistoriesHaveOneOutcome
 one_outcome b series records others valid f g len i m n at at' =

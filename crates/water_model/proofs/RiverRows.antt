@@ -1,5 +1,6 @@
 -- The run of the river and its text on worked basins, by a plain slow program.
-use Rattle.std.proofs.Common.{◌≡◌, ℕ, zero, suc, ◌+◌, Bool, true, false, not, refl, List, [], ◌∷◌, length, map, replicate}
+use Rattle.std.proofs.Common.{◌≡◌, ℕ, zero, suc, ◌+◌, Bool, true, false, not, refl, List, [], ◌∷◌, length, map}
+use Rattle.std.proofs.Common.{replicate}
 use Rattle.std.specs.Prelude.{◌==◌, ◌&&◌, codes, if◌then◌else◌}
 use Rattle.std.specs.List.{list_any, range_with_len}
 use Rattle.std.specs.Fmt.{digits}
@@ -22,13 +23,15 @@ use Rattle.water_model.specs.declared.types.Node.{Node}
 -- a river, and no river before it leaves the same node
 abbrev is_first_river : List Link → ℕ → Bool
 is_first_river links e =
-    is_river_in links e && not (list_any (λ o. is_river_in links o && tail_in links o == tail_in links e) (range_with_len 0 e))
+    is_river_in links e && not
+    (list_any (λ o. is_river_in links o && tail_in links o == tail_in links e) (range_with_len 0 e))
 
 -- the water at a node, where no walk has more than k links
 abbrev water : List Link → (ℕ → ℕ) → ℕ → ℕ → ℕ
 water links supply zero n = supply n
 water links supply (suc k) n =
-    supply n + total_where (length links) (λ e. is_first_river links e && head_in links e == n) (λ e. water links supply k (tail_in links e))
+    supply n + total_where (length links) (λ e. is_first_river links e && head_in links e == n)
+    (λ e. water links supply k (tail_in links e))
 
 abbrev flow_on : Basin → (ℕ → ℕ) → ℕ → ℕ
 flow_on b supply e = if is_first_river b.links e then water b.links supply (length b.nodes) (tail_in b.links e) else 0
@@ -87,10 +90,12 @@ basin first months nodes links = record {
 -- three nodes in a row
 abbrev straight : Basin
 straight = basin (record { year = 1900; month = 1 }) 1
-    (node (codes "top") (replicate 12 80) false ∷ node (codes "mid") (replicate 12 0) false ∷ node (codes "mouth") (replicate 12 0) true ∷ [])
+    (node (codes "top") (replicate 12 80) false ∷ node (codes "mid") (replicate 12 0) false ∷ node (codes "mouth")
+    (replicate 12 0) true ∷ [])
     (link (codes "a") 0 1 River ∷ link (codes "b") 1 2 River ∷ [])
 
-straight_text : river_text straight ≡ codes "river-result 1\n" ∷ codes "run 1900-01 1\n" ∷ codes "month 1900-01\n" ∷ codes "flow a 80\n" ∷ codes "flow b 80\n"
+straight_text : river_text straight ≡ codes "river-result 1\n" ∷ codes "run 1900-01 1\n" ∷ codes
+    "month 1900-01\n" ∷ codes "flow a 80\n" ∷ codes "flow b 80\n"
     ∷ codes "out mouth 80\n" ∷ codes "end\n" ∷ codes "done 1\n" ∷ []
 unfolding total digits fields_of line_of numbers_from members_from by_seniority month_lines calls calling_right
 straight_text = refl
@@ -98,9 +103,11 @@ straight_text = refl
 -- an inflow for each month, over the turn of a year
 abbrev turning : Basin
 turning = basin (record { year = 1900; month = 12 }) 2
-    (node (codes "top") (range_with_len 1 12) false ∷ node (codes "mouth") (replicate 12 0) true ∷ []) (link (codes "a") 0 1 River ∷ [])
+    (node (codes "top") (range_with_len 1 12) false ∷ node (codes "mouth") (replicate 12 0) true ∷ [])
+    (link (codes "a") 0 1 River ∷ [])
 
-turning_text : river_text turning ≡ codes "river-result 1\n" ∷ codes "run 1900-12 2\n" ∷ codes "month 1900-12\n" ∷ codes "flow a 12\n" ∷ codes "out mouth 12\n" ∷ codes "end\n"
+turning_text : river_text turning ≡ codes "river-result 1\n" ∷ codes "run 1900-12 2\n" ∷ codes "month 1900-12\n" ∷ codes
+    "flow a 12\n" ∷ codes "out mouth 12\n" ∷ codes "end\n"
     ∷ codes "month 1901-01\n" ∷ codes "flow a 1\n" ∷ codes "out mouth 1\n" ∷ codes "end\n" ∷ codes "done 2\n" ∷ []
 unfolding total digits fields_of line_of numbers_from members_from by_seniority month_lines calls calling_right
 turning_text = refl
@@ -108,8 +115,10 @@ turning_text = refl
 -- a river that divides and rejoins, beside a canal: the second branch and the canal stay dry
 abbrev branching : Basin
 branching = basin (record { year = 1900; month = 1 }) 1
-    (node [] (replicate 12 5) false ∷ node [] (replicate 12 1) false ∷ node [] (replicate 12 2) false ∷ node [] (replicate 12 0) true ∷ [])
-    (link [] 0 2 (Canal 9 (replicate 12 false)) ∷ link [] 0 1 River ∷ link [] 0 2 River ∷ link [] 1 3 River ∷ link [] 2 3 River ∷ [])
+    (node [] (replicate 12 5) false ∷ node [] (replicate 12 1) false ∷ node [] (replicate 12 2) false ∷ node []
+    (replicate 12 0) true ∷ [])
+    (link [] 0 2 (Canal 9 (replicate 12 false)) ∷ link [] 0 1 River ∷ link [] 0 2 River ∷ link [] 1 3 River ∷ link [] 2
+    3 River ∷ [])
 
 branching_flows : (river_month branching 0).plan.flow ≡ 0 ∷ 5 ∷ 0 ∷ 6 ∷ 2 ∷ []
 unfolding total

@@ -1,5 +1,6 @@
 -- The order of seniority.
-use Rattle.std.proofs.Common.{◌≡◌, ℕ, zero, suc, ◌<◌, Bool, true, false, refl, sym, ◌∙◌, ap, arith, List, [], ◌∷◌, length, inl, inr}
+use Rattle.std.proofs.Common.{◌≡◌, ℕ, zero, suc, ◌<◌, Bool, true, false, refl, sym, ◌∙◌, ap, arith, List, [], ◌∷◌}
+use Rattle.std.proofs.Common.{length, inl, inr}
 use Rattle.std.proofs.lemmas.Bool.{cases_order}
 use Rattle.std.proofs.lemmas.Bool.Decides.{nat_tests}
 use Rattle.std.specs.Prelude.{◌==◌, ◌&&◌, ◌||◌, nat_lt, ◌⊎◌, ◌≢◌}
@@ -21,7 +22,8 @@ lower_trans (x ∷ xs) (y ∷ ys) (z ∷ zs) h i =
         nat_lt x y || (x == y && p) ≡ true → nat_lt y z || (y == z && q) ≡ true → nat_lt x z || (x == z && t) ≡ true
     step x y z p q t f h i = grind (arith, nat_tests)
 
-pub senior_trans : (rights : List Right) (r s t : ℕ) → is_senior_in rights r s ≡ true → is_senior_in rights s t ≡ true → is_senior_in rights r t ≡ true
+pub senior_trans : (rights : List Right) (r s t : ℕ) → is_senior_in rights r s ≡ true → is_senior_in rights s t ≡ true →
+    is_senior_in rights r t ≡ true
 senior_trans rights r s t h i = lower_trans (priority_in rights r) (priority_in rights s) (priority_in rights t) h i
 
 -- a right at which a test holds, and at none of its seniors
@@ -49,7 +51,8 @@ first_where b d (suc n) = more (first_where b d n) (d n) refl
     }
       where
         clash : (s : ℕ) → s ≡ n → is_senior b s n ≡ true → ⊥
-        clash s e t = let f : is_senior b n n ≡ true = ap (λ k. is_senior b k n) (sym e) ∙ t in cc (not_senior_to_itself b n)
+        clash s e t = let f : is_senior b n n ≡ true = ap (λ k. is_senior b k n) (sym e) ∙ t in
+            cc (not_senior_to_itself b n)
 
     keep : (k : ℕ) → IsFirst b d n k → (is_senior b n k ≡ true → d n ≡ false) → IsFirst b d (suc n) k
     keep k f i = record {
@@ -72,9 +75,11 @@ first_where b d (suc n) = more (first_where b d n) (d n) refl
     }
       where
         clash : (s : ℕ) → s ≡ n → is_senior b s n ≡ true → ⊥
-        clash s e u = let f : is_senior b n n ≡ true = ap (λ k. is_senior b k n) (sym e) ∙ u in cc (not_senior_to_itself b n)
+        clash s e u = let f : is_senior b n n ≡ true = ap (λ k. is_senior b k n) (sym e) ∙ u in
+            cc (not_senior_to_itself b n)
 
-    by_senior : (k : ℕ) → IsFirst b d n k → d n ≡ true → (t : Bool) → is_senior b n k ≡ t → (j : ℕ) × IsFirst b d (suc n) j
+    by_senior : (k : ℕ) → IsFirst b d n k → d n ≡ true → (t : Bool) → is_senior b n k ≡ t → (j : ℕ) ×
+        IsFirst b d (suc n) j
     by_senior k f i true e = (n, replace k f e i)
     by_senior k f i false e = (k, keep k f (λ t. cc))
 
@@ -109,7 +114,8 @@ lower_total (x ∷ xs) (y ∷ ys) e n = by_head (lower_total xs ys (omega arith)
         ]
 
 -- of two different rights one is senior to the other
-pub senior_total : (rights : List Right) → AreStrict rights → (r s : ℕ) → r < length rights → s < length rights → r ≢ s →
+pub senior_total : (rights : List Right) → AreStrict rights → (r s : ℕ) → r < length rights → s < length rights →
+    r ≢ s →
     (is_senior_in rights r s ≡ true) ⊎ (is_senior_in rights s r ≡ true)
 senior_total rights strict r s l k n = lower_total (priority_in rights r) (priority_in rights s) lengths differ
   where

@@ -1,5 +1,6 @@
 -- Sums over the nodes of a set.
-use Rattle.std.proofs.Common.{◌≡◌, ℕ, zero, suc, ◌+◌, ◌<◌, Bool, true, false, refl, sym, ◌∙◌, ap, arith, List, [], ◌∷◌, length}
+use Rattle.std.proofs.Common.{◌≡◌, ℕ, zero, suc, ◌+◌, ◌<◌, Bool, true, false, refl, sym, ◌∙◌, ap, arith, List, [], ◌∷◌}
+use Rattle.std.proofs.Common.{length}
 use Rattle.std.specs.Prelude.{if◌then◌else◌, ◌==◌, nat_lt, Option, Some, None, ◌&&◌, not}
 use Rattle.std.proofs.lemmas.Bool.Decides.{nat_tests}
 use Rattle.place_sums.specs.Sums.{total, total_where}
@@ -21,7 +22,8 @@ mask_total false m f = sym (total_zero m (λ e. 0) (λ k h. refl))
 -- the sum over the nodes of a set of what stands at each is the sum over what stands within the set
 pub grouped : (n m : ℕ) (y : ℕ → Bool) (p : ℕ → ℕ → Bool) (within : ℕ → Bool) (f : ℕ → ℕ) →
     ((e x : ℕ) → total n (λ v. if y v then (if p e v then x else 0) else 0) ≡ (if within e then x else 0)) →
-    total n (λ v. if y v then total m (λ e. if p e v then f e else 0) else 0) ≡ total m (λ e. if within e then f e else 0)
+    total n (λ v. if y v then total m (λ e. if p e v then f e else 0) else 0) ≡ total m
+    (λ e. if within e then f e else 0)
 grouped n m y p within f one =
     total_same n (λ v. if y v then total m (λ e. if p e v then f e else 0) else 0)
     (λ v. total m (λ e. if y v then (if p e v then f e else 0) else 0))
@@ -74,7 +76,8 @@ total_where_add n y f g =
 pub total_where_same : (n : ℕ) (y : ℕ → Bool) (f g : ℕ → ℕ) → ((k : ℕ) → k < n → f k ≡ g k) →
     total_where n y f ≡ total_where n y g
 total_where_same n y f g h =
-    total_same n (λ k. if y k then f k else 0) (λ k. if y k then g k else 0) (λ k l. ap (λ x. if y k then x else 0) (h k l))
+    total_same n (λ k. if y k then f k else 0) (λ k. if y k then g k else 0)
+    (λ k l. ap (λ x. if y k then x else 0) (h k l))
 
 -- what has an end in the set has its other end there too, or crosses
 pub total_crossing : (n : ℕ) (a c : ℕ → Bool) (f : ℕ → ℕ) →
@@ -91,7 +94,8 @@ total_crossing n a c f =
 pub total_swap : (n : ℕ) (a c : ℕ → Bool) (f : ℕ → ℕ) →
     total_where n (λ k. a k && c k) f ≡ total_where n (λ k. c k && a k) f
 total_swap n a c f =
-    total_same n (λ k. if a k && c k then f k else 0) (λ k. if c k && a k then f k else 0) (λ k l. swap (a k) (c k) (f k))
+    total_same n (λ k. if a k && c k then f k else 0) (λ k. if c k && a k then f k else 0)
+    (λ k l. swap (a k) (c k) (f k))
   where
     swap : (p q : Bool) (x : ℕ) → (if p && q then x else 0) ≡ (if q && p then x else 0)
     swap p q x = grind (arith, nat_tests)

@@ -12,34 +12,43 @@ use Rattle.water_model.proofs.Duality.{cut_slack, taking_on_no_link, delivery_by
 use Rattle.water_model.proofs.Greatest.{tight_leaves_nothing}
 
 -- the set that a record has of a right is a tight cut of it
-pub set_is_tight : (b : Basin) (series : Inflows) (before : List MonthRecord) (m : MonthRecord) → Follows b series before m →
-    (r : ℕ) → r < length b.rights → (cut : List Bool) → cut_of m r ≡ Some cut → IsTight b m.month m.supply m.delivered r cut
+pub set_is_tight : (b : Basin) (series : Inflows) (before : List MonthRecord) (m : MonthRecord) →
+    Follows b series before m →
+    (r : ℕ) → r < length b.rights → (cut : List Bool) → cut_of m r ≡ Some cut →
+    IsTight b m.month m.supply m.delivered r cut
 set_is_tight b series before m follows r l cut is = elim (cases_lt (slice_index m.delivered r) (slice_index m.want r)) [
   | inl short ↦ by_cut (follows.short r l short)
   | inr met ↦ absurd (let never : None ≡ Some cut = sym (follows.met r l met) ∙ is in cc)
 ]
   where
-    by_cut : (other : List Bool) × (cut_of m r ≡ Some other) × IsTight b m.month m.supply m.delivered r other → IsTight b m.month m.supply m.delivered r cut
+    by_cut : (other : List Bool) × (cut_of m r ≡ Some other) × IsTight b m.month m.supply m.delivered r other →
+        IsTight b m.month m.supply m.delivered r cut
     by_cut other =
         let both : Some other.0 ≡ Some cut = sym other.1 ∙ is in
         let same : other.0 ≡ cut = cc in
         subst (λ (set : List Bool). IsTight b m.month m.supply m.delivered r set) same other.2
 
-pub record_leaves_nothing : (b : Basin) (series : Inflows) (before : List MonthRecord) (m : MonthRecord) → Follows b series before m →
+pub record_leaves_nothing : (b : Basin) (series : Inflows) (before : List MonthRecord) (m : MonthRecord) →
+    Follows b series before m →
     (r : ℕ) → r < length b.rights → (cut : List Bool) → cut_of m r ≡ Some cut → LeavesNothing b m.plan r cut
 record_leaves_nothing b series before m follows r l cut is =
-    tight_leaves_nothing b m.month m.supply m.want m.delivered m.plan r cut l follows.plan (record { each = follows.delivered })
+    tight_leaves_nothing b m.month m.supply m.want m.delivered m.plan r cut l follows.plan
+    (record { each = follows.delivered })
     (set_is_tight b series before m follows r l cut is)
 
 pub histories_leave_nothing : HistoriesLeaveNothing
 histories_leave_nothing b series records history i m at =
     record_leaves_nothing b series (take i records) m (history.each i m at)
 
-called_in_record : (b : Basin) (series : Inflows) (before : List MonthRecord) (m : MonthRecord) → Follows b series before m →
+called_in_record : (b : Basin) (series : Inflows) (before : List MonthRecord) (m : MonthRecord) →
+    Follows b series before m →
     (r caller : ℕ) → r < length b.rights → Calls b m caller r → slice_index m.delivered r ≡ 0
-called_in_record b series before m follows r caller l calls = by_set (cut_of m caller) (λ cut is. record_leaves_nothing b series before m follows caller calls.in_range cut is) calls.holds
+called_in_record b series before m follows r caller l calls =
+    by_set (cut_of m caller) (λ cut is. record_leaves_nothing b series before m follows caller calls.in_range cut is)
+    calls.holds
   where
-    taken : (cut : List Bool) → takes_within b cut r ≡ true → slice_index m.plan.take r ≡ 0 → slice_index m.delivered r ≡ 0
+    taken : (cut : List Bool) → takes_within b cut r ≡ true → slice_index m.plan.take r ≡ 0 →
+        slice_index m.delivered r ≡ 0
     taken cut within none =
         follows.delivered r l ∙ (delivery_by_take b m.want m.plan r (taking_on_no_link b cut r within) ∙ none)
 
@@ -58,5 +67,6 @@ nothing_outside_helps b series records history i m at r l cut is supply' want' q
     omega (
       arith,
       tight.tight,
-      cut_slack b m.month m.supply m.delivered r cut supply' want' q l tight.is_cut plan (λ n k h. agrees.each n h) serves.each,
+      cut_slack b m.month m.supply m.delivered r cut supply' want' q l tight.is_cut plan (λ n k h. agrees.each n h)
+          serves.each,
     )

@@ -1,5 +1,6 @@
 -- How large the numbers of a list, and the wants of a month, can be.
-use Rattle.std.proofs.Common.{◌≡◌, ℕ, ◌+◌, ◌-◌, ◌*◌, ◌^◌, ◌<◌, ◌≤◌, Bool, true, false, ap, arith, List, length, inl, inr}
+use Rattle.std.proofs.Common.{◌≡◌, ℕ, ◌+◌, ◌-◌, ◌*◌, ◌^◌, ◌<◌, ◌≤◌, Bool, true, false, ap, arith, List, length, inl}
+use Rattle.std.proofs.Common.{inr}
 use Rattle.std.specs.Prelude.{slice_index, Option, Some, None, unwrap_or, option_map, min, if◌then◌else◌, All}
 use Rattle.std.proofs.lemmas.Bool.{cases_lt}
 use Rattle.std.proofs.lemmas.List.{get_or_past}
@@ -7,7 +8,8 @@ use Rattle.water_text.specs.declared.month.Month.{Month}
 use Rattle.water_model.specs.Lookups.{of_entry}
 use Rattle.water_model.specs.Basin.{instream_link}
 use Rattle.water_model.specs.Plans.{carry_of}
-use Rattle.water_model.specs.Hydrology.{run_month, in_year, place_in, target_of, want_of, want_by_volume, volume_of, cap_by_link, number_of}
+use Rattle.water_model.specs.Hydrology.{run_month, in_year, place_in, target_of, want_of, want_by_volume, volume_of}
+use Rattle.water_model.specs.Hydrology.{cap_by_link, number_of}
 use Rattle.water_model.specs.Valid.{IsValidBasin, IsValidRight, IsSeriesOf}
 use Rattle.water_model.specs.declared.types.Basin.{Basin}
 use Rattle.water_model.specs.declared.types.Inflows.{Inflows}
@@ -36,14 +38,16 @@ number_most : (b : Basin) (series : Inflows) (r i : ℕ) → IsValidBasin b → 
 number_most b series r i valid fits l =
     let entry = entry_holds (λ x. IsValidRight b x) b.rights r valid.rights l in
     rw (ap (λ o. unwrap_or (option_map (λ x. number_of b series r i x) o) 0) entry.1)
-    (by entry.0.series (entry_most series.want (10 ^ 9) (i * length series.wanted + place_in series.wanted r) fits.small_wants)
+    (by entry.0.series
+    (entry_most series.want (10 ^ 9) (i * length series.wanted + place_in series.wanted r) fits.small_wants)
     (entry_most entry.0.want (10 ^ 9) (in_year b i) entry.2.want.each))
   where
     by : (t : Bool) {x y : ℕ} → x ≤ 10 ^ 9 → y ≤ 10 ^ 9 → (if t then x else y) ≤ 10 ^ 9
     by true h k = h
     by false h k = k
 
-pub want_most : (b : Basin) (series : Inflows) (r i used : ℕ) → IsValidBasin b → IsSeriesOf b series → r < length b.rights →
+pub want_most : (b : Basin) (series : Inflows) (r i used : ℕ) → IsValidBasin b → IsSeriesOf b series →
+    r < length b.rights →
     want_of b series r i used ≤ 10 ^ 9
 want_most b series r i used valid fits l =
     let number : ℕ = of_entry b.rights r (λ x. number_of b series r i x) 0 in
@@ -58,5 +62,6 @@ pub want_carried : (b : Basin) (series : Inflows) (r i used link : ℕ) → inst
     want_of b series r i used ≤ carry_of b (run_month b i) link
 want_carried b series r i used link e =
     let number : ℕ = of_entry b.rights r (λ x. number_of b series r i x) 0 in
-    let at : target_of b series r i ≡ min number (carry_of b (run_month b i) link) = ap (λ o. cap_by_link b (run_month b i) o number) e in
+    let at : target_of b series r i ≡ min number (carry_of b (run_month b i) link) =
+    ap (λ o. cap_by_link b (run_month b i) o number) e in
     omega (arith, volume_most (volume_of b r) (target_of b series r i) used)

@@ -17,7 +17,8 @@ whole_inflow b series i = total (length b.nodes) (λ n. inflow_at b series n i)
 abbrev pub diverted : Basin → MonthRecord → ℕ
 diverted b m = total_where (length b.rights) (λ r. is_diversion b r) (λ r. slice_index m.delivered r)
 
--- what came in over the records, with what was stored before the first, is what went out, with what is stored after the last
+-- what came in over the records, with what was stored before the first, is what went out, with what is stored after the
+-- last
 abbrev pub IsBalanced : Basin → Inflows → List MonthRecord → Type 0
 IsBalanced b series records =
     sum (map (λ v. v.opening) b.reservoirs)
@@ -40,7 +41,8 @@ returned_before b deliveries right n =
     total (length b.returns) (λ k. of_entry b.returns k (λ row.
     if row.right == right then total n (λ j. returned_by row deliveries j) else 0) 0)
 
--- Returns are covered. What a diversion's rows brought up to a month is at most what it was delivered before that month.
+-- Returns are covered. What a diversion's rows brought up to a month is at most what it was delivered before that
+-- month.
 abbrev pub ReturnsAreCovered : Type 0
 ReturnsAreCovered =
     (b : Basin) (deliveries : List (List ℕ)) (right i : ℕ) → IsValidBasin b → right < length b.rights →

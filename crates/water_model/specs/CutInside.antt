@@ -1,6 +1,7 @@
 -- How a list of cuts keeps its sets in a region. The first place has a word for each right: where its set begins, or 0
 -- where it has none. The sets stand behind it, as marks of nodes, so none begins at word 0.
-use Rattle.std.specs.Prelude.{◌≡◌, ◌≢◌, ◌⊎◌, ℕ, zero, suc, ◌+◌, ◌*◌, ◌<◌, ◌≤◌, Bool, List, length, map, slice_index, Option, Some, None, nat_lt}
+use Rattle.std.specs.Prelude.{◌≡◌, ◌≢◌, ◌⊎◌, ℕ, zero, suc, ◌+◌, ◌*◌, ◌<◌, ◌≤◌, Bool, List, length, map, slice_index}
+use Rattle.std.specs.Prelude.{Option, Some, None, nat_lt}
 use Rattle.std.specs.List.{range_with_len}
 use Rattle.place_sums.specs.Sums.{count_where}
 use Rattle.bit_words.specs.Marks.{words_for, marks}

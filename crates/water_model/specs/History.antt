@@ -1,12 +1,14 @@
 -- Records of months, histories, reaches and calling rights.
-use Rattle.std.specs.Prelude.{◌≡◌, ℕ, ◌+◌, ◌-◌, ◌<◌, ◌≤◌, Bool, false, List, map, length, slice_index, slice_get, Option, Some, None, IsTrue, IfSome, IfNone, IsSomeAnd, take}
+use Rattle.std.specs.Prelude.{◌≡◌, ℕ, ◌+◌, ◌-◌, ◌<◌, ◌≤◌, Bool, false, List, map, length, slice_index, slice_get}
+use Rattle.std.specs.Prelude.{Option, Some, None, IsTrue, IfSome, IfNone, IsSomeAnd, take}
 use Rattle.place_sums.specs.Sums.{total_where}
 use Rattle.water_model.specs.Lookups.{of_entry}
 use Rattle.water_model.specs.Basin.{is_senior, is_at}
 use Rattle.water_model.specs.Plans.{IsPlan, delivery}
 use Rattle.water_model.specs.CutSets.{set_of}
 use Rattle.water_model.specs.Cuts.{IsTight, takes_within}
-use Rattle.water_model.specs.Hydrology.{run_month, in_year, inflow_at, evaporation, returned_at, stored_at, used_of, want_of}
+use Rattle.water_model.specs.Hydrology.{run_month, in_year, inflow_at, evaporation, returned_at, stored_at, used_of}
+use Rattle.water_model.specs.Hydrology.{want_of}
 use Rattle.water_model.specs.declared.types.Basin.{Basin}
 use Rattle.water_model.specs.declared.types.Inflows.{Inflows}
 use Rattle.water_model.specs.declared.types.MonthRecord.{MonthRecord}
@@ -55,7 +57,8 @@ pub record Follows (b : Basin) (series : Inflows) (before : List MonthRecord) (m
   pub month : m.month ≡ run_month b m.index
   pub opening : m.opening ≡ opening_after b before
   pub evaporated : (v : ℕ) → v < length b.reservoirs → slice_index m.evaporated v
-      ≡ of_entry b.reservoirs v (λ r. evaporation r.area (slice_index m.opening v) (slice_index r.rate (in_year b m.index))) 0
+      ≡ of_entry b.reservoirs v
+      (λ r. evaporation r.area (slice_index m.opening v) (slice_index r.rate (in_year b m.index))) 0
   pub returned : (n : ℕ) → n < length b.nodes → slice_index m.returned n
       ≡ returned_at b (map (λ k. k.delivered) before) n m.index
   pub supply : (n : ℕ) → n < length b.nodes → slice_index m.supply n

@@ -1,5 +1,6 @@
 -- Inflow, evaporation, returns, supply and want.
-use Rattle.std.specs.Prelude.{ℕ, ◌+◌, ◌-◌, ◌*◌, ◌/◌, min, List, [], ◌∷◌, length, slice_index, Option, Some, None, Bool, ◌==◌, nat_lt, if◌then◌else◌}
+use Rattle.std.specs.Prelude.{ℕ, ◌+◌, ◌-◌, ◌*◌, ◌/◌, min, List, [], ◌∷◌, length, slice_index, Option, Some, None, Bool}
+use Rattle.std.specs.Prelude.{◌==◌, nat_lt, if◌then◌else◌}
 use Rattle.std.specs.List.{position_or_len}
 use Rattle.place_sums.specs.Sums.{total, total_where}
 use Rattle.water_model.specs.Lookups.{of_entry}
@@ -69,12 +70,14 @@ returned_by row deliveries i =
 
 abbrev pub returned_at : Basin → List (List ℕ) → ℕ → ℕ → ℕ
 returned_at b deliveries node i =
-    total (length b.returns) (λ k. of_entry b.returns k (λ row. if row.node == node then returned_by row deliveries i else 0) 0)
+    total (length b.returns)
+    (λ k. of_entry b.returns k (λ row. if row.node == node then returned_by row deliveries i else 0) 0)
 
 -- what the reservoirs at a node hold after evaporation
 abbrev pub stored_at : Basin → List ℕ → List ℕ → ℕ → ℕ
 stored_at b opening evaporated node =
-    total_where (length b.reservoirs) (λ v. is_at (node_of_reservoir b v) node) (λ v. slice_index opening v - slice_index evaporated v)
+    total_where (length b.reservoirs) (λ v. is_at (node_of_reservoir b v) node)
+    (λ v. slice_index opening v - slice_index evaporated v)
 
 -- the target of a right: its number for the month, and on a canal at most what the canal carries
 abbrev pub number_of : Basin → Inflows → ℕ → ℕ → Right → ℕ
@@ -87,7 +90,8 @@ cap_by_link b month (Some link) number = min number (carry_of b month link)
 
 abbrev pub target_of : Basin → Inflows → ℕ → ℕ → ℕ
 target_of b series right i =
-    cap_by_link b (run_month b i) (instream_link b right) (of_entry b.rights right (λ r. number_of b series right i r) 0)
+    cap_by_link b (run_month b i) (instream_link b right)
+    (of_entry b.rights right (λ r. number_of b series right i r) 0)
 
 -- the water year of a month, counted from year 0
 abbrev pub water_year : Basin → ℕ → ℕ

@@ -1,5 +1,6 @@
 -- Laws over the definitions.
-use Rattle.std.specs.Prelude.{◌≡◌, ℕ, pos, ◌≤ℤ◌, ◌<◌, ◌≤◌, Bool, List, length, slice_index, slice_get, Some, IsTrue, sum, ◌↔◌, ◌⊎◌, ◌≢◌}
+use Rattle.std.specs.Prelude.{◌≡◌, ℕ, pos, ◌≤ℤ◌, ◌<◌, ◌≤◌, Bool, List, length, slice_index, slice_get, Some, IsTrue}
+use Rattle.std.specs.Prelude.{sum, ◌↔◌, ◌⊎◌, ◌≢◌}
 use Rattle.water_model.specs.Lookups.{has}
 use Rattle.water_model.specs.Basin.{is_senior, HasStrictPriority}
 use Rattle.water_model.specs.Plans.{IsPlan, IsGreatest, DeliversSame, delivery}
@@ -14,7 +15,8 @@ use Rattle.water_model.specs.declared.types.Plan.{Plan}
 
 -- a plan delivers to every right senior to a right at least the given delivery
 pub record ServesSeniors (b : Basin) (delivered want : List ℕ) (q : Plan) (right : ℕ) : Type 0 where
-  pub each : (s : ℕ) → s < length b.rights → IsTrue (is_senior b s right) → slice_index delivered s ≤ delivery b want q s
+  pub each : (s : ℕ) → s < length b.rights → IsTrue (is_senior b s right) →
+      slice_index delivered s ≤ delivery b want q s
 
 -- two supplies are the same at each node of a set
 pub record AgreesOn (set : List Bool) (supply other : List ℕ) : Type 0 where
@@ -40,8 +42,8 @@ CutsMakeGreatest =
     (b : Basin) (series : Inflows) (records : List MonthRecord) → IsPartialHistory b series records →
     (i : ℕ) (m : MonthRecord) → slice_get records i ≡ Some m → IsGreatest b m.month m.supply m.want m.plan
 
--- Nobody could get more. In any plan of a month that delivers at least as much to each right senior to a right, the right
--- gets no more than it got: no water of a junior could lessen a senior's shortage.
+-- Nobody could get more. In any plan of a month that delivers at least as much to each right senior to a right, the
+-- right gets no more than it got: no water of a junior could lessen a senior's shortage.
 abbrev pub NobodyCouldGetMore : Type 0
 NobodyCouldGetMore =
     (b : Basin) (series : Inflows) (records : List MonthRecord) → IsPartialHistory b series records →
@@ -62,8 +64,8 @@ TightCutLeavesNothing =
     right < length b.rights → IsPlan b month supply want p → AreDeliveries b want p delivered →
     IsTight b month supply delivered right cut → LeavesNothing b p right cut
 
--- In the set that a history has of a right, juniors get nothing: no diversion or zone that is junior to the right takes, and no
--- outlet lets water out.
+-- In the set that a history has of a right, juniors get nothing: no diversion or zone that is junior to the right
+-- takes, and no outlet lets water out.
 abbrev pub HistoriesLeaveNothing : Type 0
 HistoriesLeaveNothing =
     (b : Basin) (series : Inflows) (records : List MonthRecord) → IsPartialHistory b series records →
@@ -77,8 +79,8 @@ CalledRightsGetNothing =
     (i : ℕ) (m : MonthRecord) → slice_get records i ≡ Some m → (right caller : ℕ) → right < length b.rights →
     Calls b m caller right → slice_index m.delivered right ≡ 0
 
--- Nothing outside helps. Whatever is supplied outside the set that a history has of a right, and whatever anyone wants, no
--- plan of that month that delivers at least as much to each senior of the right delivers it more than it got.
+-- Nothing outside helps. Whatever is supplied outside the set that a history has of a right, and whatever anyone wants,
+-- no plan of that month that delivers at least as much to each senior of the right delivers it more than it got.
 abbrev pub NothingOutsideHelps : Type 0
 NothingOutsideHelps =
     (b : Basin) (series : Inflows) (records : List MonthRecord) → IsPartialHistory b series records →

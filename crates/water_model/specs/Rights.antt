@@ -1,5 +1,6 @@
 -- The order of rights, and what a sound roll of rights keeps.
-use Rattle.std.specs.Prelude.{◌≡◌, ◌≢◌, ℕ, ◌-◌, ◌<◌, ◌≤◌, Bool, false, not, ◌&&◌, ◌||◌, List, [], ◌∷◌, length, take, nat_lt, ◌==◌, if◌then◌else◌}
+use Rattle.std.specs.Prelude.{◌≡◌, ◌≢◌, ℕ, ◌-◌, ◌<◌, ◌≤◌, Bool, false, not, ◌&&◌, ◌||◌, List, [], ◌∷◌, length, take}
+use Rattle.std.specs.Prelude.{nat_lt, ◌==◌, if◌then◌else◌}
 use Rattle.std.specs.List.{list_any}
 use Rattle.place_sums.specs.Sums.{total}
 use Rattle.water_text.specs.Days.{is_date}
@@ -50,17 +51,20 @@ is_zone_fault rights before key (Zone reservoir level) =
     || (nat_lt 1 level && not (list_any (is_senior_zone reservoir (level - 1) key) rights))
 
 abbrev pub has_zone_fault : List Right → ℕ → Bool
-has_zone_fault rights right = of_entry rights right (λ r. is_zone_fault rights (take right rights) (priority r) r.kind) false
+has_zone_fault rights right =
+    of_entry rights right (λ r. is_zone_fault rights (take right rights) (priority r) r.kind) false
 
 -- the sum of the parts of a diversion's return rows, in parts of 10,000
 abbrev pub parts_in : List ReturnRow → ℕ → ℕ
-parts_in returns right = total (length returns) (λ k. of_entry returns k (λ row. if row.right == right then row.part else 0) 0)
+parts_in returns right =
+    total (length returns) (λ k. of_entry returns k (λ row. if row.right == right then row.part else 0) 0)
 
 -- no two rights have one priority
 abbrev pub AreStrict : List Right → Type 0
 AreStrict rights = (r s : ℕ) → r < s → s < length rights → priority_in rights r ≢ priority_in rights s
 
--- every date is a day, no two rights have one priority, zones stand in order, and no diversion returns more than it takes
+-- every date is a day, no two rights have one priority, zones stand in order, and no diversion returns more than it
+-- takes
 pub record IsSoundRoll (rights : List Right) (returns : List ReturnRow) : Type 0 where
   pub dates : (r : ℕ) → r < length rights → of_entry rights r has_bad_date false ≡ false
   pub strict : AreStrict rights

@@ -18,13 +18,15 @@ abbrev pub water_at : List Link → List ℕ → List ℕ → ℕ → ℕ
 water_at links supply flow node =
     slice_index supply node + total_where (length links) (λ e. head_in links e == node) (λ e. slice_index flow e)
 
--- all water of a node that is no outlet goes down its first river, every other link has none, and outlets let theirs out
+-- all water of a node that is no outlet goes down its first river, every other link has none, and outlets let theirs
+-- out
 pub record RunsNaturally (nodes : List Node) (links : List Link) (supply flow out : List ℕ) : Type 0 where
   pub flow_len : length flow ≡ length links
   pub out_len : length out ≡ length nodes
   pub rivers : (e : ℕ) → IsFirstRiver links e → slice_index flow e ≡ water_at links supply flow (tail_in links e)
   pub others : (e : ℕ) → e < length links → (IsFirstRiver links e → ⊥) → slice_index flow e ≡ 0
-  pub outlets : (n : ℕ) → n < length nodes → is_outlet_in nodes n ≡ true → slice_index out n ≡ water_at links supply flow n
+  pub outlets : (n : ℕ) → n < length nodes → is_outlet_in nodes n ≡ true →
+      slice_index out n ≡ water_at links supply flow n
   pub inner : (n : ℕ) → n < length nodes → is_outlet_in nodes n ≡ false → slice_index out n ≡ 0
 
 -- the plan of a month that is the run of the river

@@ -1,5 +1,6 @@
 -- Valid basins, and the inflows that fit one.
-use Rattle.std.specs.Prelude.{◌≡◌, ◌≢◌, ℕ, ◌+◌, ◌*◌, ◌^◌, ◌<◌, ◌≤◌, ◌==◌, List, [], ◌∷◌, length, All, IsTrue, replicate, Option, Some, None, Bool, true, false, filter}
+use Rattle.std.specs.Prelude.{◌≡◌, ◌≢◌, ℕ, ◌+◌, ◌*◌, ◌^◌, ◌<◌, ◌≤◌, ◌==◌, List, [], ◌∷◌, length, All, IsTrue, replicate}
+use Rattle.std.specs.Prelude.{Option, Some, None, Bool, true, false, filter}
 use Rattle.place_sums.specs.Sums.{count_where}
 use Rattle.water_text.specs.Names.{is_name}
 use Rattle.water_text.specs.Months.{IsMonth}

@@ -4,7 +4,8 @@ ghost use Rattle.std.specs.List.Sorted.{IsStrictlyIncreasing};
 ghost use Rattle.water_text.specs.Months.{IsMonth};
 ghost use Rattle.water_model.specs.Basin.{taking_node};
 ghost use Rattle.water_model.specs.Plans.{carry_of, carry_of_kind};
-ghost use Rattle.water_model.specs.Hydrology.{begins_year, inflow_at, in_year, number_of, place_in, run_month, target_of, want_of};
+ghost use Rattle.water_model.specs.Hydrology.{begins_year, inflow_at, in_year, number_of, place_in, run_month};
+ghost use Rattle.water_model.specs.Hydrology.{target_of, want_of};
 ghost use Rattle.water_model.specs.Lookups.{of_entry};
 ghost use Rattle.water_model.specs.Valid.{IsValidBasin, IsValidCarry, IsSeriesOf};
 
@@ -29,8 +30,8 @@ fn carry_in_month(carry: &Carry, month: Month) -> u64
     }
 }
 
-/// The most that a link carries in a month, in units of 1,000 cubic metres: 10^15 on a river, and on a canal the amount of
-/// a day times the days of the month, or 0 in a calendar month in which it is shut.
+/// The most that a link carries in a month, in units of 1,000 cubic metres: 10^15 on a river, and on a canal the amount
+/// of a day times the days of the month, or 0 in a calendar month in which it is shut.
 pub fn carry_of(basin: &Basin, link: u32, month: Month) -> u64
     requires basin { IsValidBasin basin.now }
     requires month { IsMonth month }
@@ -113,8 +114,8 @@ pub fn inflow_of(basin: &Basin, inflows: &Inflows, node: u32, index: u32) -> u64
     }
 }
 
-/// The number of a right in the month with this index: the series' want where its wants stand there, and else its number
-/// for the calendar month.
+/// The number of a right in the month with this index: the series' want where its wants stand there, and else its
+/// number for the calendar month.
 fn number_of(basin: &Basin, inflows: &Inflows, right: u32, index: u32) -> u64
     requires basin { IsValidBasin basin.now }
     requires series { IsSeriesOf basin.now inflows.now }
@@ -148,8 +149,8 @@ fn target_of(basin: &Basin, inflows: &Inflows, right: u32, index: u32) -> u64
     }
 }
 
-/// The want of a right in the month with this index, in units of 1,000 cubic metres: its target, and of a diversion with
-/// a volume at most what is left of the volume. `used` is what the right used of it before in the water year.
+/// The want of a right in the month with this index, in units of 1,000 cubic metres: its target, and of a diversion
+/// with a volume at most what is left of the volume. `used` is what the right used of it before in the water year.
 pub fn want_of(basin: &Basin, inflows: &Inflows, right: u32, index: u32, used: u64) -> u64
     requires basin { IsValidBasin basin.now }
     requires series { IsSeriesOf basin.now inflows.now }

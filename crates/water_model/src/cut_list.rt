@@ -1,5 +1,6 @@
 //! For each right none or a set of nodes.
-ghost use Rattle.std.specs.Prelude.{◌≡◌, ◌+◌, ◌<◌, ◌≤◌, None, Some, length, replicate, slice_set, false, true, IfOk, IfSome, IsSome, IsNone, ◌↔◌};
+ghost use Rattle.std.specs.Prelude.{◌≡◌, ◌+◌, ◌<◌, ◌≤◌, None, Some, length, replicate, slice_set, false, true, IfOk};
+ghost use Rattle.std.specs.Prelude.{IfSome, IsSome, IsNone, ◌↔◌};
 ghost use Rattle.std.specs.Option.{option_map};
 ghost use Rattle.bit_words.specs.Marks.{words_for, marks};
 ghost use Rattle.word_region.specs.Words.{zeroed};

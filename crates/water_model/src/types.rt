@@ -1,8 +1,8 @@
 //! A basin, its inflows, a plan and a month's record.
 //!
-//! Water is counted in units of 1,000 cubic metres, areas in hectares, evaporation in millimetres a month. Nodes, links,
-//! reservoirs and rights are numbered from 0 in the order of the file, the months of a run from 0. Lists of twelve run
-//! from January to December.
+//! Water is counted in units of 1,000 cubic metres, areas in hectares, evaporation in millimetres a month. Nodes,
+//! links, reservoirs and rights are numbered from 0 in the order of the file, the months of a run from 0. Lists of
+//! twelve run from January to December.
 use crate::cut_list::CutList;
 use crate::rows::Rows;
 use water_text::day::Day;
@@ -124,8 +124,8 @@ pub struct Plan {
     pub out: Rows<u64>,
 }
 
-/// All that is known of a month of a run. `opening`, `evaporated` and `closing` are indexed by reservoir, `returned` and
-/// `supply` by node, `used`, `want`, `delivered` and the sets of `cuts` by right.
+/// All that is known of a month of a run. `opening`, `evaporated` and `closing` are indexed by reservoir, `returned`
+/// and `supply` by node, `used`, `want`, `delivered` and the sets of `cuts` by right.
 #[derive(Drop)]
 pub struct MonthRecord {
     pub index: u32,

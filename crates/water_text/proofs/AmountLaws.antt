@@ -1,12 +1,14 @@
 -- Plain amounts are read as they are spelled, and spelled as they are read.
-use Rattle.std.proofs.Common.{◌≡◌, ℕ, ◌^◌, ◌<◌, ◌≤◌, Bool, true, false, refl, sym, ap, ◌∙◌, arith, List, length, get_or, inl, inr}
+use Rattle.std.proofs.Common.{◌≡◌, ℕ, ◌^◌, ◌<◌, ◌≤◌, Bool, true, false, refl, sym, ap, ◌∙◌, arith, List, length, get_or}
+use Rattle.std.proofs.Common.{inl, inr}
 use Rattle.std.specs.Prelude.{Some, None, ◌&&◌, ◌==◌, nat_lt, nat_le, if◌then◌else◌}
 use Rattle.std.specs.Fmt.{decimal}
 use Rattle.std.specs.Str.{all_ascii_digits}
 use Rattle.std.specs.Str.Parse.{digits_value}
 use Rattle.std.proofs.lemmas.Bool.{cases_lt}
 use Rattle.std.proofs.lemmas.Bool.Decides.{nat_tests}
-use Rattle.std.proofs.lemmas.Fmt.{decimal_digit, decimal_nonempty, first_decimal, length-decimal-le, digits_decimal, digits_value-decimal, decimal-digits_value}
+use Rattle.std.proofs.lemmas.Fmt.{decimal_digit, decimal_nonempty, first_decimal, length-decimal-le, digits_decimal}
+use Rattle.std.proofs.lemmas.Fmt.{digits_value-decimal, decimal-digits_value}
 use Rattle.water_text.specs.Amounts.{is_amount, has_leading_zero, read_amount, read_plain}
 use Rattle.water_text.proofs.Values.{numerals, value_within}
 
@@ -53,9 +55,11 @@ pub record IsRead (text : List ℕ) (limit n : ℕ) : Type 0 where
 pub amount_is_read : (text : List ℕ) (limit n : ℕ) → read_amount text limit ≡ Some n → IsRead text limit n
 unfolding read_amount
 amount_is_read text limit n h =
-    by_tests (nat_le 1 (length text)) (nat_le (length text) 19) (all_ascii_digits text) (nat_le (digits_value 10 text) limit) refl refl refl refl h
+    by_tests (nat_le 1 (length text)) (nat_le (length text) 19) (all_ascii_digits text)
+    (nat_le (digits_value 10 text) limit) refl refl refl refl h
   where
-    by_tests : (a b c d : Bool) → nat_le 1 (length text) ≡ a → nat_le (length text) 19 ≡ b → all_ascii_digits text ≡ c → nat_le (digits_value 10 text) limit ≡ d →
+    by_tests : (a b c d : Bool) → nat_le 1 (length text) ≡ a → nat_le (length text) 19 ≡ b → all_ascii_digits text ≡ c →
+        nat_le (digits_value 10 text) limit ≡ d →
         (if ((a && b) && c) && d then Some (digits_value 10 text) else None) ≡ Some n → IsRead text limit n
     by_tests true true true true p q r s e =
         let value : digits_value 10 text ≡ n = cc in
@@ -90,7 +94,8 @@ plain_is_read text limit n h = by_test (has_leading_zero text) refl h
     leading : (k c : ℕ) → 0 < k → nat_lt 1 k && c == 48 ≡ false → c ≡ 48 → k ≡ 1
     leading k c some e same = grind (arith, nat_tests)
 
-    by_test : (t : Bool) → has_leading_zero text ≡ t → (if t then None else read_amount text limit) ≡ Some n → IsPlainlyRead text limit n
+    by_test : (t : Bool) → has_leading_zero text ≡ t → (if t then None else read_amount text limit) ≡ Some n →
+        IsPlainlyRead text limit n
     by_test true e h = cc
     by_test false e h =
         let r = amount_is_read text limit n h in

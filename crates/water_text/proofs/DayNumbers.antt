@@ -1,9 +1,11 @@
 -- The days of a month are the difference of two day numbers.
-use Rattle.std.proofs.Common.{◌≡◌, ℕ, zero, suc, ◌+◌, ◌-◌, ◌/◌, ◌%◌, ◌≤◌, ℤ, pos, ◌-ℤ◌, ◌+ℤ◌, unsigned_abs, refl, sym, ap, ◌∙◌, arith, inl, inr}
+use Rattle.std.proofs.Common.{◌≡◌, ℕ, zero, suc, ◌+◌, ◌-◌, ◌/◌, ◌%◌, ◌≤◌, ℤ, pos, ◌-ℤ◌, ◌+ℤ◌, unsigned_abs, refl, sym}
+use Rattle.std.proofs.Common.{ap, ◌∙◌, arith, inl, inr}
 use Rattle.std.proofs.lemmas.Int.{ints}
 use Rattle.std.proofs.lemmas.Bool.Decides.{nat_tests}
 use Rattle.std.proofs.lemmas.Bool.{cases_Bool, cases_lt}
-use Rattle.jiff_core.specs.Calendar.{is_leap_year, days_in_year, days_in_month, days_of_years, days_of_months, day_count, days_from_civil}
+use Rattle.jiff_core.specs.Calendar.{is_leap_year, days_in_year, days_in_month, days_of_years, days_of_months}
+use Rattle.jiff_core.specs.Calendar.{day_count, days_from_civil}
 use Rattle.water_text.specs.Months.{days_of, days_in}
 
 -- two day numbers differ as the counts do
@@ -28,13 +30,16 @@ year_of_months y =
     ]
 
 -- the next year begins as many days later as the year has
-next_count : (y : ℕ) → days_of_years (unsigned_abs (pos (y + 1) +ℤ pos 10000)) ≡ days_of_years (unsigned_abs (pos y +ℤ pos 10000)) + days_in_year (pos y)
+next_count : (y : ℕ) →
+    days_of_years (unsigned_abs (pos (y + 1) +ℤ pos 10000)) ≡ days_of_years
+    (unsigned_abs (pos y +ℤ pos 10000)) + days_in_year (pos y)
 unfolding days_of_years
 next_count y =
     let next : unsigned_abs (pos (y + 1) +ℤ pos 10000) ≡ suc (y + 10000) = omega (arith, ints) in
     let this : unsigned_abs (pos y +ℤ pos 10000) ≡ y + 10000 = omega (arith, ints) in
     let back : pos (y + 10000) -ℤ pos 10000 ≡ pos y = omega (arith, ints) in
-    ap days_of_years next ∙ ap (λ z. days_of_years (y + 10000) + days_in_year z) back ∙ ap (λ n. days_of_years n + days_in_year (pos y)) (sym this)
+    ap days_of_years next ∙ ap (λ z. days_of_years (y + 10000) + days_in_year z) back
+    ∙ ap (λ n. days_of_years n + days_in_year (pos y)) (sym this)
 
 -- January begins as many days after December as December has
 to_next_year : (y : ℕ) → day_count (pos (y + 1)) 1 1 ≡ day_count (pos y) 12 1 + days_in_month (pos y) 12

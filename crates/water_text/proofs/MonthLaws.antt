@@ -1,5 +1,6 @@
 -- Months are read as they are spelled, and spelled as they are read.
-use Rattle.std.proofs.Common.{◌≡◌, ℕ, ◌+◌, ◌-◌, ◌*◌, ◌/◌, ◌%◌, ◌<◌, ◌≤◌, Bool, true, false, refl, sym, ap, ◌∙◌, arith, List, [], ◌∷◌, ◌++◌, length, subst}
+use Rattle.std.proofs.Common.{◌≡◌, ℕ, ◌+◌, ◌-◌, ◌*◌, ◌/◌, ◌%◌, ◌<◌, ◌≤◌, Bool, true, false, refl, sym, ap, ◌∙◌, arith}
+use Rattle.std.proofs.Common.{List, [], ◌∷◌, ◌++◌, length, subst}
 use Rattle.std.specs.Prelude.{Some, None, ◌&&◌, ◌==◌, nat_le, codes, slice_range, if◌then◌else◌}
 use Rattle.std.specs.Char.{digit_value, is_ascii_digit}
 use Rattle.std.specs.Int.{IsInRange}
@@ -32,7 +33,8 @@ decimal_year y low high =
 -- a month has seven bytes
 pub length-month_digits : (m : Month) → IsMonth m → length (month_digits m) ≡ 7
 length-month_digits m h =
-    ap (λ ds. length (ds ++ (45 ∷ (48 + m.month / 10) ∷ (48 + m.month % 10) ∷ []))) (decimal_year m.year (omega (arith, h.year)) (omega (arith, h.year)))
+    ap (λ ds. length (ds ++ (45 ∷ (48 + m.month / 10) ∷ (48 + m.month % 10) ∷ [])))
+    (decimal_year m.year (omega (arith, h.year)) (omega (arith, h.year)))
 
 -- a number below ten has a digit
 is_digit : (d : ℕ) → d < 10 → is_ascii_digit (48 + d) ≡ true
@@ -48,15 +50,18 @@ spelling_has_shape a b c d e f ha hb hc hd he hf =
 -- two digits have the value that they spell
 two_digits : (m : ℕ) → m ≤ 99 → digits_value 10 ((48 + m / 10) ∷ (48 + m % 10) ∷ []) ≡ m
 two_digits m h =
-    let tens : digit_value (48 + m / 10) + 48 ≡ 48 + m / 10 = digit_value_digit (48 + m / 10) (omega arith, omega arith) in
-    let ones : digit_value (48 + m % 10) + 48 ≡ 48 + m % 10 = digit_value_digit (48 + m % 10) (omega arith, omega arith) in
+    let tens : digit_value (48 + m / 10) + 48 ≡ 48 + m / 10 =
+    digit_value_digit (48 + m / 10) (omega arith, omega arith) in
+    let ones : digit_value (48 + m % 10) + 48 ≡ 48 + m % 10 =
+    digit_value_digit (48 + m % 10) (omega arith, omega arith) in
     omega arith
 
 -- a month within the range passes the test
 passes : (m : Month) → IsMonth m → is_month m ≡ true
 passes m h = tests m.year m.month h.year.0 h.year.1 h.month.0 h.month.1
   where
-    tests : (y k : ℕ) → 1800 ≤ y → y ≤ 2999 → 1 ≤ k → k ≤ 12 → (nat_le 1800 y && nat_le y 2999) && (nat_le 1 k && nat_le k 12) ≡ true
+    tests : (y k : ℕ) → 1800 ≤ y → y ≤ 2999 → 1 ≤ k → k ≤ 12 →
+        (nat_le 1800 y && nat_le y 2999) && (nat_le 1 k && nat_le k 12) ≡ true
     tests y k a b c d = grind (arith, nat_tests)
 
 -- a month that is spelled is read
@@ -66,9 +71,13 @@ read_month-month_digits m h =
     let low : 1000 ≤ m.year = omega (arith, h.year) in
     let high : m.year ≤ 9999 = omega (arith, h.year) in
     let year_is = decimal_year m.year low high in
-    let year : digits_value 10 (year_digits m.year) ≡ m.year = ap (digits_value 10) (sym year_is) ∙ digits_value-decimal numerals m.year (omega arith) in
-    let month : digits_value 10 ((48 + m.month / 10) ∷ (48 + m.month % 10) ∷ []) ≡ m.month = two_digits m.month (omega (arith, h.month)) in
-    let shape = spelling_has_shape (m.year / 10 / 10 / 10) (m.year / 10 / 10 % 10) (m.year / 10 % 10) (m.year % 10) (m.month / 10) (m.month % 10)
+    let year : digits_value 10 (year_digits m.year) ≡ m.year =
+    ap (digits_value 10) (sym year_is) ∙ digits_value-decimal numerals m.year (omega arith) in
+    let month : digits_value 10 ((48 + m.month / 10) ∷ (48 + m.month % 10) ∷ []) ≡ m.month =
+    two_digits m.month (omega (arith, h.month)) in
+    let shape =
+    spelling_has_shape (m.year / 10 / 10 / 10) (m.year / 10 / 10 % 10) (m.year / 10 % 10) (m.year % 10)
+    (m.month / 10) (m.month % 10)
     (omega arith) (omega arith) (omega arith) (omega arith) (omega (arith, h.month)) (omega arith) in
     rw (year_is, shape, year, month, passes m h) refl
 
@@ -80,7 +89,8 @@ is_within m h = record {
 }
 
 -- a fact of each text of seven bytes
-seven : (P : List ℕ → Type 0) → ((a b c d e f g : ℕ) → P (a ∷ b ∷ c ∷ d ∷ e ∷ f ∷ g ∷ [])) → (text : List ℕ) → length text ≡ 7 → P text
+seven : (P : List ℕ → Type 0) → ((a b c d e f g : ℕ) → P (a ∷ b ∷ c ∷ d ∷ e ∷ f ∷ g ∷ [])) → (text : List ℕ) →
+    length text ≡ 7 → P text
 seven P p (a ∷ b ∷ c ∷ d ∷ e ∷ f ∷ g ∷ []) h = p a b c d e f g
 seven P p [] h = absurd (omega arith)
 seven P p (a ∷ []) h = absurd (omega arith)
@@ -125,7 +135,8 @@ record HasPlaces (a b c d e f g : ℕ) : Type 0 where
   ones : IsDigit g
 
 -- the places of a text of the shape
-places : (a b c d e f g : ℕ) → has_shape (codes "dddd-dd") (a ∷ b ∷ c ∷ d ∷ e ∷ f ∷ g ∷ []) ≡ true → HasPlaces a b c d e f g
+places : (a b c d e f g : ℕ) → has_shape (codes "dddd-dd") (a ∷ b ∷ c ∷ d ∷ e ∷ f ∷ g ∷ []) ≡ true →
+    HasPlaces a b c d e f g
 unfolding has_shape
 places a b c d e f g h =
     let first = both (is_ascii_digit a) _ h in
@@ -150,14 +161,17 @@ places a b c d e f g h =
     same e h = grind (arith, nat_tests)
 
 -- two digits are those of their value
-tens_of : (f g x y : ℕ) → x + 48 ≡ f → x < 10 → y + 48 ≡ g → y < 10 → (f ≡ 48 + ((0 + x) * 10 + y) / 10) × (g ≡ 48 + ((0 + x) * 10 + y) % 10)
+tens_of : (f g x y : ℕ) → x + 48 ≡ f → x < 10 → y + 48 ≡ g → y < 10 → (f ≡ 48 + ((0 + x) * 10 + y) / 10) ×
+    (g ≡ 48 + ((0 + x) * 10 + y) % 10)
 tens_of f g x y e l e' l' = (omega arith, omega arith)
 
 -- four digits are the spelling of their value, if that is not below 1000
-year_spelled : (a b c d : ℕ) → IsDigit a → IsDigit b → IsDigit c → IsDigit d → all_ascii_digits (a ∷ b ∷ c ∷ d ∷ []) ≡ true →
+year_spelled : (a b c d : ℕ) → IsDigit a → IsDigit b → IsDigit c → IsDigit d →
+    all_ascii_digits (a ∷ b ∷ c ∷ d ∷ []) ≡ true →
     1000 ≤ digits_value 10 (a ∷ b ∷ c ∷ d ∷ []) → decimal (digits_value 10 (a ∷ b ∷ c ∷ d ∷ [])) ≡ a ∷ b ∷ c ∷ d ∷ []
 year_spelled a b c d ia ib ic id digits low =
-    decimal-digits_value numerals (a ∷ b ∷ c ∷ d ∷ []) digits (omega arith) (λ zero_first. absurd (omega arith)) (omega arith)
+    decimal-digits_value numerals (a ∷ b ∷ c ∷ d ∷ []) digits (omega arith) (λ zero_first. absurd (omega arith))
+    (omega arith)
 
 -- a spelling of a year, a dash and two digits make a text
 joined : (a b c d e f g f' g' : ℕ) (ds : List ℕ) → ds ≡ a ∷ b ∷ c ∷ d ∷ [] → e ≡ 45 → f ≡ f' → g ≡ g' →
@@ -165,16 +179,20 @@ joined : (a b c d e f g f' g' : ℕ) (ds : List ℕ) → ds ≡ a ∷ b ∷ c �
 joined a b c d e f g f' g' ds y dash tens ones = rw (y, dash, tens, ones) refl
 
 -- a text of the shape whose month is within the range is that month's spelling
-spelled : (text : List ℕ) → length text ≡ 7 → has_shape (codes "dddd-dd") text ≡ true → IsMonth (month_in text) → text ≡ month_digits (month_in text)
-spelled text = seven (λ t. has_shape (codes "dddd-dd") t ≡ true → IsMonth (month_in t) → t ≡ month_digits (month_in t)) each text
+spelled : (text : List ℕ) → length text ≡ 7 → has_shape (codes "dddd-dd") text ≡ true → IsMonth (month_in text) →
+    text ≡ month_digits (month_in text)
+spelled text =
+    seven (λ t. has_shape (codes "dddd-dd") t ≡ true → IsMonth (month_in t) → t ≡ month_digits (month_in t)) each text
   where
     each : (a b c d e f g : ℕ) → has_shape (codes "dddd-dd") (a ∷ b ∷ c ∷ d ∷ e ∷ f ∷ g ∷ []) ≡ true →
-        IsMonth (month_in (a ∷ b ∷ c ∷ d ∷ e ∷ f ∷ g ∷ [])) → a ∷ b ∷ c ∷ d ∷ e ∷ f ∷ g ∷ [] ≡ month_digits (month_in (a ∷ b ∷ c ∷ d ∷ e ∷ f ∷ g ∷ []))
+        IsMonth (month_in (a ∷ b ∷ c ∷ d ∷ e ∷ f ∷ g ∷ [])) →
+        a ∷ b ∷ c ∷ d ∷ e ∷ f ∷ g ∷ [] ≡ month_digits (month_in (a ∷ b ∷ c ∷ d ∷ e ∷ f ∷ g ∷ []))
     each a b c d e f g h m =
         let p = places a b c d e f g h in
         let low : 1000 ≤ digits_value 10 (a ∷ b ∷ c ∷ d ∷ []) = omega (arith, m.year.0) in
         let month = tens_of f g (digit_value f) (digit_value g) p.tens.is p.tens.less p.ones.is p.ones.less in
-        joined a b c d e f g _ _ _ (year_spelled a b c d p.first p.second p.third p.fourth p.year low) p.dash month.0 month.1
+        joined a b c d e f g _ _ _ (year_spelled a b c d p.first p.second p.third p.fourth p.year low) p.dash month.0
+        month.1
 
 -- what is read as a month is its spelling
 pub record IsMonthSpelling (text : List ℕ) (m : Month) : Type 0 where
@@ -193,7 +211,8 @@ month_is_read text m h =
         let same : month_in text ≡ m = cc in
         let at : IsMonthSpelling text (month_in text) = record {
           month = is_within (month_in text) within;
-          spelled = spelled text (sym (shape_length (codes "dddd-dd") text shape)) shape (is_within (month_in text) within);
+          spelled =
+              spelled text (sym (shape_length (codes "dddd-dd") text shape)) shape (is_within (month_in text) within);
         } in
         subst (λ (k : Month). IsMonthSpelling text k) same at
     by_tests false t shape within h = cc
@@ -204,7 +223,8 @@ pub month_after-zero : (m : Month) → IsMonth m → month_after m 0 ≡ m
 month_after-zero m h =
     same (m.year) (m.month) _ _ (omega (arith, h.month)) (omega (arith, h.month))
   where
-    same : (y k y' k' : ℕ) → y' ≡ y → k' ≡ k → (let a : Month = record { year = y'; month = k' } in let b : Month = record { year = y; month = k } in a ≡ b)
+    same : (y k y' k' : ℕ) → y' ≡ y → k' ≡ k →
+        (let a : Month = record { year = y'; month = k' } in let b : Month = record { year = y; month = k } in a ≡ b)
     same y k y' k' e f = rw (e, f) refl
 
 -- months later add up
@@ -218,7 +238,8 @@ month_after-after m i k =
     place : (n i k : ℕ) → ((n - 1 + i) % 12 + 1 - 1 + k) % 12 + 1 ≡ (n - 1 + (i + k)) % 12 + 1
     place n i k = omega arith
 
-    same : (y n y' n' : ℕ) → y ≡ y' → n ≡ n' → (let a : Month = record { year = y; month = n } in let b : Month = record { year = y'; month = n' } in a ≡ b)
+    same : (y n y' n' : ℕ) → y ≡ y' → n ≡ n' →
+        (let a : Month = record { year = y; month = n } in let b : Month = record { year = y'; month = n' } in a ≡ b)
     same y n y' n' e f = rw (e, f) refl
 
 -- a later month is within the range, if its year is

@@ -1,5 +1,6 @@
 -- Texts of a fixed shape, byte by byte.
-use Rattle.std.proofs.Common.{◌≡◌, ◌≢◌, ℕ, zero, suc, ◌+◌, ◌<◌, ◌≤◌, Bool, true, false, refl, sym, ap, ◌∙◌, arith, List, [], ◌∷◌, ◌++◌, length, take, drop, replicate, get_or, add-one}
+use Rattle.std.proofs.Common.{◌≡◌, ◌≢◌, ℕ, zero, suc, ◌+◌, ◌<◌, ◌≤◌, Bool, true, false, refl, sym, ap, ◌∙◌, arith, List}
+use Rattle.std.proofs.Common.{[], ◌∷◌, ◌++◌, length, take, drop, replicate, get_or, add-one}
 use Rattle.std.specs.Prelude.{◌&&◌, codes, slice_range}
 use Rattle.std.specs.Char.{is_ascii_digit}
 use Rattle.std.specs.Str.{all_ascii_digits}
@@ -29,7 +30,8 @@ other_length ps ts ne = by_test (has_shape ps ts) refl
 
 -- the next byte
 pub shape_step : (ps ts : List ℕ) (i : ℕ) → i < length ps → i < length ts →
-    has_shape (drop i ps) (drop i ts) ≡ (fits_at (get_or ps i 0) (get_or ts i 0) && has_shape (drop (i + 1) ps) (drop (i + 1) ts))
+    has_shape (drop i ps)
+    (drop i ts) ≡ (fits_at (get_or ps i 0) (get_or ts i 0) && has_shape (drop (i + 1) ps) (drop (i + 1) ts))
 unfolding has_shape
 shape_step [] ts i l m = absurd (omega arith)
 shape_step (p ∷ ps) [] i l m = absurd (omega arith)
@@ -51,7 +53,8 @@ shape_rest (p ∷ ps) [] (suc n) h = cc
 shape_rest (p ∷ ps) (t ∷ ts) (suc n) h = shape_rest ps ts n (both (fits_at p t) (has_shape ps ts) h).1
 
 -- digits in front
-digits_front : (n : ℕ) (ps ts : List ℕ) → has_shape (replicate n 100 ++ ps) ts ≡ true → all_ascii_digits (take n ts) ≡ true
+digits_front : (n : ℕ) (ps ts : List ℕ) → has_shape (replicate n 100 ++ ps) ts ≡ true →
+    all_ascii_digits (take n ts) ≡ true
 unfolding has_shape
 digits_front zero ps ts h = refl
 digits_front (suc n) ps [] h = cc
@@ -62,7 +65,8 @@ digits_front (suc n) ps (t ∷ ts) h =
 -- a text has digits where the pattern has `d`
 pub digits_at : (from n : ℕ) (ps qs ts : List ℕ) → has_shape ps ts ≡ true → drop from ps ≡ replicate n 100 ++ qs →
     all_ascii_digits (take n (drop from ts)) ≡ true
-digits_at from n ps qs ts h e = digits_front n qs (drop from ts) (ap (λ xs. has_shape xs (drop from ts)) (sym e) ∙ shape_rest ps ts from h)
+digits_at from n ps qs ts h e =
+    digits_front n qs (drop from ts) (ap (λ xs. has_shape xs (drop from ts)) (sym e) ∙ shape_rest ps ts from h)
 
 -- where a month has its digits
 pub record IsMonthText (text : List ℕ) : Type 0 where

@@ -1,12 +1,14 @@
 -- The value of decimal digits, digit by digit.
-use Rattle.std.proofs.Common.{◌≡◌, refl, ℕ, ◌+◌, ◌-◌, ◌*◌, ◌^◌, ◌<◌, ◌≤◌, true, ◌∙◌, ap, arith, List, [], ◌∷◌, length, take, get_or, take_all}
+use Rattle.std.proofs.Common.{◌≡◌, refl, ℕ, ◌+◌, ◌-◌, ◌*◌, ◌^◌, ◌<◌, ◌≤◌, true, ◌∙◌, ap, arith, List, [], ◌∷◌, length}
+use Rattle.std.proofs.Common.{take, get_or, take_all}
 use Rattle.std.specs.Char.{digit_value, is_ascii_digit}
 use Rattle.std.specs.List.{list_all}
 use Rattle.std.specs.Int.{IsInRange}
 use Rattle.std.specs.Str.{all_ascii_digits}
 use Rattle.std.specs.Str.Parse.{digits_value}
 use Rattle.std.proofs.lemmas.Int.Digits.{digits_value_more}
-use Rattle.std.proofs.lemmas.Str.Parse.{IsNumeralModel, numerals_by_value, tells_all_ascii_digits, digits_value_short, digits_value-take-le, digit_at}
+use Rattle.std.proofs.lemmas.Str.Parse.{IsNumeralModel, numerals_by_value, tells_all_ascii_digits, digits_value_short}
+use Rattle.std.proofs.lemmas.Str.Parse.{digits_value-take-le, digit_at}
 use Rattle.std.proofs.lemmas.Bool.Decides.{nat_tests}
 
 -- std's words on numerals, for texts that pass the test
@@ -39,7 +41,8 @@ next_within ds i value h short l e =
     omega (arith, value_more ds i h l, digits_value-take-le 10 ds (i + 1) (omega arith), value_within ds 19 h short)
 
 -- the whole text at the end
-pub value_whole : (ds : List ℕ) (i value : ℕ) → length ds ≤ i → value ≡ digits_value 10 (take i ds) → value ≡ digits_value 10 ds
+pub value_whole : (ds : List ℕ) (i value : ℕ) → length ds ≤ i → value ≡ digits_value 10 (take i ds) →
+    value ≡ digits_value 10 ds
 value_whole ds i value l e = e ∙ ap (digits_value 10) (take_all i ds l)
 
 -- the test of a text as one of each byte

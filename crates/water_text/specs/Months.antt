@@ -1,5 +1,6 @@
 -- Months from 1800-01 to 2999-12, their spelling and their days.
-use Rattle.std.specs.Prelude.{ℕ, ◌+◌, ◌-◌, ◌/◌, ◌%◌, ◌≤◌, nat_le, Bool, ◌&&◌, List, ◌∷◌, [], ◌++◌, slice_range, codes, Option, Some, None, if◌then◌else◌, ℤ, pos, ◌-ℤ◌, unsigned_abs}
+use Rattle.std.specs.Prelude.{ℕ, ◌+◌, ◌-◌, ◌/◌, ◌%◌, ◌≤◌, nat_le, Bool, ◌&&◌, List, ◌∷◌, [], ◌++◌, slice_range, codes}
+use Rattle.std.specs.Prelude.{Option, Some, None, if◌then◌else◌, ℤ, pos, ◌-ℤ◌, unsigned_abs}
 use Rattle.std.specs.Fmt.{decimal}
 use Rattle.std.specs.Str.Parse.{digits_value}
 use Rattle.jiff_core.specs.Calendar.{days_from_civil}
@@ -18,7 +19,8 @@ is_month m = (nat_le 1800 m.year && nat_le m.year 2999) && (nat_le 1 m.month && 
 -- the month that a text YYYY-MM spells
 unfoldable pub read_month : List ℕ → Option Month
 read_month text =
-    let m : Month = record { year = digits_value 10 (slice_range text 0 4); month = digits_value 10 (slice_range text 5 7) } in
+    let m : Month =
+    record { year = digits_value 10 (slice_range text 0 4); month = digits_value 10 (slice_range text 5 7) } in
     if has_shape (codes "dddd-dd") text && is_month m then Some m else None
 
 -- YYYY-MM

@@ -1,8 +1,11 @@
 -- What a write to some words of a region leaves at a place.
-use Rattle.std.proofs.Common.{◌≡◌, ◌⊎◌, ℕ, ◌+◌, ◌-◌, ◌<◌, ◌≤◌, List, ◌++◌, length, take, drop, get_or, replicate, refl, ap, sym, ◌∙◌, inl, inr, arith}
+use Rattle.std.proofs.Common.{◌≡◌, ◌⊎◌, ℕ, ◌+◌, ◌-◌, ◌<◌, ◌≤◌, List, ◌++◌, length, take, drop, get_or, replicate, refl}
+use Rattle.std.proofs.Common.{ap, sym, ◌∙◌, inl, inr, arith}
 use Rattle.std.specs.Prelude.{Vec, slice_set}
 use Rattle.std.specs.Vec.{with_items_from}
-use Rattle.std.proofs.lemmas.List.{length-append, length-take-le, length-drop, length-replicate, get_or-take, get_or_append_left, take-append-le, take-take, take-set-le, take_at, drop_at, drop-drop, drop-set-lt, drop-set-add}
+use Rattle.std.proofs.lemmas.List.{length-append, length-take-le, length-drop, length-replicate, get_or-take}
+use Rattle.std.proofs.lemmas.List.{get_or_append_left, take-append-le, take-take, take-set-le, take_at, drop_at}
+use Rattle.std.proofs.lemmas.List.{drop-drop, drop-set-lt, drop-set-add}
 use Rattle.std.proofs.lemmas.List.Edits.{length-between, get_or-between}
 use Rattle.std.proofs.lemmas.Slice.{between_is}
 use Rattle.std.proofs.Math.Seq.{take-set-lt}

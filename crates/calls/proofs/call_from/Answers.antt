@@ -13,7 +13,9 @@ returns-in-Some-clause-given c = λ n below.
     let m = c.args.month.now in
     let right = c.args.right in
     c.claim.ensures.given n below
-    ∙ turn_gives (nat_lt (slice_index m.delivered right) (slice_index m.want right)) (option_map_or (λ set. has set n) (cut_of m right) false)
+    ∙ turn_gives (nat_lt (slice_index m.delivered right) (slice_index m.want right))
+    (option_map_or (λ set. has set n) (cut_of m right) false)
     right (caller_at c.args.callers.now n) (is_marked c.args.free.now n) (is_marked c.in-Some.set.now n)
     (c.requires.free n below) (sym c.is_short.ensures ∙ c.if-not-is_short.false)
-    (set_holds m.cuts.nodes n c.in-Some.set.now (cut_of m right) c.in-Some.ensures.set (omega (arith, below, c.requires.nodes)))
+    (set_holds m.cuts.nodes n c.in-Some.set.now (cut_of m right) c.in-Some.ensures.set
+    (omega (arith, below, c.requires.nodes)))

@@ -17,7 +17,8 @@ loop-right-init c = record {
   each = none_yet c.len-nodes.result (omega (arith, c.len-nodes.ensures, c.requires.basin.few.nodes));
 }
 
-in_range : (c : goal.After-row_known-1) → get_or c.by_seniority-right-items.result.now c.loop-right.right-index 0 < length c.args.basin.now.rights
+in_range : (c : goal.After-row_known-1) →
+    get_or c.by_seniority-right-items.result.now c.loop-right.right-index 0 < length c.args.basin.now.rights
 in_range c =
     order_in_range c.args.basin.now.rights c.by_seniority-right-items.result.now c.loop-right.right-index
     (c.by_seniority-right-items.ensures ∙ c.requires.roll.order) c.loop-right-test.true
@@ -46,7 +47,8 @@ loop-right-preserved c =
       each = λ n below.
           let short : ℕ → Bool = λ right. is_short_at c.args.month.now right n in
           c.call_from.ensures.given n below
-          ∙ ap (λ (so_far : Option ℕ). option_or so_far (if short (get_or order i 0) then Some (get_or order i 0) else None))
+          ∙ ap (λ (so_far : Option ℕ). option_or so_far
+          (if short (get_or order i 0) then Some (get_or order i 0) else None))
           (c.loop-right.invariant.each n below ∙ ap (λ (rights : List ℕ). find short (take i rights)) (sym is))
           ∙ find_more short order i c.loop-right-test.true
           ∙ ap (λ (rights : List ℕ). find short (take (i + 1) rights)) is;
@@ -54,11 +56,13 @@ loop-right-preserved c =
 
 pub returns : goal.returns
 returns c =
-    let is : c.by_seniority-right-items.result.now ≡ seniors_first c.args.basin.now = c.by_seniority-right-items.ensures ∙ c.requires.roll.order in
+    let is : c.by_seniority-right-items.result.now ≡ seniors_first c.args.basin.now =
+    c.by_seniority-right-items.ensures ∙ c.requires.roll.order in
     record {
       enough = omega (arith, c.loop-right.invariant.count, c.requires.basin.few.nodes);
       each = λ n below.
           c.loop-right.invariant.each n (omega (arith, below, c.len-nodes.ensures))
           ∙ ap (find (λ right. is_short_at c.args.month.now right n))
-          (take_all c.loop-right.right-index (seniors_first c.args.basin.now) (omega (arith, ap length is, c.loop-right-test.false)));
+          (take_all c.loop-right.right-index (seniors_first c.args.basin.now)
+          (omega (arith, ap length is, c.loop-right-test.false)));
     }

@@ -9,5 +9,6 @@ invariant-loop-right l = record {
   count : length l.callers ≡ 2000;
   words : length l.free ≡ 32;
   free : AreFree l.nodes l.callers l.free;
-  each : (n : ℕ) → n < l.nodes → caller_at l.callers n ≡ find (λ c. is_short_at l.month c n) (take l.right-index (seniors_first l.basin));
+  each : (n : ℕ) → n < l.nodes →
+      caller_at l.callers n ≡ find (λ c. is_short_at l.month c n) (take l.right-index (seniors_first l.basin));
 }

@@ -16,22 +16,29 @@ loop-turn-preserved c =
     record {
       turns = omega (arith, c.loop-turn.invariant.turns, next.after);
       within = omega (arith, next.below);
-      claimed = claims_next c.args.nodes c.args.right c.loop-turn.from c.in-Some.node c.args.set.now c.args.callers.now c.loop-turn.callers
+      claimed =
+          claims_next c.args.nodes c.args.right c.loop-turn.from c.in-Some.node c.args.set.now c.args.callers.now
+          c.loop-turn.callers
           c.args.free.now c.loop-turn.free c.unmark.new.words c.loop-turn.invariant.claimed next
-          (omega (arith, next.below, c.loop-turn.auto.callers, c.requires.callers)) c.unmark.ensures.on c.unmark.ensures.off;
+          (omega (arith, next.below, c.loop-turn.auto.callers, c.requires.callers)) c.unmark.ensures.on
+          c.unmark.ensures.off;
     }
 
 pub returns-in-None-clause-given : goal.returns-in-None-clause-given
 returns-in-None-clause-given c = λ n below. elim (cases_lt n c.loop-turn.from) [
   | inl early ↦ c.loop-turn.invariant.claimed.given n early below
-  | inr late ↦ (unclaimed c.args.nodes c.args.right c.loop-turn.from c.args.set.now c.args.callers.now c.loop-turn.callers c.args.free.now c.loop-turn.free
+  | inr late ↦
+      (unclaimed c.args.nodes c.args.right c.loop-turn.from c.args.set.now c.args.callers.now c.loop-turn.callers
+      c.args.free.now c.loop-turn.free
       c.loop-turn.invariant.claimed n late (c.in-None.ensures.none n late below)).0
 ]
 
 pub returns-in-None-clause-left : goal.returns-in-None-clause-left
 returns-in-None-clause-left c = λ n below. elim (cases_lt n c.loop-turn.from) [
   | inl early ↦ c.loop-turn.invariant.claimed.left n early below
-  | inr late ↦ (unclaimed c.args.nodes c.args.right c.loop-turn.from c.args.set.now c.args.callers.now c.loop-turn.callers c.args.free.now c.loop-turn.free
+  | inr late ↦
+      (unclaimed c.args.nodes c.args.right c.loop-turn.from c.args.set.now c.args.callers.now c.loop-turn.callers
+      c.args.free.now c.loop-turn.free
       c.loop-turn.invariant.claimed n late (c.in-None.ensures.none n late below)).1
 ]
 

@@ -14,8 +14,10 @@ overflow_add-sum c =
       c.loop-taker.invariant,
       c.requires.basin.few.rights,
       next_fits c.loop-taker.taker (length c.args.basin.now.rights) (10 ^ 9)
-          (λ s. takes_within c.args.basin.now (cut_at c.args.cuts.now c.args.right) s && is_senior c.args.basin.now s c.args.right)
-          (λ s. slice_index c.args.delivered.now s) within (λ s l. entry_most c.args.delivered.now (10 ^ 9) s c.requires.most),
+          (λ s. takes_within c.args.basin.now (cut_at c.args.cuts.now c.args.right) s && is_senior c.args.basin.now s
+          c.args.right)
+          (λ s. slice_index c.args.delivered.now s) within
+          (λ s l. entry_most c.args.delivered.now (10 ^ 9) s c.requires.most),
     )
 
 pub returns-clause-small : goal.returns-clause-small
@@ -26,6 +28,7 @@ returns-clause-small c =
       rw all at c.loop-taker.invariant,
       c.requires.basin.few.rights,
       all_most (length c.args.basin.now.rights) (10 ^ 9)
-          (λ s. takes_within c.args.basin.now (cut_at c.args.cuts.now c.args.right) s && is_senior c.args.basin.now s c.args.right)
+          (λ s. takes_within c.args.basin.now (cut_at c.args.cuts.now c.args.right) s && is_senior c.args.basin.now s
+          c.args.right)
           (λ s. slice_index c.args.delivered.now s) (λ s l. entry_most c.args.delivered.now (10 ^ 9) s c.requires.most),
     )

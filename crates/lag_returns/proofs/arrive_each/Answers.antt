@@ -14,7 +14,8 @@ loop-flow-init c = record {
 
 pub arrive-requires-clause-node : goal.arrive-requires-clause-node
 arrive-requires-clause-node c =
-    let n = row_at (λ row. row.node < length c.args.into.now) c.args.flows.now c.loop-flow.flow-index c.flow-item.result c.requires.nodes c.loop-flow-test.true c.flow-item.is in
+    let n = row_at (λ row. row.node < length c.args.into.now) c.args.flows.now c.loop-flow.flow-index c.flow-item.result
+    c.requires.nodes c.loop-flow-test.true c.flow-item.is in
     omega arith
 
 pub loop-flow-preserved : goal.loop-flow-preserved
@@ -22,7 +23,8 @@ loop-flow-preserved c = record {
   places = omega (arith, c.arrive.auto.into);
   added = λ n l.
       ap (λ xs. get_or xs n 0) c.arrive.ensures.adds
-      ∙ one_row_more c.args.flows.now c.loop-flow.flow-index c.flow-item.result c.loop-flow.into n (get_or c.args.into.now n 0)
+      ∙ one_row_more c.args.flows.now c.loop-flow.flow-index c.flow-item.result c.loop-flow.into n
+      (get_or c.args.into.now n 0)
       c.loop-flow-test.true c.flow-item.is node (c.loop-flow.invariant.added n (omega (arith, c.arrive.auto.into)));
   small = λ n l. omega (
     arith,
@@ -34,5 +36,6 @@ loop-flow-preserved c = record {
   where
     node : c.flow-item.result.row.node < length c.loop-flow.into
     node =
-        let n = row_at (λ row. row.node < length c.args.into.now) c.args.flows.now c.loop-flow.flow-index c.flow-item.result c.requires.nodes c.loop-flow-test.true c.flow-item.is in
+        let n = row_at (λ row. row.node < length c.args.into.now) c.args.flows.now c.loop-flow.flow-index
+        c.flow-item.result c.requires.nodes c.loop-flow-test.true c.flow-item.is in
         omega arith

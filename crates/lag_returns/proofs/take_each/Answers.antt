@@ -9,18 +9,24 @@ pub bounds-delivered-right : goal.bounds-delivered-right
 bounds-delivered-right c =
     let here : c.loop-flow.flow-index < length c.args.flows.now = omega arith in
     subst (λ w. w.row.right < length c.args.delivered.now)
-    (sym (c.flow.view_is ∙ unchanged (after_month c.args.delivered.now) c.loop-flow.flows c.args.flows.now c.loop-flow.flow-index c.flow-item.result here c.loop-flow.invariant))
-    (of_row (λ row. row.right < length c.args.delivered.now) c.args.flows.now c.requires.rights c.loop-flow.flow-index c.flow-item.result here)
+    (sym (c.flow.view_is ∙ unchanged (after_month c.args.delivered.now) c.loop-flow.flows c.args.flows.now
+    c.loop-flow.flow-index c.flow-item.result here c.loop-flow.invariant))
+    (of_row (λ row. row.right < length c.args.delivered.now) c.args.flows.now c.requires.rights c.loop-flow.flow-index
+    c.flow-item.result here)
 
 pub loop-flow-preserved : goal.loop-flow-preserved
 loop-flow-preserved c =
     let here : c.loop-flow.flow-index < length c.args.flows.now = omega arith in
     subst
-    (λ x. set c.loop-flow.flows c.loop-flow.flow-index x ≡ map (after_month c.args.delivered.now) (take (c.loop-flow.flow-index + 1) c.args.flows.now) ++ drop (c.loop-flow.flow-index + 1) c.args.flows.now)
+    (λ x. set c.loop-flow.flows c.loop-flow.flow-index x ≡ map (after_month c.args.delivered.now)
+    (take (c.loop-flow.flow-index + 1) c.args.flows.now) ++ drop (c.loop-flow.flow-index + 1) c.args.flows.now)
     (sym changed)
-    (map_over_more (after_month c.args.delivered.now) c.args.flows.now c.loop-flow.flows c.loop-flow.flow-index c.flow-item.result here c.loop-flow.invariant c.flow-item.is)
+    (map_over_more (after_month c.args.delivered.now) c.args.flows.now c.loop-flow.flows c.loop-flow.flow-index
+    c.flow-item.result here c.loop-flow.invariant c.flow-item.is)
   where
     changed : c.take.new.self ≡ after_month c.args.delivered.now c.flow-item.result
     changed =
-        c.take.ensures ∙ ap (λ w. with_delivery (get_or c.args.delivered.now c.flow.inside.row.right 0) w) (sym c.flow-item.is)
-        ∙ ap (λ r. with_delivery (get_or c.args.delivered.now r 0) c.flow-item.result) (ap (λ w. w.row.right) (c.flow.view_is ∙ sym c.flow-item.is))
+        c.take.ensures ∙ ap (λ w. with_delivery (get_or c.args.delivered.now c.flow.inside.row.right 0) w)
+        (sym c.flow-item.is)
+        ∙ ap (λ r. with_delivery (get_or c.args.delivered.now r 0) c.flow-item.result)
+        (ap (λ w. w.row.right) (c.flow.view_is ∙ sym c.flow-item.is))

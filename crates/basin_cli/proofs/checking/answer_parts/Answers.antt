@@ -8,9 +8,11 @@ pub returns-then-count-eq0-clause-answer : goal.returns-then-count-eq0-clause-an
 returns-then-count-eq0-clause-answer g c =
     let i = c.loop-count.invariant in
     rw (i.basin, i.series) at
-    (finished_whole (g.S.Shelf.told c.args.shelf.now c.args.name.now) c.loop-count.checker c.loop-count.from c.in-Ok.count
+    (finished_whole (g.S.Shelf.told c.args.shelf.now c.args.name.now) c.loop-count.checker c.loop-count.from
+    c.in-Ok.count
     c.loop-count.part c.read_part.new.into c.finish.result c.if-count-eq0.true (omega (arith, i.part)) i.fed
-    (subst (λ (told : Option (List ℕ)). IfSome told (λ whole. IsPart whole c.loop-count.from c.loop-count.part c.read_part.new.into c.in-Ok.count))
+    (subst (λ (told : Option (List ℕ)). IfSome told
+    (λ whole. IsPart whole c.loop-count.from c.loop-count.part c.read_part.new.into c.in-Ok.count))
     (i.same.told c.args.name.now) c.in-Ok.ensures.part.1)
     c.finish.ensures)
 
@@ -18,9 +20,11 @@ pub returns-in-Err-feed-clause-answer : goal.returns-in-Err-feed-clause-answer
 returns-in-Err-feed-clause-answer g c =
     let i = c.loop-count.invariant in
     rw (i.basin, i.series) at
-    (refused_whole (g.S.Shelf.told c.args.shelf.now c.args.name.now) c.loop-count.checker c.loop-count.from c.in-Ok.count
+    (refused_whole (g.S.Shelf.told c.args.shelf.now c.args.name.now) c.loop-count.checker c.loop-count.from
+    c.in-Ok.count
     c.loop-count.part c.read_part.new.into c.in-Err-feed.refuted i.fed
-    (subst (λ (told : Option (List ℕ)). IfSome told (λ whole. IsPart whole c.loop-count.from c.loop-count.part c.read_part.new.into c.in-Ok.count))
+    (subst (λ (told : Option (List ℕ)). IfSome told
+    (λ whole. IsPart whole c.loop-count.from c.loop-count.part c.read_part.new.into c.in-Ok.count))
     (i.same.told c.args.name.now) c.in-Ok.ensures.part.1)
     c.in-Err-feed.ensures.refused)
 
@@ -36,9 +40,11 @@ loop-count-preserved g c =
       };
       later = omega (arith, i.later, read.cause.later);
       part = read.length ∙ i.part;
-      fed = next_fed (g.S.Shelf.told c.args.shelf.now c.args.name.now) c.loop-count.checker c.feed.new.self c.loop-count.from
+      fed = next_fed (g.S.Shelf.told c.args.shelf.now c.args.name.now) c.loop-count.checker c.feed.new.self
+          c.loop-count.from
           c.in-Ok.count c.loop-count.part c.read_part.new.into (omega (arith, c.if-count-eq0.false)) i.fed
-          (subst (λ (told : Option (List ℕ)). IfSome told (λ whole. IsPart whole c.loop-count.from c.loop-count.part c.read_part.new.into c.in-Ok.count))
+          (subst (λ (told : Option (List ℕ)). IfSome told
+          (λ whole. IsPart whole c.loop-count.from c.loop-count.part c.read_part.new.into c.in-Ok.count))
           (i.same.told c.args.name.now) read.part.1)
           fed.stands;
       good = fed.good;

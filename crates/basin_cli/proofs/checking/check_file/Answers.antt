@@ -15,7 +15,8 @@ pub returns-in-Ok-answer_parts-clause-leaves : goal.returns-in-Ok-answer_parts-c
 returns-in-Ok-answer_parts-clause-leaves g c =
     let opened = c.in-Ok.ensures in
     answer_leaves c.args.basin.now c.args.series.now (g.S.Shelf.told c.args.shelf.now c.args.name.now)
-    c.in-Ok-answer_parts.answer c.tell_answer.result (g.K.Sink.taken c.args.out.now) (g.K.Sink.taken c.tell_answer.new.out)
+    c.in-Ok-answer_parts.answer c.tell_answer.result (g.K.Sink.taken c.args.out.now)
+    (g.K.Sink.taken c.tell_answer.new.out)
     (rw (opened.basin, opened.series) at c.in-Ok-answer_parts.ensures.answer) c.tell_answer.ensures.leaves
 
 pub returns-in-Ok-answer_parts-clause-out_stays : goal.returns-in-Ok-answer_parts-clause-out_stays

@@ -6,6 +6,7 @@ use Rattle.basin_cli.proofs.explaining.put_answer.Goals as goal
 pub returns-then-is_short-clause-text : goal.returns-then-is_short-clause-text
 returns-then-is_short-clause-text g c = (
   book_bytes c.args.basin.now c.args.month.now c.args.right (cut_at c.args.month.now.cuts c.args.right),
-  short_explained c.args.basin.now c.args.month.now c.args.right c.requires.reaches c.requires.right (c.is_short.ensures.0 c.if-is_short.true),
+  short_explained c.args.basin.now c.args.month.now c.args.right c.requires.reaches c.requires.right
+      (c.is_short.ensures.0 c.if-is_short.true),
   c.put_book.ensures.text,
 )

@@ -15,7 +15,8 @@ returns-in-Ok-Ok c =
     } in
     accepted_found c.args.basin.now c.args.series.now c.args.text.now c.in-Ok.basin c.in-Ok-accept_series.series
     c.in-Ok-Ok.field-0-0
-    (faultless c.args.basin.now c.args.series.now c.in-Ok.basin c.in-Ok-accept_series.series c.in-Ok.ensures.sound spelled
+    (faultless c.args.basin.now c.args.series.now c.in-Ok.basin c.in-Ok-accept_series.series c.in-Ok.ensures.sound
+    spelled
     c.in-Ok-accept_series.ensures.sound)
     spelled
     (subst (λ answer. IsAnswer c.in-Ok.basin answer
@@ -32,7 +33,8 @@ returns-in-Ok-Err c =
     } in
     refuted_found c.args.basin.now c.args.series.now c.args.text.now c.in-Ok.basin c.in-Ok-accept_series.series
     c.in-Ok-Err.field-0-0
-    (faultless c.args.basin.now c.args.series.now c.in-Ok.basin c.in-Ok-accept_series.series c.in-Ok.ensures.sound spelled
+    (faultless c.args.basin.now c.args.series.now c.in-Ok.basin c.in-Ok-accept_series.series c.in-Ok.ensures.sound
+    spelled
     c.in-Ok-accept_series.ensures.sound)
     spelled
     (subst (λ answer. IsAnswer c.in-Ok.basin answer

@@ -9,13 +9,17 @@ returns-clause-ends g c = record {
   cause = c.decide-ending.ensures.cause;
   tells = elim c.if-is_told.branch [
     | then-is_told w ↦ rw w.err-is w.tell.ensures.tells
-    | else-is_told w ↦ rw w.err-is (quiet c.decide-ending.result (g.E.Sink.taken c.args.err.now) (g.E.Sink.faults c.args.err.now) (λ told. told_not w.if-is_told.false (c.is_told.ensures.1 told)))
+    | else-is_told w ↦
+        rw w.err-is
+        (quiet c.decide-ending.result (g.E.Sink.taken c.args.err.now) (g.E.Sink.faults c.args.err.now)
+        (λ told. told_not w.if-is_told.false (c.is_told.ensures.1 told)))
   ];
 }
 
 pub returns-clause-complete : goal.returns-clause-complete
 returns-clause-complete g c =
-    rw c.status.ensures (completes _ c.decide-ending.result (g.S.Shelf.told c.args.shelf.now) _ _ c.decide-ending.ensures.cause)
+    rw c.status.ensures (completes _ c.decide-ending.result (g.S.Shelf.told c.args.shelf.now) _ _
+    c.decide-ending.ensures.cause)
 
 pub returns-clause-out_stays : goal.returns-clause-out_stays
 returns-clause-out_stays g c = rw c.status.ensures c.decide-ending.ensures.out_stays

@@ -6,7 +6,8 @@ use Rattle.basin_cli.proofs.writing.write_run.Goals as goal
 pub returns-in_err-put_head-clause-stops : goal.returns-in_err-put_head-clause-stops
 returns-in_err-put_head-clause-stops g c =
     stopped c.from_residual.result _
-    (rw c.requires.1.1.1.1.1.1 (head_stops c.args.basin.now c.args.run.now.series c.args.run.now (g.K.Sink.taken c.args.out.now)
+    (rw c.requires.1.1.1.1.1.1
+    (head_stops c.args.basin.now c.args.run.now.series c.args.run.now (g.K.Sink.taken c.args.out.now)
     (g.K.Sink.taken c.put_head.new.sink) c.args.searches.now c.requires.1.1.1.1.0 refl c.requires.1.1.1.1.1.0
     c.in_err-put_head.ensures.text))
 
@@ -22,7 +23,8 @@ write_months-requires g c = λ lifetimes lives. (
         (
           c.requires.1.1.1.1.1.0.done,
           rw c.requires.1.1.1.1.1.1 (head_written c.args.basin.now c.args.run.now (g.K.Sink.taken c.args.out.now)
-              (g.K.Sink.taken c.put_head.new.sink) c.requires.1.1.1.1.0 c.requires.1.1.1.1.1.0 c.in_ok-put_head.ensures.text),
+              (g.K.Sink.taken c.put_head.new.sink) c.requires.1.1.1.1.0 c.requires.1.1.1.1.1.0
+              c.in_ok-put_head.ensures.text),
         ),
       ),
     ),
@@ -42,7 +44,8 @@ returns-clause-written g c =
     (tail_put c.args.basin.now c.args.run.now.series c.write_months.new.run g.start
     (g.K.Sink.taken c.write_months.new.out) (g.K.Sink.taken c.flush.new.self) c.flush.result c.args.searches.now
     c.write_months.new.searches c.requires.1.1.0 c.in_ok-write_months.ensures.series c.in_ok-write_months.ensures.done
-    c.in_ok-write_months.ensures.written (puts_kept (g.K.Sink.taken c.write_months.new.out) (g.K.Sink.taken c.put_tail.new.sink)
+    c.in_ok-write_months.ensures.written
+    (puts_kept (g.K.Sink.taken c.write_months.new.out) (g.K.Sink.taken c.put_tail.new.sink)
     (g.K.Sink.taken c.flush.new.self) c.flush.result _ c.in_ok-put_tail.ensures.text c.flush.ensures.bytes)
     c.in_ok-write_months.ensures.pushes).0
 
@@ -51,6 +54,7 @@ returns-clause-stops g c =
     (tail_put c.args.basin.now c.args.run.now.series c.write_months.new.run g.start
     (g.K.Sink.taken c.write_months.new.out) (g.K.Sink.taken c.flush.new.self) c.flush.result c.args.searches.now
     c.write_months.new.searches c.requires.1.1.0 c.in_ok-write_months.ensures.series c.in_ok-write_months.ensures.done
-    c.in_ok-write_months.ensures.written (puts_kept (g.K.Sink.taken c.write_months.new.out) (g.K.Sink.taken c.put_tail.new.sink)
+    c.in_ok-write_months.ensures.written
+    (puts_kept (g.K.Sink.taken c.write_months.new.out) (g.K.Sink.taken c.put_tail.new.sink)
     (g.K.Sink.taken c.flush.new.self) c.flush.result _ c.in_ok-put_tail.ensures.text c.flush.ensures.bytes)
     c.in_ok-write_months.ensures.pushes).1

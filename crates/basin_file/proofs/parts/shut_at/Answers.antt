@@ -10,5 +10,7 @@ use Rattle.basin_file.proofs.parts.shut_at.Goals as goal
 pub returns : goal.returns
 unfolding shut_of
 returns c =
-    fill_by_all (λ i. option_map_or (lists_month (i + 1)) (get_member (codes "closed") (table_view c.args.row.now)) false) c.loop-i.shut 12 false c.loop-i.invariant.0
+    fill_by_all
+    (λ i. option_map_or (lists_month (i + 1)) (get_member (codes "closed") (table_view c.args.row.now)) false)
+    c.loop-i.shut 12 false c.loop-i.invariant.0
     (λ k h. c.loop-i.invariant.1 k (omega arith))

@@ -8,4 +8,6 @@ use Rattle.basin_file.proofs.parts.shut_at.Given as goal
 
 abbrev pub invariant-loop-i : goal.invariant-loop-i
 invariant-loop-i l = (length l.shut ≡ 12)
-    × ((k : ℕ) → k < l.i → get_or l.shut k false ≡ option_map_or (lists_month (k + 1)) (get_member (codes "closed") (table_view l.row)) false)
+    × ((k : ℕ) → k < l.i →
+    get_or l.shut k false ≡ option_map_or (lists_month (k + 1)) (get_member (codes "closed") (table_view l.row))
+    false)

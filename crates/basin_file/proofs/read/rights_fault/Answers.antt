@@ -4,4 +4,5 @@ use Rattle.basin_file.proofs.read.rights_fault.Goals as goal
 
 pub returns-in-Some-clause-first : goal.returns-in-Some-clause-first
 returns-in-Some-clause-first c =
-    roll_found c.args.basin.now.rights c.args.basin.now.returns c.in-Err.e c.in-Some.finding (search rules) (search rules)
+    roll_found c.args.basin.now.rights c.args.basin.now.returns c.in-Err.e c.in-Some.finding (search rules)
+    (search rules)

@@ -10,7 +10,8 @@ use Rattle.basin_file.proofs.upgrade.put_list.Goals as goal
 pub returns : goal.returns
 returns c =
     subst (λ (ms : Members). OnOk c.put.result (table_view c.put.new.row ≡ ms))
-    (ap (λ d. with_member c.args.key.now d (table_view c.args.row.now)) (view-Array c.args.list) ∙ listed-put c.args.key.now c.args.list.items (table_view c.args.row.now) some)
+    (ap (λ d. with_member c.args.key.now d (table_view c.args.row.now)) (view-Array c.args.list)
+    ∙ listed-put c.args.key.now c.args.list.items (table_view c.args.row.now) some)
     c.put.ensures
   where
     some : (length c.args.list.items == 0) ≡ false

@@ -14,11 +14,17 @@ use Rattle.basin_file.proofs.upgrade.upgraded.Goals as goal
 pub returns-in-Ok : goal.returns-in-Ok
 returns-in-Ok c =
     let read =
-    read_back c.args.basin.now (string_bytes c.in-Ok.text) (table_view c.in_ok-table.table) c.in_ok-table.ensures (IsUtf8-string_bytes c.in-Ok.text)
+    read_back c.args.basin.now (string_bytes c.in-Ok.text) (table_view c.in_ok-table.table)
+    c.in_ok-table.ensures (IsUtf8-string_bytes c.in-Ok.text)
     c.in-Ok.ensures.reads_back in
     record {
       table = read;
-      spells = record { tree = basin_table c.args.basin.now; document = read; basin_is = sym (table_spells c.args.basin.now c.requires) };
+      spells = record {
+        tree = basin_table c.args.basin.now;
+        document = read;
+        basin_is =
+            sym (table_spells c.args.basin.now c.requires);
+      };
       sound = ap (λ (o : Option Members). document_fault o) read ∙ table_is_sound c.args.basin.now c.requires;
     }
 

@@ -10,8 +10,10 @@ loop-j-init c = (none_behind _ _, sym (later_none _))
 
 pub loop-j-preserved : goal.loop-j-preserved
 loop-j-preserved c = (
-  pushed_behind _ c.loop-j.j c.args.links.now.items c.loop-j.links.items c.push.new.self.items c.canal.result c.loop-j.invariant.0
-      (c.canal.ensures.value ∙ ap (λ x. canal_at c.args.size (4 * c.loop-j.j + 1) x) c.loop-j.invariant.1) c.in_ok-push.ensures.items,
+  pushed_behind _ c.loop-j.j c.args.links.now.items c.loop-j.links.items c.push.new.self.items c.canal.result
+      c.loop-j.invariant.0
+      (c.canal.ensures.value ∙ ap (λ x. canal_at c.args.size (4 * c.loop-j.j + 1) x) c.loop-j.invariant.1)
+      c.in_ok-push.ensures.items,
   c.canal.ensures.after ∙ ap (λ x. next (next x)) c.loop-j.invariant.1 ∙ later_two c.args.draws.now.state c.loop-j.j,
 )
 

@@ -11,8 +11,10 @@ loop-i-init c = (c.new-nodes.ensures.items ∙ sym (list_of_none _), sym (later_
 pub loop-i-preserved : goal.loop-i-preserved
 loop-i-preserved c = (
   pushed _ c.loop-i.i c.loop-i.nodes.items c.push.new.self.items c.node.result c.loop-i.invariant.0
-      (c.node.ensures.value ∙ ap (λ x. node_at c.args.size c.loop-i.i x) c.loop-i.invariant.1) c.in_ok-push.ensures.items,
-  c.node.ensures.after ∙ ap (λ x. later x (draws_of_node c.loop-i.i)) c.loop-i.invariant.1 ∙ node_draws c.args.draws.now.state c.loop-i.i,
+      (c.node.ensures.value ∙ ap (λ x. node_at c.args.size c.loop-i.i x) c.loop-i.invariant.1)
+      c.in_ok-push.ensures.items,
+  c.node.ensures.after ∙ ap (λ x. later x (draws_of_node c.loop-i.i)) c.loop-i.invariant.1
+      ∙ node_draws c.args.draws.now.state c.loop-i.i,
 )
 
 pub returns-clause-value : goal.returns-clause-value

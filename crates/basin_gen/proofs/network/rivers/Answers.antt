@@ -11,7 +11,8 @@ loop-i-init c = (c.new-rivers.ensures.items ∙ sym (list_of_none _), sym (later
 pub loop-i-preserved : goal.loop-i-preserved
 loop-i-preserved c = (
   pushed _ c.loop-i.i c.loop-i.rivers.items c.push.new.self.items c.river.result c.loop-i.invariant.0
-      (c.river.ensures.value ∙ ap (λ x. river_at c.args.size c.loop-i.i x) c.loop-i.invariant.1) c.in_ok-push.ensures.items,
+      (c.river.ensures.value ∙ ap (λ x. river_at c.args.size c.loop-i.i x) c.loop-i.invariant.1)
+      c.in_ok-push.ensures.items,
   c.river.ensures.after ∙ ap next c.loop-i.invariant.1 ∙ sym (later_more c.args.draws.now.state c.loop-i.i),
 )
 

@@ -11,8 +11,10 @@ loop-j-init c = (c.new-reservoirs.ensures.items ∙ sym (list_of_none _), sym (l
 pub loop-j-preserved : goal.loop-j-preserved
 loop-j-preserved c = (
   pushed _ c.loop-j.j c.loop-j.reservoirs.items c.push.new.self.items c.in_ok-reservoir.reservoir c.loop-j.invariant.0
-      (c.in_ok-reservoir.ensures.value ∙ ap (λ x. reservoir_at (40 * c.loop-j.j + 20) x) c.loop-j.invariant.1) c.in_ok-push.ensures.items,
-  c.in_ok-reservoir.ensures.after ∙ ap (λ x. next (next x)) c.loop-j.invariant.1 ∙ later_two c.args.draws.now.state c.loop-j.j,
+      (c.in_ok-reservoir.ensures.value ∙ ap (λ x. reservoir_at (40 * c.loop-j.j + 20) x) c.loop-j.invariant.1)
+      c.in_ok-push.ensures.items,
+  c.in_ok-reservoir.ensures.after ∙ ap (λ x. next (next x)) c.loop-j.invariant.1
+      ∙ later_two c.args.draws.now.state c.loop-j.j,
 )
 
 pub returns-clause-value : goal.returns-clause-value

@@ -8,4 +8,5 @@ use Rattle.basin_names.proofs.rights.places_of.Given as goal
 -- the place that a name has, and else that of the first right behind
 abbrev pub invariant-loop-i : goal.invariant-loop-i
 invariant-loop-i l = (name : List ℕ) →
-    option_or (place_at l.places name) (first_from (λ x. bytes_eq name x.name) l.i (drop l.i l.rights)) ≡ first_from (λ x. bytes_eq name x.name) 0 l.rights
+    option_or (place_at l.places name) (first_from (λ x. bytes_eq name x.name) l.i (drop l.i l.rights)) ≡ first_from
+    (λ x. bytes_eq name x.name) 0 l.rights

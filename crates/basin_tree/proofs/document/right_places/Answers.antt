@@ -5,4 +5,6 @@ use Rattle.basin_tree.proofs.document.right_places.Goals as goal
 
 pub returns : goal.returns
 returns c = λ q. rw (← c.listed_at-diversions.ensures, ← c.listed_at-instreams.ensures, ← c.listed_at-zones.ensures)
-    (in_three (is_the_text q) (codes "name") c.listed_at-diversions.result.now c.listed_at-instreams.result.now c.listed_at-zones.result.now _ _ _ (c.in_ok-places.ensures q) (c.in_ok-add_places.ensures q) (c.in_ok-add_places-2.ensures q))
+    (in_three (is_the_text q) (codes "name") c.listed_at-diversions.result.now c.listed_at-instreams.result.now
+    c.listed_at-zones.result.now _ _ _ (c.in_ok-places.ensures q) (c.in_ok-add_places.ensures q)
+    (c.in_ok-add_places-2.ensures q))

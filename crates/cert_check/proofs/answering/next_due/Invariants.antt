@@ -3,4 +3,5 @@ use Rattle.cert_check.specs.Keeping.{callers_of}
 use Rattle.cert_check.proofs.answering.next_due.Given as goal
 
 abbrev pub invariant-loop-place : goal.invariant-loop-place
-invariant-loop-place l = callers_of l.basin l.month (take l.place l.order) ≡ callers_of l.basin l.month (take l.from l.order)
+invariant-loop-place l =
+    callers_of l.basin l.month (take l.place l.order) ≡ callers_of l.basin l.month (take l.from l.order)

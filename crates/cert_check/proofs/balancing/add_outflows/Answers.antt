@@ -10,24 +10,38 @@ loop-link-init c = λ n. nothing_yet (λ e. tail_of c.args.basin.now e == n) (λ
 
 pub add_at-requires-clause-place : goal.add_at-requires-clause-place
 add_at-requires-clause-place c =
-    let end : tail_of c.args.basin.now c.loop-link.link ≡ c.index.result.now.from = ap (λ o. unwrap_or (option_map (λ l. l.from) o) 0) c.index.ensures in
-    let below : c.loop-link.link < length c.args.basin.now.links = omega (arith, c.loop-link-test.true, c.len-link-end.ensures) in
-    omega (arith, end, (ends c.args.basin.now c.requires.basin c.loop-link.link below).0, c.loop-link.auto.out_of, c.requires.out_of)
+    let end : tail_of c.args.basin.now c.loop-link.link ≡ c.index.result.now.from =
+    ap (λ o. unwrap_or (option_map (λ l. l.from) o) 0) c.index.ensures in
+    let below : c.loop-link.link < length c.args.basin.now.links =
+    omega (arith, c.loop-link-test.true, c.len-link-end.ensures) in
+    omega (
+      arith,
+      end,
+      (ends c.args.basin.now c.requires.basin c.loop-link.link below).0,
+      c.loop-link.auto.out_of,
+      c.requires.out_of,
+    )
 
 pub add_at-requires-clause-small : goal.add_at-requires-clause-small
 add_at-requires-clause-small c =
-    let end : tail_of c.args.basin.now c.loop-link.link ≡ c.index.result.now.from = ap (λ o. unwrap_or (option_map (λ l. l.from) o) 0) c.index.ensures in
-    let below : c.loop-link.link < length c.args.basin.now.links = omega (arith, c.loop-link-test.true, c.len-link-end.ensures) in
-    let within : c.index.result.now.from < length c.args.basin.now.nodes = omega (arith, end, (ends c.args.basin.now c.requires.basin c.loop-link.link below).0) in
+    let end : tail_of c.args.basin.now c.loop-link.link ≡ c.index.result.now.from =
+    ap (λ o. unwrap_or (option_map (λ l. l.from) o) 0) c.index.ensures in
+    let below : c.loop-link.link < length c.args.basin.now.links =
+    omega (arith, c.loop-link-test.true, c.len-link-end.ensures) in
+    let within : c.index.result.now.from < length c.args.basin.now.nodes =
+    omega (arith, end, (ends c.args.basin.now c.requires.basin c.loop-link.link below).0) in
     omega (
       arith,
-      sum_within (length c.args.basin.now.links) c.loop-link.link c.index.result.now.from (λ e. Some (tail_of c.args.basin.now e)) (λ e. slice_index c.args.flow.now e)
+      sum_within (length c.args.basin.now.links) c.loop-link.link c.index.result.now.from
+          (λ e. Some (tail_of c.args.basin.now e)) (λ e. slice_index c.args.flow.now e)
           c.index.result.now.from _ _ (ap Some end) refl (c.loop-link.invariant c.index.result.now.from) below,
       c.requires.small c.index.result.now.from within,
     )
 
 pub loop-link-preserved : goal.loop-link-preserved
 loop-link-preserved c = λ n.
-    let end : tail_of c.args.basin.now c.loop-link.link ≡ c.index.result.now.from = ap (λ o. unwrap_or (option_map (λ l. l.from) o) 0) c.index.ensures in
-    c.add_at.ensures.each n ∙ one_more c.loop-link.link n (λ e. Some (tail_of c.args.basin.now e)) (λ e. slice_index c.args.flow.now e)
+    let end : tail_of c.args.basin.now c.loop-link.link ≡ c.index.result.now.from =
+    ap (λ o. unwrap_or (option_map (λ l. l.from) o) 0) c.index.ensures in
+    c.add_at.ensures.each n
+    ∙ one_more c.loop-link.link n (λ e. Some (tail_of c.args.basin.now e)) (λ e. slice_index c.args.flow.now e)
     c.index.result.now.from _ _ (ap Some end) (c.loop-link.invariant n)

@@ -7,7 +7,10 @@ use Rattle.cert_check.proofs.balancing.sum_into.Goals as goal
 
 pub add_inflows-requires-clause-small : goal.add_inflows-requires-clause-small
 add_inflows-requires-clause-small c = λ n l.
-    let sum = sum_small (length c.args.basin.now.links) (10 ^ 15) (λ e. head_of c.args.basin.now e == n) (λ e. slice_index c.args.month.now.plan.flow e) c.requires.flow in
-    let copied : slice_index c.copy_from_slice.new.self n ≡ slice_index c.args.month.now.supply n = ap (λ xs. slice_index xs n) (c.copy_from_slice.ensures.after ∙ c.as_slice.ensures) in
+    let sum =
+    sum_small (length c.args.basin.now.links) (10 ^ 15) (λ e. head_of c.args.basin.now e == n)
+    (λ e. slice_index c.args.month.now.plan.flow e) c.requires.flow in
+    let copied : slice_index c.copy_from_slice.new.self n ≡ slice_index c.args.month.now.supply n =
+    ap (λ xs. slice_index xs n) (c.copy_from_slice.ensures.after ∙ c.as_slice.ensures) in
     let flow = ap (λ xs. inflow_to c.args.basin.now xs n) c.as_slice-2.ensures in
     omega (arith, sum, copied, c.requires.supply n l, c.requires.basin.few.links, flow)

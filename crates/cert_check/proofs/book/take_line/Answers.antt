@@ -5,11 +5,19 @@ use Rattle.cert_check.proofs.Standings.{few_lines, line_judged, judged_ended, ju
 use Rattle.cert_check.proofs.book.take_line.Goals as goal
 
 pub overflow_add-next : goal.overflow_add-next
-overflow_add-next c = omega (arith, few_lines c.args.means.now.basin.now c.args.means.now.series.now c.args.book.now c.requires.lines.lines c.requires.means.valid c.requires.lines.stands)
+overflow_add-next c =
+    omega (
+      arith,
+      few_lines c.args.means.now.basin.now c.args.means.now.series.now c.args.book.now
+          c.requires.lines.lines c.requires.means.valid c.requires.lines.stands,
+    )
 
 pub returns-then-book-clause-takes : goal.returns-then-book-clause-takes
 returns-then-book-clause-takes c = λ lines s.
-    rw s.counts.read (line_judged c.args.means.now.basin.now c.args.means.now.series.now lines c.args.text.now s.items _ s.verdict (judged_ended c.args.means.now.basin.now c.args.means.now.series.now s.items c.args.text.now (sym s.counts.ended ∙ c.if-book.true)))
+    rw s.counts.read
+    (line_judged c.args.means.now.basin.now c.args.means.now.series.now lines c.args.text.now s.items _ s.verdict
+    (judged_ended c.args.means.now.basin.now c.args.means.now.series.now s.items c.args.text.now
+    (sym s.counts.ended ∙ c.if-book.true)))
 
 pub take_item-requires-clause-told : goal.take_item-requires-clause-told
 take_item-requires-clause-told c =
@@ -19,29 +27,39 @@ take_item-requires-clause-told c =
       told = record {
         account = s.account;
         counts = record { read = s.counts.read; last_other = s.counts.last_other; ended = s.counts.ended };
-        comes = line_comes c.args.means.now.basin.now c.args.means.now.series.now c.requires.lines.lines c.args.text.now s.items c.in-Ok.item c.requires.means.valid c.requires.means.series s.verdict
-            (ap (λ x. read_line x s.items c.args.text.now) (sym s.basin) ∙ sym (c.in-Ok.ensures.answer s.items s.reader));
+        comes = line_comes c.args.means.now.basin.now c.args.means.now.series.now c.requires.lines.lines c.args.text.now
+            s.items c.in-Ok.item c.requires.means.valid c.requires.means.series s.verdict
+            (ap (λ x. read_line x s.items c.args.text.now) (sym s.basin)
+            ∙ sym (c.in-Ok.ensures.answer s.items s.reader));
       };
     }
 
 pub take_item-requires-clause-room : goal.take_item-requires-clause-room
-take_item-requires-clause-room c = few_lines c.args.means.now.basin.now c.args.means.now.series.now c.args.book.now c.requires.lines.lines c.requires.means.valid c.requires.lines.stands
+take_item-requires-clause-room c =
+    few_lines c.args.means.now.basin.now c.args.means.now.series.now c.args.book.now c.requires.lines.lines
+    c.requires.means.valid c.requires.lines.stands
 
 pub returns-in-Ok-clause-takes : goal.returns-in-Ok-clause-takes
 returns-in-Ok-clause-takes c = λ lines s.
-    let read : read_line c.args.means.now.basin.now s.items c.args.text.now ≡ Ok c.in-Ok.item = ap (λ x. read_line x s.items c.args.text.now) (sym s.basin) ∙ sym (c.in-Ok.ensures.answer s.items s.reader) in
-    took c.args.means.now.basin.now c.args.means.now.series.now c.take_item.new.book lines c.args.text.now s.items c.in-Ok.item c.take_item.result s.verdict
-    (judged_item c.args.means.now.basin.now c.args.means.now.series.now s.items c.args.text.now c.in-Ok.item (sym s.counts.ended ∙ c.if-book.false) read)
+    let read : read_line c.args.means.now.basin.now s.items c.args.text.now ≡ Ok c.in-Ok.item =
+    ap (λ x. read_line x s.items c.args.text.now) (sym s.basin) ∙ sym (c.in-Ok.ensures.answer s.items s.reader) in
+    took c.args.means.now.basin.now c.args.means.now.series.now c.take_item.new.book lines c.args.text.now s.items
+    c.in-Ok.item c.take_item.result s.verdict
+    (judged_item c.args.means.now.basin.now c.args.means.now.series.now s.items c.args.text.now c.in-Ok.item
+    (sym s.counts.ended ∙ c.if-book.false) read)
     (ap (λ r. r.basin) c.take_item.ensures.reader ∙ (c.in-Ok.ensures.basin ∙ s.basin))
     (rw c.take_item.ensures.reader (c.in-Ok.ensures.accepted s.items s.reader))
     (c.take_item.ensures.takes s.items (record {
       account = s.account;
       counts = record { read = s.counts.read; last_other = s.counts.last_other; ended = s.counts.ended };
-      comes = line_comes c.args.means.now.basin.now c.args.means.now.series.now lines c.args.text.now s.items c.in-Ok.item c.requires.means.valid c.requires.means.series s.verdict read;
+      comes = line_comes c.args.means.now.basin.now c.args.means.now.series.now lines c.args.text.now s.items
+          c.in-Ok.item c.requires.means.valid c.requires.means.series s.verdict read;
     }))
 
 pub returns-in-Err-clause-takes : goal.returns-in-Err-clause-takes
 returns-in-Err-clause-takes c = λ lines s.
-    rw s.counts.read (line_judged c.args.means.now.basin.now c.args.means.now.series.now lines c.args.text.now s.items _ s.verdict
-    (judged_bad c.args.means.now.basin.now c.args.means.now.series.now s.items c.args.text.now c.in-Err.field-0 (sym s.counts.ended ∙ c.if-book.false)
+    rw s.counts.read
+    (line_judged c.args.means.now.basin.now c.args.means.now.series.now lines c.args.text.now s.items _ s.verdict
+    (judged_bad c.args.means.now.basin.now c.args.means.now.series.now s.items c.args.text.now c.in-Err.field-0
+    (sym s.counts.ended ∙ c.if-book.false)
     (ap (λ x. read_line x s.items c.args.text.now) (sym s.basin) ∙ sym (c.in-Err.ensures.answer s.items s.reader))))

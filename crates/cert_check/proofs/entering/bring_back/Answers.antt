@@ -8,18 +8,21 @@ use Rattle.cert_check.proofs.entering.bring_back.Goals as goal
 pub arrive-requires-clause-room : goal.arrive-requires-clause-room
 arrive-requires-clause-room c = λ k d l.
     let none : get_or c.fill.new.self k d ≡ 0 =
-    ap (λ xs. get_or xs k d) (c.fill.ensures.after (λ y h. h)) ∙ get_or-replicate (length c.args.comes.now) k 0 d (omega (arith, c.fill.ensures.len)) in
+    ap (λ xs. get_or xs k d) (c.fill.ensures.after (λ y h. h))
+    ∙ get_or-replicate (length c.args.comes.now) k 0 d (omega (arith, c.fill.ensures.len)) in
     omega (arith, none, ap length c.requires.rows, (valid_rows c.args.basin.now c.requires.basin).few)
 
 pub returns-clause-each : goal.returns-clause-each
 returns-clause-each c = λ deliveries stands. record {
   count = c.arrive.ensures.length ∙ (c.fill.ensures.len ∙ c.requires.comes);
   each = λ n l.
-      let none : slice_index c.fill.new.self n ≡ 0 = ap (λ xs. slice_index xs n) (c.fill.ensures.after (λ y h. h)) ∙ no_numbers (length c.args.comes.now) n in
+      let none : slice_index c.fill.new.self n ≡ 0 =
+      ap (λ xs. slice_index xs n) (c.fill.ensures.after (λ y h. h)) ∙ no_numbers (length c.args.comes.now) n in
       omega (
         arith,
         none,
         arrivals_are_returns c.args.basin.now deliveries n,
-        c.arrive.ensures.adds c.args.basin.now.returns deliveries stands n (omega (arith, c.fill.ensures.len, c.requires.comes)),
+        c.arrive.ensures.adds c.args.basin.now.returns deliveries stands n
+            (omega (arith, c.fill.ensures.len, c.requires.comes)),
       );
 }

@@ -1,4 +1,5 @@
-use Rattle.std.proofs.Common.{◌≡◌, ℕ, ◌^◌, ◌<◌, length, refl, sym, ap, subst, ◌∙◌, Some, None, List, Bool, false, map, arith}
+use Rattle.std.proofs.Common.{◌≡◌, ℕ, ◌^◌, ◌<◌, length, refl, sym, ap, subst, ◌∙◌, Some, None, List, Bool, false, map}
+use Rattle.std.proofs.Common.{arith}
 use Rattle.std.specs.Prelude.{Option, IsSome}
 use Rattle.std.proofs.lemmas.List.{length-map}
 use Rattle.month_terms.proofs.Amounts.{deliveries_small}
@@ -36,37 +37,69 @@ returns-in-Amount c = λ t k m good.
 
 pub returns-in-Month : goal.returns-in-Month
 returns-in-Month c = λ t k m good.
-    along c.args.means.now.basin.now c.args.means.now.series.now t _ _ _ _ c.in-Month.is (c.enter_month.ensures.rest ∙ ap (λ n. record c.args.account.now { month = n; calling = None; has_supply = false; has_closes = false; has_callers = false; passed = 0; answered = 0 }) c.enter_month.ensures.month)
-    (keeps_month c.args.means.now.basin.now c.args.means.now.series.now c.args.account.now t c.in-Month.month (subst (λ i. IsOfBasin c.args.means.now.basin.now i) c.in-Month.is c.requires.item) k)
+    along c.args.means.now.basin.now c.args.means.now.series.now t _ _ _ _ c.in-Month.is
+    (c.enter_month.ensures.rest
+    ∙ ap (λ n. record c.args.account.now {
+      month = n;
+      calling = None;
+      has_supply = false;
+      has_closes =
+          false;
+      has_callers = false;
+      passed = 0;
+      answered = 0;
+    }) c.enter_month.ensures.month)
+    (keeps_month c.args.means.now.basin.now c.args.means.now.series.now c.args.account.now t c.in-Month.month
+    (subst (λ i. IsOfBasin c.args.means.now.basin.now i) c.in-Month.is c.requires.item) k)
 
 pub returns-in-Deliver : goal.returns-in-Deliver
 returns-in-Deliver c = λ t k m good.
     along c.args.means.now.basin.now c.args.means.now.series.now t _ _ _ _ c.in-Deliver.is c.enter_delivery.ensures
-    (keeps_delivery c.args.means.now.basin.now c.args.means.now.series.now c.args.account.now t c.in-Deliver.right c.in-Deliver.amount c.in-Deliver.want (m.uncalled (ap is_before_called c.in-Deliver.is)) k)
+    (keeps_delivery c.args.means.now.basin.now c.args.means.now.series.now c.args.account.now t c.in-Deliver.right
+    c.in-Deliver.amount c.in-Deliver.want (m.uncalled (ap is_before_called c.in-Deliver.is)) k)
 
 pub returns-in-Call : goal.returns-in-Call
 returns-in-Call c = λ t k m good.
     along c.args.means.now.basin.now c.args.means.now.series.now t _ _ _ _ c.in-Call.is c.enter_call.ensures
-    (keeps_call c.args.means.now.basin.now c.args.means.now.series.now c.args.account.now t c.in-Call.right (subst (λ i. IsOfBasin c.args.means.now.basin.now i) c.in-Call.is c.requires.item) (m.uncalled (ap is_before_called c.in-Call.is)) k)
+    (keeps_call c.args.means.now.basin.now c.args.means.now.series.now c.args.account.now t c.in-Call.right
+    (subst (λ i. IsOfBasin c.args.means.now.basin.now i) c.in-Call.is c.requires.item)
+    (m.uncalled (ap is_before_called c.in-Call.is)) k)
 
-by_set : (c : goal.After-enter_member) (t : Told) → t.called ≡ 0 → (right : ℕ) → c.args.account.now.calling ≡ Some right → (o : Option (List Bool)) → set_of c.args.account.now.month.cuts right ≡ o → IsSome o →
-    Keeps c.args.means.now.basin.now c.args.means.now.series.now c.args.account.now t → Keeps c.args.means.now.basin.now c.args.means.now.series.now c.enter_member.new.account (tell c.args.means.now.basin.now c.args.means.now.series.now t c.args.item.now)
+by_set : (c : goal.After-enter_member) (t : Told) → t.called ≡ 0 → (right : ℕ) →
+    c.args.account.now.calling ≡ Some right → (o : Option (List Bool)) →
+    set_of c.args.account.now.month.cuts right ≡ o → IsSome o →
+    Keeps c.args.means.now.basin.now c.args.means.now.series.now c.args.account.now t →
+    Keeps c.args.means.now.basin.now c.args.means.now.series.now c.enter_member.new.account
+    (tell c.args.means.now.basin.now c.args.means.now.series.now t c.args.item.now)
 by_set c t none right e None is held k = cc
 by_set c t none right e (Some set) is held k =
-    along c.args.means.now.basin.now c.args.means.now.series.now t _ _ _ _ c.in-Member.is (c.enter_member.ensures.some right set e is) (keeps_member c.args.means.now.basin.now c.args.means.now.series.now c.args.account.now t c.in-Member.node right set none e is k)
+    along c.args.means.now.basin.now c.args.means.now.series.now t _ _ _ _ c.in-Member.is
+    (c.enter_member.ensures.some right set e is)
+    (keeps_member c.args.means.now.basin.now c.args.means.now.series.now c.args.account.now t c.in-Member.node right
+    set none e is k)
 
-by_call : (c : goal.After-enter_member) (t : Told) → t.called ≡ 0 → (o : Option ℕ) → c.args.account.now.calling ≡ o → Keeps c.args.means.now.basin.now c.args.means.now.series.now c.args.account.now t →
-    Keeps c.args.means.now.basin.now c.args.means.now.series.now c.enter_member.new.account (tell c.args.means.now.basin.now c.args.means.now.series.now t c.args.item.now)
-by_call c t none None e k = along c.args.means.now.basin.now c.args.means.now.series.now t _ _ _ _ c.in-Member.is (c.enter_member.ensures.none e) (keeps_stray c.args.means.now.basin.now c.args.means.now.series.now c.args.account.now t c.in-Member.node none e k)
-by_call c t none (Some right) e k = by_set c t none right e (set_of c.args.account.now.month.cuts right) refl (k.fits.calling right e).1 k
+by_call : (c : goal.After-enter_member) (t : Told) → t.called ≡ 0 → (o : Option ℕ) → c.args.account.now.calling ≡ o →
+    Keeps c.args.means.now.basin.now c.args.means.now.series.now c.args.account.now t →
+    Keeps c.args.means.now.basin.now c.args.means.now.series.now c.enter_member.new.account
+    (tell c.args.means.now.basin.now c.args.means.now.series.now t c.args.item.now)
+by_call c t none None e k =
+    along c.args.means.now.basin.now c.args.means.now.series.now t _ _ _ _ c.in-Member.is
+    (c.enter_member.ensures.none e)
+    (keeps_stray c.args.means.now.basin.now c.args.means.now.series.now c.args.account.now t c.in-Member.node none e k)
+by_call c t none (Some right) e k =
+    by_set c t none right e (set_of c.args.account.now.month.cuts right) refl (k.fits.calling right e).1 k
 
 pub returns-in-Member : goal.returns-in-Member
-returns-in-Member c = λ t k m good. by_call c t (m.uncalled (ap is_before_called c.in-Member.is)) c.args.account.now.calling refl k
+returns-in-Member c =
+    λ t k m good. by_call c t (m.uncalled (ap is_before_called c.in-Member.is)) c.args.account.now.calling refl k
 
 pub returns-in-Called : goal.returns-in-Called
 returns-in-Called c = λ t k m good.
-    along c.args.means.now.basin.now c.args.means.now.series.now t _ _ _ _ c.in-Called.is c.enter_called.ensures.2 (keeps_next c.args.means.now.basin.now c.args.means.now.series.now c.args.account.now t c.in-Called.right c.in-Called.by c.enter_called.ensures.0 k
-    (subst (λ i. first_row c.args.means.now.basin.now c.args.means.now.series.now t i ≡ None) c.in-Called.is good) c.enter_called.ensures.1)
+    along c.args.means.now.basin.now c.args.means.now.series.now t _ _ _ _ c.in-Called.is c.enter_called.ensures.2
+    (keeps_next c.args.means.now.basin.now c.args.means.now.series.now c.args.account.now t c.in-Called.right
+    c.in-Called.by c.enter_called.ensures.0 k
+    (subst (λ i. first_row c.args.means.now.basin.now c.args.means.now.series.now t i ≡ None) c.in-Called.is good)
+    c.enter_called.ensures.1)
 
 -- what was used is little, as all that was delivered is
 pub enter_end-requires-clause-little : goal.enter_end-requires-clause-little
@@ -76,8 +109,10 @@ enter_end-requires-clause-little c = λ r l.
     omega (
       arith,
       c.requires.awaits.keeps.used.each r l,
-      used_most c.args.means.now.basin.now (map (λ n. n.delivered) told.months) r (length (map (λ (n : MonthRecord). n.delivered) told.months)) (10 ^ 9)
-          (deliveries_small c.args.means.now.basin.now c.args.means.now.series.now told.months c.requires.means.valid c.requires.means.series partial r),
+      used_most c.args.means.now.basin.now (map (λ n. n.delivered) told.months) r
+          (length (map (λ (n : MonthRecord). n.delivered) told.months)) (10 ^ 9)
+          (deliveries_small c.args.means.now.basin.now c.args.means.now.series.now told.months c.requires.means.valid
+          c.requires.means.series partial r),
       length-map told.months (λ (n : MonthRecord). n.delivered),
       partial.within,
       c.requires.means.valid.run.months.1,
@@ -86,6 +121,9 @@ enter_end-requires-clause-little c = λ r l.
 pub returns-in-End : goal.returns-in-End
 returns-in-End c = λ t k m good.
     along c.args.means.now.basin.now c.args.means.now.series.now t _ _ _ _ c.in-End.is c.enter_end.ensures.rest
-    (keeps_end c.args.means.now.basin.now c.args.means.now.series.now c.args.account.now t c.enter_end.new.account.lags c.enter_end.new.account.comes c.enter_end.new.account.used (c.enter_end.ensures.lags (map (λ n. n.delivered) t.months) k.lags)
+    (keeps_end c.args.means.now.basin.now c.args.means.now.series.now c.args.account.now t c.enter_end.new.account.lags
+    c.enter_end.new.account.comes c.enter_end.new.account.used
+    (c.enter_end.ensures.lags (map (λ n. n.delivered) t.months) k.lags)
     (c.enter_end.ensures.comes (map (λ n. n.delivered) t.months) k.lags)
-    (c.enter_end.ensures.used (map (λ n. n.delivered) t.months) (length-map t.months (λ n. n.delivered) ∙ sym k.done) k.used) k)
+    (c.enter_end.ensures.used (map (λ n. n.delivered) t.months) (length-map t.months (λ n. n.delivered) ∙ sym k.done)
+    k.used) k)

@@ -3,4 +3,5 @@ use Rattle.water_model.proofs.Order.{length-by_seniority}
 use Rattle.cert_check.proofs.entering.enter_called.Goals as goal
 
 pub overflow_add-account : goal.overflow_add-account
-overflow_add-account c = omega (arith, c.in-Some.ensures.within, length-by_seniority c.args.basin.now.rights, c.requires.basin.few.rights)
+overflow_add-account c =
+    omega (arith, c.in-Some.ensures.within, length-by_seniority c.args.basin.now.rights, c.requires.basin.few.rights)

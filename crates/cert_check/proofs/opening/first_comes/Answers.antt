@@ -5,5 +5,7 @@ use Rattle.cert_check.proofs.opening.first_comes.Goals as goal
 
 pub returns : goal.returns
 returns c =
-    subst (HasReturned c.args.basin.now []) (sym (whole_rows c.in_ok-comes.comes c.bring_back.new.comes (c.bring_back.ensures.length ∙ ap length c.as_mut_slice.ensures.value)))
+    subst (HasReturned c.args.basin.now [])
+    (sym (whole_rows c.in_ok-comes.comes c.bring_back.new.comes
+    (c.bring_back.ensures.length ∙ ap length c.as_mut_slice.ensures.value)))
     (c.bring_back.ensures.each [] c.requires.lags)

@@ -11,11 +11,16 @@ loop-node-init c = record { last = λ n. no_outlet (λ v. is_outlet c.args.basin
 
 pub loop-node-preserved : goal.loop-node-preserved
 loop-node-preserved c = record {
-  last = λ n. rw c.last_with-last.ensures (last_more (λ v. is_outlet c.args.basin.now v) c.loop-node.node c.loop-node.last n c.loop-node.invariant.most (c.loop-node.invariant.last n));
-  most = rw c.last_with-last.ensures (most_more (is_outlet c.args.basin.now c.loop-node.node) c.loop-node.node c.loop-node.last c.loop-node.invariant.most);
+  last = λ n.
+      rw c.last_with-last.ensures (last_more (λ v. is_outlet c.args.basin.now v) c.loop-node.node c.loop-node.last n
+      c.loop-node.invariant.most (c.loop-node.invariant.last n));
+  most = rw c.last_with-last.ensures (most_more (is_outlet c.args.basin.now c.loop-node.node) c.loop-node.node
+      c.loop-node.last c.loop-node.invariant.most);
 }
 
 pub returns : goal.returns
 returns c = λ n.
-    let end : c.loop-node.node ≡ length c.args.basin.now.nodes = omega (arith, c.len-node-end.ensures, c.loop-node-test.false, c.loop-node.auto) in
-    ap (λ k. list_all (λ other. nat_le other n) (filter (λ v. is_outlet c.args.basin.now v) (numbers_from 0 k))) (sym end) ∙ c.loop-node.invariant.last n
+    let end : c.loop-node.node ≡ length c.args.basin.now.nodes =
+    omega (arith, c.len-node-end.ensures, c.loop-node-test.false, c.loop-node.auto) in
+    ap (λ k. list_all (λ other. nat_le other n) (filter (λ v. is_outlet c.args.basin.now v) (numbers_from 0 k)))
+    (sym end) ∙ c.loop-node.invariant.last n

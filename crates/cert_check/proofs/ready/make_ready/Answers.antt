@@ -6,6 +6,7 @@ returns-in-Amount-clause-ready c = record {
   set = λ other r is. c.make_ready_for_amount.ensures.supply
       (c.make_ready_for_set.ensures.ready other r (sym c.make_ready_for_amount.ensures.calling ∙ is));
   callers = λ behind.
-      c.make_ready_for_amount.ensures.callers ∙ (c.make_ready_for_set.ensures.callers ∙ c.answer.ensures.callers behind);
+      c.make_ready_for_amount.ensures.callers
+      ∙ (c.make_ready_for_set.ensures.callers ∙ c.answer.ensures.callers behind);
   own = rw c.in-Amount.is c.make_ready_for_amount.ensures.ready;
 }

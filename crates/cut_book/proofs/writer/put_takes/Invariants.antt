@@ -8,5 +8,6 @@ use Rattle.cut_book.proofs.writer.put_takes.Given as goal
 
 abbrev pub invariant-loop-taker : goal.invariant-loop-taker
 invariant-loop-taker g l =
-    SoFar (whole_line l.basin) (lines_at part.Takes l.basin l.month l.right (cut_at l.month.cuts l.right)) (seniors_first l.basin) l.taker-index
+    SoFar (whole_line l.basin) (lines_at part.Takes l.basin l.month l.right (cut_at l.month.cuts l.right))
+    (seniors_first l.basin) l.taker-index
     (g.K.Sink.taken l.fn.sink) (g.K.Sink.taken l.sink) (g.K.Sink.faults l.fn.sink) (g.K.Sink.faults l.sink)

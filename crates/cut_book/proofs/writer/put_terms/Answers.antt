@@ -8,7 +8,9 @@ use Rattle.cut_book.proofs.writer.put_terms.Goals as goal
 
 pub loop-part-init : goal.loop-part-init
 loop-part-init g c =
-    SoFar-none (whole_line c.args.basin.now) (λ p. lines_in p c.args.basin.now c.args.month.now c.args.right (cut_at c.args.month.now.cuts c.args.right)) PARTS
+    SoFar-none (whole_line c.args.basin.now)
+    (λ p. lines_in p c.args.basin.now c.args.month.now c.args.right (cut_at c.args.month.now.cuts c.args.right))
+    PARTS
     (g.K.Sink.taken c.args.sink.now) (g.K.Sink.faults c.args.sink.now)
 
 pub returns-in_err-put_part-clause-text : goal.returns-in_err-put_part-clause-text

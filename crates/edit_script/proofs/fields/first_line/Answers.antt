@@ -4,7 +4,9 @@ use Rattle.edit_script.proofs.Pieces.{split-cut, split-whole}
 use Rattle.edit_script.proofs.fields.first_line.Goals as goal
 
 pub returns-in-Some-clause-some : goal.returns-in-Some-clause-some
-returns-in-Some-clause-some c = split-cut (λ byte. byte == 10) c.args.text.now c.in-Some.at (sym c.first_feed.ensures ∙ c.in-Some.is)
+returns-in-Some-clause-some c =
+    split-cut (λ byte. byte == 10) c.args.text.now c.in-Some.at (sym c.first_feed.ensures ∙ c.in-Some.is)
 
 pub returns-in-None-clause-none : goal.returns-in-None-clause-none
-returns-in-None-clause-none c = split-whole (λ byte. byte == 10) c.args.text.now (sym c.first_feed.ensures ∙ c.in-None.is)
+returns-in-None-clause-none c =
+    split-whole (λ byte. byte == 10) c.args.text.now (sym c.first_feed.ensures ∙ c.in-None.is)

@@ -9,15 +9,20 @@ use Rattle.edit_script.proofs.Pieces.{some_piece}
 use Rattle.edit_script.proofs.lines.read_change.Goals as goal
 
 -- a line with a fifth field asks for nothing
-too_many : (b : Basin) (series : Inflows) (word month name amount : List ℕ) (o : Option (Bor (List ℕ))) → is_some o ≡ true →
+too_many : (b : Basin) (series : Inflows) (word month name amount : List ℕ) (o : Option (Bor (List ℕ))) →
+    is_some o ≡ true →
     edit_in b series (word ∷ month ∷ name ∷ amount ∷ fields_behind o) ≡ Err fault.BadLine
 too_many b series word month name amount None h = cc
-too_many b series word month name amount (Some rest) h = let found = some_piece (λ byte. byte == 32) rest.now in rw found.2 refl
+too_many b series word month name amount (Some rest) h = let found = some_piece (λ byte. byte == 32) rest.now in
+    rw found.2 refl
 
 pub returns-then-is_some-clause-reads : goal.returns-then-is_some-clause-reads
 returns-then-is_some-clause-reads c =
-    sym (ap (λ (fs : List (List ℕ)). edit_in c.args.names.now.basin.now c.args.series.now (c.args.word.now ∷ c.args.month.now ∷ fs)) fields
-    ∙ too_many c.args.names.now.basin.now c.args.series.now c.args.word.now c.args.month.now c.cut.result.0.now c.cut-2.result.0.now c.cut-2.result.1 (sym c.is_some.ensures ∙ c.if-is_some.true))
+    sym (ap (λ (fs : List (List ℕ)). edit_in c.args.names.now.basin.now c.args.series.now
+    (c.args.word.now ∷ c.args.month.now ∷ fs)) fields
+    ∙ too_many c.args.names.now.basin.now c.args.series.now c.args.word.now c.args.month.now c.cut.result.0.now
+    c.cut-2.result.0.now c.cut-2.result.1 (sym c.is_some.ensures ∙ c.if-is_some.true))
   where
     fields : fields_of c.args.behind.now ≡ c.cut.result.0.now ∷ c.cut-2.result.0.now ∷ fields_behind c.cut-2.result.1
-    fields = c.cut.ensures ∙ (ap (λ o. c.cut.result.0.now ∷ fields_behind o) c.in-Some.is ∙ ap (λ fs. c.cut.result.0.now ∷ fs) c.cut-2.ensures)
+    fields = c.cut.ensures ∙ (ap (λ o. c.cut.result.0.now ∷ fields_behind o) c.in-Some.is
+        ∙ ap (λ fs. c.cut.result.0.now ∷ fs) c.cut-2.ensures)

@@ -5,13 +5,22 @@ use Rattle.edit_script.proofs.Columns.{few_gauges}
 use Rattle.edit_script.proofs.lines.read_inflow.Goals as goal
 
 pub place_of-gauge-requires-clause-few : goal.place_of-gauge-requires-clause-few
-place_of-gauge-requires-clause-few c = omega (arith, ap length c.as_slice.ensures, few_gauges c.args.names.now.basin.now c.args.series.now c.requires.basin c.requires.series)
+place_of-gauge-requires-clause-few c =
+    omega (
+      arith,
+      ap length c.as_slice.ensures,
+      few_gauges c.args.names.now.basin.now c.args.series.now c.requires.basin
+          c.requires.series,
+    )
 
 pub place_of-gauge-requires-clause-rising : goal.place_of-gauge-requires-clause-rising
-place_of-gauge-requires-clause-rising c = rw c.as_slice.ensures (gauges_rise c.args.names.now.basin.now c.args.series.now c.requires.series)
+place_of-gauge-requires-clause-rising c =
+    rw c.as_slice.ensures (gauges_rise c.args.names.now.basin.now c.args.series.now c.requires.series)
 
 pub returns-clause-placed : goal.returns-clause-placed
 returns-clause-placed c =
-    let gauge = gauge_within c.args.names.now.basin.now c.args.series.now c.in-Some-node_named.node c.requires.series c.in-Some-node_named.ensures.within (sym c.if-not-is_gauged.ensures) in
+    let gauge =
+    gauge_within c.args.names.now.basin.now c.args.series.now c.in-Some-node_named.node c.requires.series
+    c.in-Some-node_named.ensures.within (sym c.if-not-is_gauged.ensures) in
     let at = c.place_of-gauge.ensures ∙ ap (λ keys. place_in keys c.in-Some-node_named.node) c.as_slice.ensures in
     (c.in-Some-index_in_run.ensures.within, omega (arith, gauge, at), c.in-Some-read_plain.ensures.within)

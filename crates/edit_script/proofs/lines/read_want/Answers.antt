@@ -5,13 +5,22 @@ use Rattle.edit_script.proofs.Columns.{few_wants}
 use Rattle.edit_script.proofs.lines.read_want.Goals as goal
 
 pub place_of-place-requires-clause-few : goal.place_of-place-requires-clause-few
-place_of-place-requires-clause-few c = omega (arith, ap length c.as_slice.ensures, few_wants c.args.names.now.basin.now c.args.series.now c.requires.basin c.requires.series)
+place_of-place-requires-clause-few c =
+    omega (
+      arith,
+      ap length c.as_slice.ensures,
+      few_wants c.args.names.now.basin.now c.args.series.now c.requires.basin
+          c.requires.series,
+    )
 
 pub place_of-place-requires-clause-rising : goal.place_of-place-requires-clause-rising
-place_of-place-requires-clause-rising c = rw c.as_slice.ensures (wanted_rise c.args.names.now.basin.now c.args.series.now c.requires.series)
+place_of-place-requires-clause-rising c =
+    rw c.as_slice.ensures (wanted_rise c.args.names.now.basin.now c.args.series.now c.requires.series)
 
 pub returns-clause-placed : goal.returns-clause-placed
 returns-clause-placed c =
-    let place = wanted_within c.args.names.now.basin.now c.args.series.now c.in-Some-right_named.right c.requires.series c.in-Some-right_named.ensures.within (sym c.if-not-is_in_series.ensures) in
+    let place =
+    wanted_within c.args.names.now.basin.now c.args.series.now c.in-Some-right_named.right c.requires.series
+    c.in-Some-right_named.ensures.within (sym c.if-not-is_in_series.ensures) in
     let at = c.place_of-place.ensures ∙ ap (λ keys. place_in keys c.in-Some-right_named.right) c.as_slice.ensures in
     (c.in-Some-index_in_run.ensures.within, omega (arith, place, at), c.in-Some-read_plain.ensures.within)

@@ -8,4 +8,6 @@ some_more : (n : ℕ) → n == 0 ≡ false → 1 ≤ n
 some_more n h = grind (arith, nat_tests)
 
 pub returns-else-is_empty : goal.returns-else-is_empty
-returns-else-is_empty c = more_behind c.args.edits.items c.args.number c.args.behind.now (some_more _ (sym c.is_empty.ensures ∙ c.if-is_empty.false))
+returns-else-is_empty c =
+    more_behind c.args.edits.items c.args.number c.args.behind.now
+    (some_more _ (sym c.is_empty.ensures ∙ c.if-is_empty.false))

@@ -7,7 +7,8 @@ use Rattle.edit_script.proofs.script.read_edits.Given as goal
 
 abbrev pub invariant-loop-line : goal.invariant-loop-line
 invariant-loop-line l = record {
-  so_far : edits_from l.names.basin.now l.series 2 (lines_of l.text) ≡ behind l.edits.items (edits_from l.names.basin.now l.series l.number (lines_of l.rest));
+  so_far : edits_from l.names.basin.now l.series 2 (lines_of l.text) ≡ behind l.edits.items
+      (edits_from l.names.basin.now l.series l.number (lines_of l.rest));
   placed : All (IsPlaced l.names.basin.now l.series) l.edits.items;
   small : l.number + length l.rest ≤ length l.text + 2;
 }

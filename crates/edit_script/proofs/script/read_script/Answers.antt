@@ -9,9 +9,13 @@ returns-in-None-clause-reads c = no_first c.args.basin.now c.args.series.now c.a
 pub returns-then-eq-clause-reads : goal.returns-then-eq-clause-reads
 returns-then-eq-clause-reads c =
     given_on _ _ c.read_behind.result
-    (first_good c.args.basin.now c.args.series.now c.args.text.now c.in-Some.first.now c.in-Some.behind.now c.in-Some.ensures.some (sym (ap (bytes_eq c.in-Some.first.now) c.as_slice.ensures) ∙ (sym c.eq.ensures ∙ c.if-eq.true)))
+    (first_good c.args.basin.now c.args.series.now c.args.text.now c.in-Some.first.now c.in-Some.behind.now
+    c.in-Some.ensures.some (sym (ap (bytes_eq c.in-Some.first.now) c.as_slice.ensures)
+    ∙ (sym c.eq.ensures ∙ c.if-eq.true)))
     c.read_behind.ensures.reads
 
 pub returns-else-eq-clause-reads : goal.returns-else-eq-clause-reads
 returns-else-eq-clause-reads c =
-    first_bad c.args.basin.now c.args.series.now c.args.text.now c.in-Some.first.now c.in-Some.behind.now c.in-Some.ensures.some (sym (ap (bytes_eq c.in-Some.first.now) c.as_slice.ensures) ∙ (sym c.eq.ensures ∙ c.if-eq.false))
+    first_bad c.args.basin.now c.args.series.now c.args.text.now c.in-Some.first.now c.in-Some.behind.now
+    c.in-Some.ensures.some (sym (ap (bytes_eq c.in-Some.first.now) c.as_slice.ensures)
+    ∙ (sym c.eq.ensures ∙ c.if-eq.false))

@@ -7,7 +7,8 @@ use Rattle.month_fold.specs.Runs.{run_pushes}
 
 pub returns-in_err-run_trace-clause-pushes : goal.returns-in_err-run_trace-clause-pushes
 returns-in_err-run_trace-clause-pushes g c =
-    within_steps (run_pushes c.args.basin.now) c.args.searches.now c.loop-trace.searches c.run_trace.new.searches c.loop-trace.trace (years_of c.args.basin.now)
+    within_steps (run_pushes c.args.basin.now) c.args.searches.now c.loop-trace.searches c.run_trace.new.searches
+    c.loop-trace.trace (years_of c.args.basin.now)
     c.loop-trace.invariant.pushes c.in_err-run_trace.ensures.pushes c.loop-trace-test.true
 
 pub returns-clause-sums : goal.returns-clause-sums
@@ -17,6 +18,7 @@ returns-clause-sums g c =
 
 pub loop-trace-init : goal.loop-trace-init
 loop-trace-init g c = record {
-  sums = sums_start c.args.basin.now c.args.series.now c.in_ok-sums.sums (c.in_ok-sums.ensures.count ∙ c.len.ensures) c.in_ok-sums.ensures.empty;
+  sums = sums_start c.args.basin.now c.args.series.now c.in_ok-sums.sums (c.in_ok-sums.ensures.count ∙ c.len.ensures)
+      c.in_ok-sums.ensures.empty;
   pushes = omega arith;
 }

@@ -6,4 +6,6 @@ use Rattle.senior_hold.specs.MonthNetwork.{month_pushes}
 
 pub returns-clause-under_way : goal.returns-clause-under_way
 returns-clause-under_way g c =
-    subst (λ (n : ℕ). IsUnderWay c.args.basin.now c.args.series.now c.args.trace c.args.years n c.loop-months.run c.args.sums.now c.loop-months.year) (let all : c.loop-months.months ≡ 12 = omega arith in all) c.loop-months.invariant.under_way
+    subst (λ (n : ℕ). IsUnderWay c.args.basin.now c.args.series.now c.args.trace c.args.years n c.loop-months.run
+    c.args.sums.now c.loop-months.year) (let all : c.loop-months.months ≡ 12 = omega arith in
+    all) c.loop-months.invariant.under_way

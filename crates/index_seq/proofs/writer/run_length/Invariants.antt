@@ -5,7 +5,8 @@ use Rattle.index_seq.proofs.writer.run_length.Given as goal
 
 abbrev pub invariant-loop-count : goal.invariant-loop-count
 invariant-loop-count l =
-    (prefix_len (λ x. x == slice_index l.amounts 0) l.amounts ≡ l.count + prefix_len (λ x. x == slice_index l.amounts 0) (drop l.count l.amounts))
+    (prefix_len (λ x. x == slice_index l.amounts 0) l.amounts ≡ l.count + prefix_len (λ x. x == slice_index l.amounts 0)
+    (drop l.count l.amounts))
     × (0 < l.count) × (l.count ≤ length l.amounts)
 
 abbrev pub decreases-loop-count : goal.decreases-loop-count

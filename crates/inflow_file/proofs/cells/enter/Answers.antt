@@ -4,18 +4,26 @@ use Rattle.inflow_file.proofs.DueLaws.{outside_is, repeated_is, entered_is, plac
 use Rattle.inflow_file.proofs.cells.enter.Goals as goal
 
 pub returns-in_default : goal.returns-in_default
-returns-in_default c = λ earlier is. outside_is c.args.columns.now.basin.now earlier c.args.entry.now c.args.amounts.now c.in_default.ensures is
+returns-in_default c =
+    λ earlier is. outside_is c.args.columns.now.basin.now earlier c.args.entry.now c.args.amounts.now
+    c.in_default.ensures is
 
 pub returns-then-is_some : goal.returns-then-is_some
 returns-then-is_some c = λ earlier is. (
   refl,
-  sym (repeated_is c.args.columns.now.basin.now earlier c.args.entry.now c.in-Some.index c.args.amounts.now c.requires.entry c.in-Some.ensures.0 c.in-Some.ensures.1 is)
-      ∙ (ap (λ k. is_some (get_or c.args.amounts.now k None)) (sym c.place_of-place.ensures.place) ∙ sym c.if-is_some.ensures),
+  sym (repeated_is c.args.columns.now.basin.now earlier c.args.entry.now c.in-Some.index c.args.amounts.now
+      c.requires.entry c.in-Some.ensures.0 c.in-Some.ensures.1 is)
+      ∙ (ap (λ k. is_some (get_or c.args.amounts.now k None)) (sym c.place_of-place.ensures.place)
+      ∙ sym c.if-is_some.ensures),
 )
 
 pub returns : goal.returns
 returns c = λ earlier is.
-    let free : is_some (get_or c.args.amounts.now (place_for c.args.columns.now.basin.now c.in-Some.index c.args.entry.now.column) None) ≡ false =
-    ap (λ k. is_some (get_or c.args.amounts.now k None)) (sym c.place_of-place.ensures.place) ∙ sym c.if-is_some.ensures in
-    let h = entered_is c.args.columns.now.basin.now earlier c.args.entry.now c.in-Some.index c.args.amounts.now c.requires.basin.run.first c.requires.entry c.in-Some.ensures.0 c.in-Some.ensures.1 is free in
+    let free : is_some
+    (get_or c.args.amounts.now (place_for c.args.columns.now.basin.now c.in-Some.index c.args.entry.now.column)
+    None) ≡ false =
+    ap (λ k. is_some (get_or c.args.amounts.now k None)) (sym c.place_of-place.ensures.place)
+    ∙ sym c.if-is_some.ensures in
+    let h = entered_is c.args.columns.now.basin.now earlier c.args.entry.now c.in-Some.index c.args.amounts.now
+    c.requires.basin.run.first c.requires.entry c.in-Some.ensures.0 c.in-Some.ensures.1 is free in
     (h.0, ap (λ k. slice_set c.args.amounts.now k (Some c.args.entry.now.amount)) c.place_of-place.ensures.place ∙ h.1)

@@ -8,26 +8,41 @@ use Rattle.inflow_file.proofs.cells.part_of.Goals as goal
 
 pub overflow_mul-end : goal.overflow_mul-end
 overflow_mul-end c =
-    let most = mul-le c.args.columns.now.basin.now.months c.args.count c.args.columns.now.basin.now.months (width c.args.columns.now.basin.now) (omega arith) (omega (arith, c.requires.columns)) in
+    let most =
+    mul-le c.args.columns.now.basin.now.months c.args.count c.args.columns.now.basin.now.months
+    (width c.args.columns.now.basin.now) (omega arith) (omega (arith, c.requires.columns)) in
     omega (arith, most, small_table c.args.columns.now.basin.now c.requires.basin.run.months.1 c.requires.basin.few)
 
 pub cell_in-requires-clause-count : goal.cell_in-requires-clause-count
-cell_in-requires-clause-count c = some_column c.loop-place.place c.args.columns.now.basin.now.months c.args.count (omega (arith, c.loop-place-test.true))
+cell_in-requires-clause-count c =
+    some_column c.loop-place.place c.args.columns.now.basin.now.months c.args.count
+    (omega (arith, c.loop-place-test.true))
 
 pub cell_in-requires-clause-within : goal.cell_in-requires-clause-within
 cell_in-requires-clause-within c =
-    let below = cell_below c.loop-place.place (width c.args.columns.now.basin.now) c.args.from c.args.columns.now.basin.now.months c.args.count c.requires.columns (omega (arith, c.loop-place-test.true)) in
+    let below =
+    cell_below c.loop-place.place (width c.args.columns.now.basin.now) c.args.from
+    c.args.columns.now.basin.now.months c.args.count c.requires.columns (omega (arith, c.loop-place-test.true)) in
     rw c.count-width.ensures (omega (arith, below, c.requires.cells))
 
 pub cell_in-requires-clause-small : goal.cell_in-requires-clause-small
 cell_in-requires-clause-small c =
-    omega (arith, c.requires.cells, small_table c.args.columns.now.basin.now c.requires.basin.run.months.1 c.requires.basin.few)
+    omega (
+      arith,
+      c.requires.cells,
+      small_table c.args.columns.now.basin.now c.requires.basin.run.months.1
+          c.requires.basin.few,
+    )
 
 pub loop-place-preserved : goal.loop-place-preserved
 loop-place-preserved c =
-    let pushed : c.push.new.self.items ≡ c.loop-place.part.items ++ c.cell_in.result ∷ [] = c.in_ok-push.ensures.items in
+    let pushed : c.push.new.self.items ≡ c.loop-place.part.items ++ c.cell_in.result ∷ [] =
+    c.in_ok-push.ensures.items in
     record {
-      count = ap length pushed ∙ (length_push c.loop-place.part.items c.cell_in.result ∙ ap (λ n. n + 1) c.loop-place.invariant.count);
-      each = λ k l. rw pushed (part_more (cell_in c.args.cells.now c.count-width.result c.args.from c.args.count) c.loop-place.part.items c.loop-place.place k c.cell_in.result
+      count = ap length pushed
+          ∙ (length_push c.loop-place.part.items c.cell_in.result ∙ ap (λ n. n + 1) c.loop-place.invariant.count);
+      each = λ k l. rw pushed
+          (part_more (cell_in c.args.cells.now c.count-width.result c.args.from c.args.count) c.loop-place.part.items
+          c.loop-place.place k c.cell_in.result
           c.loop-place.invariant.count c.loop-place.invariant.each c.cell_in.ensures l);
     }

@@ -7,7 +7,9 @@ pub loop-node-init : goal.loop-node-init
 loop-node-init c = c.new-gauged.ensures.items ∙ sym (none_below (λ n. is_gauged c.args.basin.now n))
 
 pub loop-node-preserved : goal.loop-node-preserved
-loop-node-preserved c = c.in_ok-add_gauge.ensures ∙ rw c.loop-node.invariant (sym (filter_next (λ n. is_gauged c.args.basin.now n) c.loop-node.node))
+loop-node-preserved c =
+    c.in_ok-add_gauge.ensures ∙ rw c.loop-node.invariant
+    (sym (filter_next (λ n. is_gauged c.args.basin.now n) c.loop-node.node))
 
 pub returns : goal.returns
 returns c =

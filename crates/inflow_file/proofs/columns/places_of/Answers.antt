@@ -13,18 +13,27 @@ loop-number-init c = record {
 
 pub overflow_cast-len : goal.overflow_cast-len
 overflow_cast-len c =
-    let most : passed_below (λ n. is_column c.args.basin.now n) c.loop-number.number ≤ c.loop-number.number = passed_most (λ n. is_column c.args.basin.now n) c.loop-number.number in
+    let most : passed_below (λ n. is_column c.args.basin.now n) c.loop-number.number ≤ c.loop-number.number =
+    passed_most (λ n. is_column c.args.basin.now n) c.loop-number.number in
     let count : c.len.result ≡ length c.loop-number.numbers.items = search rules in
     omega (arith, most, count, ap length c.loop-number.invariant.numbers, c.requires.few.nodes, c.requires.few.rights)
 
 pub loop-number-preserved : goal.loop-number-preserved
 loop-number-preserved c =
     let count : c.len.result ≡ length c.loop-number.numbers.items = search rules in
-    let pushed : c.push.new.self.items ≡ c.loop-number.of_number.items ++ length c.loop-number.numbers.items ∷ [] = c.in_ok-push.ensures.items ∙ ap (λ n. c.loop-number.of_number.items ++ n ∷ []) count in
+    let pushed : c.push.new.self.items ≡ c.loop-number.of_number.items ++ length c.loop-number.numbers.items ∷ [] =
+    c.in_ok-push.ensures.items ∙ ap (λ n. c.loop-number.of_number.items ++ n ∷ []) count in
     record {
-      numbers = c.in_ok-add_column.ensures ∙ rw c.loop-number.invariant.numbers (sym (filter_next (λ n. is_column c.args.basin.now n) c.loop-number.number));
-      count = ap length pushed ∙ (length_push c.loop-number.of_number.items (length c.loop-number.numbers.items) ∙ ap (λ n. n + 1) c.loop-number.invariant.count);
-      each = λ n l. rw pushed (place_added (λ m. is_column c.args.basin.now m) c.loop-number.of_number.items c.loop-number.numbers.items c.loop-number.number n c.loop-number.invariant.count c.loop-number.invariant.numbers c.loop-number.invariant.each l);
+      numbers =
+          c.in_ok-add_column.ensures ∙ rw c.loop-number.invariant.numbers
+          (sym (filter_next (λ n. is_column c.args.basin.now n) c.loop-number.number));
+      count = ap length pushed
+          ∙ (length_push c.loop-number.of_number.items (length c.loop-number.numbers.items)
+          ∙ ap (λ n. n + 1) c.loop-number.invariant.count);
+      each = λ n l. rw pushed
+          (place_added (λ m. is_column c.args.basin.now m) c.loop-number.of_number.items c.loop-number.numbers.items
+          c.loop-number.number n c.loop-number.invariant.count c.loop-number.invariant.numbers
+          c.loop-number.invariant.each l);
     }
 
 pub returns : goal.returns
@@ -35,5 +44,6 @@ returns c =
       count = c.loop-number.invariant.count ∙ end;
       each = λ n l due. rw c.loop-number.invariant.numbers (
           let below : n < c.loop-number.number = omega arith in
-          c.loop-number.invariant.each n below ∙ sym (place_passed (λ n. is_column c.args.basin.now n) c.loop-number.number n below due));
+          c.loop-number.invariant.each n below
+          ∙ sym (place_passed (λ n. is_column c.args.basin.now n) c.loop-number.number n below due));
     }

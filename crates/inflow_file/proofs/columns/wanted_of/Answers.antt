@@ -7,7 +7,9 @@ pub loop-right-init : goal.loop-right-init
 loop-right-init c = c.new-wanted.ensures.items ∙ sym (none_below (λ n. is_in_series c.args.basin.now n))
 
 pub loop-right-preserved : goal.loop-right-preserved
-loop-right-preserved c = c.in_ok-add_wanted.ensures ∙ rw c.loop-right.invariant (sym (filter_next (λ n. is_in_series c.args.basin.now n) c.loop-right.right))
+loop-right-preserved c =
+    c.in_ok-add_wanted.ensures ∙ rw c.loop-right.invariant
+    (sym (filter_next (λ n. is_in_series c.args.basin.now n) c.loop-right.right))
 
 pub returns : goal.returns
 returns c =

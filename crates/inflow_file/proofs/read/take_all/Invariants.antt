@@ -9,7 +9,8 @@ abbrev pub invariant-rows : goal.invariant-rows
 invariant-rows l = record {
   reading : IsReading l.reader;
   before : List (List (List ℕ));
-  all : before ++ map (with_kind l.kinds) (records_left l.reader) ≡ map (with_kind l.kinds) (records_left l.initial.reader);
+  all : before ++ map (with_kind l.kinds) (records_left l.reader) ≡ map (with_kind l.kinds)
+      (records_left l.initial.reader);
   amounts : l.amounts ≡ given_by l.columns.basin.now before;
   faults : first_fault l.columns.basin.now before (l.number + 1) (map (with_kind l.kinds) (records_left l.reader))
       ≡ first_fault l.columns.basin.now [] 2 (map (with_kind l.kinds) (records_left l.initial.reader));

@@ -9,5 +9,6 @@ returns-clause-reading c = λ found.
 
 pub returns-clause-takes : goal.returns-clause-takes
 returns-clause-takes c =
-    takes_first c.args.reader.now c.read_byte_record.new.self c.in-Ok.found (fields_of c.read_byte_record.new.row) c.requires
+    takes_first c.args.reader.now c.read_byte_record.new.self c.in-Ok.found (fields_of c.read_byte_record.new.row)
+    c.requires
     (c.in-Ok.ensures.reads c.requires.trim c.requires.ready)

@@ -8,10 +8,12 @@ use Rattle.lag_returns.proofs.Lags.open.Goals as goal
 
 pub invariant_of-result : goal.invariant_of-result
 invariant_of-result c =
-    let all : c.loop-row.flows.items ≡ map fresh c.args.rows.now = c.loop-row.invariant ∙ ap (map fresh) (take_all c.loop-row.row-index c.args.rows.now (omega arith)) in
+    let all : c.loop-row.flows.items ≡ map fresh c.args.rows.now =
+    c.loop-row.invariant ∙ ap (map fresh) (take_all c.loop-row.row-index c.args.rows.now (omega arith)) in
     subst (All (λ w. IsLagged w.row)) (sym all) (lagged_fresh c.args.rows.now c.requires)
 
 pub returns : goal.returns
 returns c =
-    let all : c.loop-row.flows.items ≡ map fresh c.args.rows.now = c.loop-row.invariant ∙ ap (map fresh) (take_all c.loop-row.row-index c.args.rows.now (omega arith)) in
+    let all : c.loop-row.flows.items ≡ map fresh c.args.rows.now =
+    c.loop-row.invariant ∙ ap (map fresh) (take_all c.loop-row.row-index c.args.rows.now (omega arith)) in
     subst (λ lags. StandsFor lags c.args.rows.now []) (sym all) (stands_fresh c.args.rows.now)

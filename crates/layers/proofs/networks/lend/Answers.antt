@@ -8,7 +8,9 @@ lend-requires c =
     let count = fixed_count circ.nodes circ.arcs in
     let front = c.split_at_mut-fixed.ensures.front ∙ ap (λ (n : ℕ). take n c.args.words.now) c.fixed.ensures in
     let back = c.split_at_mut-fixed.ensures.back ∙ ap (λ (n : ℕ). drop n c.args.words.now) c.fixed.ensures in
-    let one = subst (λ (xs : List ℕ). AreWordsOf circ c.requires.0 xs (drop count c.args.words.now)) (sym front) c.requires.1 in (
+    let one =
+    subst (λ (xs : List ℕ). AreWordsOf circ c.requires.0 xs (drop count c.args.words.now)) (sym front)
+    c.requires.1 in (
       c.requires.0,
       subst (λ (xs : List ℕ). AreWordsOf circ c.requires.0 c.split_at_mut-fixed.result.0.now xs) (sym back) one,
     )

@@ -7,8 +7,10 @@ use Rattle.month_fold.proofs.blank.blank_month.Goals as goal
 
 pub returns-clause-fits : goal.returns-clause-fits
 returns-clause-fits c =
-    let same : c.deref_mut.result.now ≡ blank_record c.args.basin.now c.in_ok-cuts.cuts = c.deref_mut.ensures.value ∙ c.in_ok-month.ensures in
+    let same : c.deref_mut.result.now ≡ blank_record c.args.basin.now c.in_ok-cuts.cuts =
+    c.deref_mut.ensures.value ∙ c.in_ok-month.ensures in
     fits_with_closing c.args.basin.now c.deref_mut.result.now c.args.stored
     (subst (FitsRecord c.args.basin.now) (sym same) (blank_fits c.args.basin.now c.in_ok-cuts.cuts
-    (no_sets_count _ _ _ _ c.in_ok-cuts.ensures c.len.ensures) (no_sets_nodes _ _ _ _ c.in_ok-cuts.ensures c.len-2.ensures)))
+    (no_sets_count _ _ _ _ c.in_ok-cuts.ensures c.len.ensures)
+    (no_sets_nodes _ _ _ _ c.in_ok-cuts.ensures c.len-2.ensures)))
     c.requires.stored

@@ -1,6 +1,7 @@
 use Rattle.std.proofs.Common.{◌≡◌, ◌∙◌, refl, sym, ap, length}
 use Rattle.senior_hold.specs.Solved.{IsSolved, FitsCuts}
-use Rattle.month_fold.proofs.Following.{node_small, settled_given, planned_small, next_small, made_follows, begun_fits, run_begun}
+use Rattle.month_fold.proofs.Following.{node_small, settled_given, planned_small, next_small, made_follows, begun_fits}
+use Rattle.month_fold.proofs.Following.{run_begun}
 use Rattle.month_fold.proofs.next.next_month.Goals as goal
 
 pub bring_back-requires-clause-used : goal.bring_back-requires-clause-used
@@ -9,8 +10,10 @@ bring_back-requires-clause-used g c = c.requires.month.fits.used ∙ sym c.requi
 pub settle-requires-clause-small : goal.settle-requires-clause-small
 settle-requires-clause-small g c = λ evaporated n l.
     let months = c.requires.months in
-    node_small c.args.basin.now c.args.series.now months.records c.bring_back.new.month c.args.index evaporated n c.requires.basin c.requires.series
-    (run_begun _ months.records c.bring_back.new.month months.stands c.bring_back.ensures.rest (c.bring_back.ensures.each _ months.stands.lags) c.bring_back.ensures.used)
+    node_small c.args.basin.now c.args.series.now months.records c.bring_back.new.month c.args.index evaporated n
+    c.requires.basin c.requires.series
+    (run_begun _ months.records c.bring_back.new.month months.stands c.bring_back.ensures.rest
+    (c.bring_back.ensures.each _ months.stands.lags) c.bring_back.ensures.used)
     months.stands.done l
 
 pub solve_month-requires-clause-given : goal.solve_month-requires-clause-given
@@ -18,30 +21,40 @@ solve_month-requires-clause-given g c =
     let months = c.requires.months in
     let uses : length c.bring_back.new.month.used ≡ length c.args.month.now.used =
     ap length c.bring_back.ensures.used ∙ (months.stands.used.count ∙ sym c.requires.month.fits.used) in
-    rw (c.requires.solver, c.as_slice.ensures, c.as_slice-2.ensures) (settled_given c.args.basin.now c.args.series.now months.records c.args.index
+    rw (c.requires.solver, c.as_slice.ensures, c.as_slice-2.ensures)
+    (settled_given c.args.basin.now c.args.series.now months.records c.args.index
     c.bring_back.new.month c.settle.new.month c.clear.new.self c.requires.basin c.requires.series
-    (run_begun _ months.records c.bring_back.new.month months.stands c.bring_back.ensures.rest (c.bring_back.ensures.each _ months.stands.lags) c.bring_back.ensures.used)
-    months.stands.done (begun_fits c.args.basin.now c.args.month.now c.bring_back.new.month c.requires.month c.bring_back.ensures.rest c.bring_back.ensures.length uses)
+    (run_begun _ months.records c.bring_back.new.month months.stands c.bring_back.ensures.rest
+    (c.bring_back.ensures.each _ months.stands.lags) c.bring_back.ensures.used)
+    months.stands.done
+    (begun_fits c.args.basin.now c.args.month.now c.bring_back.new.month c.requires.month c.bring_back.ensures.rest
+    c.bring_back.ensures.length uses)
     c.settle.ensures c.clear.ensures)
 
 pub conclude-requires-clause-small : goal.conclude-requires-clause-small
 conclude-requires-clause-small g c =
-    let solved : IsSolved c.args.basin.now c.settle.new.month.month c.settle.new.month.supply c.settle.new.month.want c.solve_month.new.plan c.solve_month.new.cuts =
+    let solved : IsSolved c.args.basin.now c.settle.new.month.month c.settle.new.month.supply c.settle.new.month.want
+    c.solve_month.new.plan c.solve_month.new.cuts =
     rw (c.requires.solver, c.as_slice.ensures, c.as_slice-2.ensures) at c.solve_month.ensures.solved in
-    planned_small c.args.basin.now c.args.series.now c.args.index c.bring_back.new.month c.settle.new.month c.solve_month.new.plan c.solve_month.new.cuts
+    planned_small c.args.basin.now c.args.series.now c.args.index c.bring_back.new.month c.settle.new.month
+    c.solve_month.new.plan c.solve_month.new.cuts
     c.requires.basin c.requires.series c.settle.ensures solved
 
 pub returns-clause-next : goal.returns-clause-next
 returns-clause-next g c = λ records stands.
     let uses : length c.bring_back.new.month.used ≡ length c.args.month.now.used =
     ap length c.bring_back.ensures.used ∙ (stands.used.count ∙ sym c.requires.month.fits.used) in
-    let solved : IsSolved c.args.basin.now c.settle.new.month.month c.settle.new.month.supply c.settle.new.month.want c.solve_month.new.plan c.solve_month.new.cuts =
+    let solved : IsSolved c.args.basin.now c.settle.new.month.month c.settle.new.month.supply c.settle.new.month.want
+    c.solve_month.new.plan c.solve_month.new.cuts =
     rw (c.requires.solver, c.as_slice.ensures, c.as_slice-2.ensures) at c.solve_month.ensures.solved in
     let cuts : FitsCuts c.args.basin.now c.solve_month.new.cuts = rw c.requires.solver at c.solve_month.ensures.cuts in
     made_follows c.args.basin.now c.args.series.now records c.args.index c.bring_back.new.month c.settle.new.month
-    (record c.settle.new.month { plan = c.solve_month.new.plan; cuts = c.solve_month.new.cuts }) c.conclude.new.month c.requires.basin c.requires.series
-    (run_begun _ records c.bring_back.new.month stands c.bring_back.ensures.rest (c.bring_back.ensures.each _ stands.lags) c.bring_back.ensures.used) stands.done (record {
-      fits = begun_fits c.args.basin.now c.args.month.now c.bring_back.new.month c.requires.month c.bring_back.ensures.rest c.bring_back.ensures.length uses;
+    (record c.settle.new.month { plan = c.solve_month.new.plan; cuts = c.solve_month.new.cuts }) c.conclude.new.month
+    c.requires.basin c.requires.series
+    (run_begun _ records c.bring_back.new.month stands c.bring_back.ensures.rest
+    (c.bring_back.ensures.each _ stands.lags) c.bring_back.ensures.used) stands.done (record {
+      fits = begun_fits c.args.basin.now c.args.month.now c.bring_back.new.month c.requires.month
+          c.bring_back.ensures.rest c.bring_back.ensures.length uses;
       is_settled = c.settle.ensures;
       is_planned = refl;
       solved = solved;
@@ -51,5 +64,6 @@ returns-clause-next g c = λ records stands.
 
 pub returns-clause-small : goal.returns-clause-small
 returns-clause-small g c =
-    next_small c.args.basin.now c.args.series.now c.requires.months.records c.conclude.new.month c.requires.basin c.requires.series
+    next_small c.args.basin.now c.args.series.now c.requires.months.records c.conclude.new.month c.requires.basin
+    c.requires.series
     (returns-clause-next g c c.requires.months.records c.requires.months.stands)

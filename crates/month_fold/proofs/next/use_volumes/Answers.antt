@@ -6,10 +6,14 @@ use Rattle.month_fold.proofs.next.use_volumes.Goals as goal
 
 pub returns : goal.returns
 returns c = λ deliveries count has.
-    let spent = c.use_month.ensures.each deliveries count (subst (HasUsed c.args.basin.now deliveries) (sym c.as_mut_slice.ensures.value) has) in
+    let spent =
+    c.use_month.ensures.each deliveries count
+    (subst (HasUsed c.args.basin.now deliveries) (sym c.as_mut_slice.ensures.value) has) in
     subst (HasUsed c.args.basin.now (deliveries ++ c.args.month.now.delivered ∷ []))
-    (sym (whole_rows c.args.used.now c.use_month.new.used (c.use_month.ensures.length ∙ ap length c.as_mut_slice.ensures.value)))
-    (subst (λ (ds : List ℕ). HasUsed c.args.basin.now (deliveries ++ ds ∷ []) c.use_month.new.used) c.as_slice.ensures spent)
+    (sym (whole_rows c.args.used.now c.use_month.new.used
+    (c.use_month.ensures.length ∙ ap length c.as_mut_slice.ensures.value)))
+    (subst (λ (ds : List ℕ). HasUsed c.args.basin.now (deliveries ++ ds ∷ []) c.use_month.new.used)
+    c.as_slice.ensures spent)
 
 pub use_month-requires-clause-small : goal.use_month-requires-clause-small
 use_month-requires-clause-small c = λ r l. omega (

@@ -7,6 +7,7 @@ pub loop-month-preserved : goal.loop-month-preserved
 loop-month-preserved c =
     let here : c.loop-month.month-index < length c.args.months.now = omega arith in
     subst (lag.StandsFor c.month_done.new.self c.args.basin.now.returns)
-    (sym (deliveries_more (λ m. m.value) c.args.months.now c.loop-month.month-index c.month-item.result c.as_slice-in-loop-month.result.now here c.month-item.is
+    (sym (deliveries_more (λ m. m.value) c.args.months.now c.loop-month.month-index c.month-item.result
+    c.as_slice-in-loop-month.result.now here c.month-item.is
     (c.as_slice-in-loop-month.ensures ∙ ap (λ m. m.delivered) c.deref.ensures)))
     (c.month_done.ensures.stands _ _ c.loop-month.invariant)

@@ -3,4 +3,5 @@ use Rattle.lag_returns.specs.Lags as lag
 use Rattle.month_fold.proofs.resume.on_the_way.Given as goal
 
 abbrev pub invariant-loop-month : goal.invariant-loop-month
-invariant-loop-month l = lag.StandsFor l.lags l.basin.returns (map (λ m. m.delivered) (map (λ m. m.value) (take l.month-index l.months)))
+invariant-loop-month l =
+    lag.StandsFor l.lags l.basin.returns (map (λ m. m.delivered) (map (λ m. m.value) (take l.month-index l.months)))

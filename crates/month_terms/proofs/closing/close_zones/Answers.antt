@@ -13,20 +13,34 @@ loop-right-init c = λ v.
 
 pub add_at-requires-clause-place : goal.add_at-requires-clause-place
 add_at-requires-clause-place c =
-    let within = zone_within c.args.basin.now c.loop-right.right c.in-Zone.reservoir c.in-Zone.level c.index.result.now c.requires.basin c.index.ensures c.in-Zone.is in
+    let within =
+    zone_within c.args.basin.now c.loop-right.right c.in-Zone.reservoir c.in-Zone.level c.index.result.now
+    c.requires.basin c.index.ensures c.in-Zone.is in
     omega (arith, within, c.loop-right.auto.closing, c.fill.ensures.len, c.requires.closing)
 
 pub add_at-requires-clause-small : goal.add_at-requires-clause-small
 add_at-requires-clause-small c =
-    let below : c.loop-right.right < length c.args.basin.now.rights = omega (arith, c.loop-right-test.true, c.len-right-end.ensures) in
-    let sum = sum_small c.loop-right.right (10 ^ 9) (λ r. is_zone_of c.args.basin.now r c.in-Zone.reservoir) (λ r. slice_index c.args.take.now r)
+    let below : c.loop-right.right < length c.args.basin.now.rights =
+    omega (arith, c.loop-right-test.true, c.len-right-end.ensures) in
+    let sum =
+    sum_small c.loop-right.right (10 ^ 9) (λ r. is_zone_of c.args.basin.now r c.in-Zone.reservoir)
+    (λ r. slice_index c.args.take.now r)
     (λ k l. c.requires.small k (omega arith)) in
-    omega (arith, below, sum, c.loop-right.invariant c.in-Zone.reservoir, c.requires.small c.loop-right.right below, c.requires.basin.few.rights)
+    omega (
+      arith,
+      below,
+      sum,
+      c.loop-right.invariant c.in-Zone.reservoir,
+      c.requires.small c.loop-right.right below,
+      c.requires.basin.few.rights,
+    )
 
 pub loop-right-preserved : goal.loop-right-preserved
 loop-right-preserved c = λ v. elim c.match-index.branch [
   | in-Zone w ↦ ap (λ xs. slice_index xs v) w.closing-is ∙ (w.add_at.ensures.each v
-      ∙ zone_more c.args.basin.now c.args.take.now c.loop-right.closing c.loop-right.right v w.in-Zone.reservoir w.in-Zone.level _ c.index.result.now c.index.ensures w.in-Zone.is (c.loop-right.invariant v))
+      ∙ zone_more c.args.basin.now c.args.take.now c.loop-right.closing c.loop-right.right v w.in-Zone.reservoir
+      w.in-Zone.level _ c.index.result.now c.index.ensures w.in-Zone.is (c.loop-right.invariant v))
   | in_default w ↦ ap (λ xs. slice_index xs v) w.closing-is
-      ∙ no_zone_more c.args.basin.now c.args.take.now c.loop-right.right v _ c.index.result.now c.index.ensures w.in_default.not-Zone (c.loop-right.invariant v)
+      ∙ no_zone_more c.args.basin.now c.args.take.now c.loop-right.right v _ c.index.result.now
+      c.index.ensures w.in_default.not-Zone (c.loop-right.invariant v)
 ]

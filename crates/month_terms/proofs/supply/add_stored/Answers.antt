@@ -10,17 +10,26 @@ loop-reservoir-init c = λ n. nothing_yet (λ v. is_at (node_of_reservoir c.args
 
 pub add_at-requires-clause-place : goal.add_at-requires-clause-place
 add_at-requires-clause-place c =
-    omega (arith, node_within c.args.basin.now c.loop-reservoir.reservoir _ c.requires.basin c.index.ensures, c.loop-reservoir.auto.supply, c.requires.supply)
+    omega (
+      arith,
+      node_within c.args.basin.now c.loop-reservoir.reservoir _ c.requires.basin c.index.ensures,
+      c.loop-reservoir.auto.supply,
+      c.requires.supply,
+    )
 
 pub add_at-requires-clause-small : goal.add_at-requires-clause-small
 add_at-requires-clause-small c =
     let node : ℕ = c.index.result.now.node in
     let within = node_within c.args.basin.now c.loop-reservoir.reservoir _ c.requires.basin c.index.ensures in
-    let below : c.loop-reservoir.reservoir < length c.args.basin.now.reservoirs = omega (arith, c.loop-reservoir-test.true, c.len-reservoir-end.ensures) in
+    let below : c.loop-reservoir.reservoir < length c.args.basin.now.reservoirs =
+    omega (arith, c.loop-reservoir-test.true, c.len-reservoir-end.ensures) in
     omega (
       arith,
-      sum_within (length c.args.basin.now.reservoirs) c.loop-reservoir.reservoir node (λ v. node_of_reservoir c.args.basin.now v)
-          (λ v. slice_index c.args.opening.now v - slice_index c.args.evaporated.now v) node _ _ (reservoir_node c.args.basin.now c.loop-reservoir.reservoir _ c.index.ensures) refl (c.loop-reservoir.invariant node) below,
+      sum_within (length c.args.basin.now.reservoirs) c.loop-reservoir.reservoir node
+          (λ v. node_of_reservoir c.args.basin.now v)
+          (λ v. slice_index c.args.opening.now v - slice_index c.args.evaporated.now v) node _ _
+          (reservoir_node c.args.basin.now c.loop-reservoir.reservoir _ c.index.ensures) refl
+          (c.loop-reservoir.invariant node) below,
       c.requires.small node within,
     )
 

@@ -5,4 +5,5 @@ use Rattle.month_terms.proofs.supply.add_stored.Given as goal
 
 abbrev pub invariant-loop-reservoir : goal.invariant-loop-reservoir
 invariant-loop-reservoir l = (n : ℕ) → slice_index l.supply n ≡ slice_index l.fn.supply n
-    + total_where l.reservoir (λ v. is_at (node_of_reservoir l.basin v) n) (λ v. slice_index l.opening v - slice_index l.evaporated v)
+    + total_where l.reservoir (λ v. is_at (node_of_reservoir l.basin v) n)
+    (λ v. slice_index l.opening v - slice_index l.evaporated v)

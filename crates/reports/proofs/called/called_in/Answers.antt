@@ -5,12 +5,19 @@ use Rattle.reports.proofs.Rights.{count_none, count_more, at_most_more}
 use Rattle.reports.proofs.called.called_in.Goals as goal
 
 pub loop-right-init : goal.loop-right-init
-loop-right-init c = record { value = count_none (λ right. is_some (calling_right c.args.basin.now c.args.month.now right)); few = omega arith }
+loop-right-init c =
+    record {
+      value = count_none (λ right. is_some (calling_right c.args.basin.now c.args.month.now right));
+      few =
+          omega arith;
+    }
 
 pub loop-right-preserved : goal.loop-right-preserved
 loop-right-preserved c = record {
-  value = count_more (λ right. is_some (calling_right c.args.basin.now c.args.month.now right)) c.loop-right.right c.loop-right.count c.called_once-count.result
+  value = count_more (λ right. is_some (calling_right c.args.basin.now c.args.month.now right)) c.loop-right.right
+      c.loop-right.count c.called_once-count.result
       c.loop-right.invariant.value c.called_once-count.ensures;
-  few = at_most_more (is_some (calling_right c.args.basin.now c.args.month.now c.loop-right.right)) c.loop-right.right c.loop-right.count c.called_once-count.result
+  few = at_most_more (is_some (calling_right c.args.basin.now c.args.month.now c.loop-right.right)) c.loop-right.right
+      c.loop-right.count c.called_once-count.result
       c.called_once-count.ensures c.loop-right.invariant.few;
 }

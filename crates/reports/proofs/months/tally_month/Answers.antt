@@ -8,7 +8,9 @@ add-requires-clause-next g c =
     let before = c.requires.tally in
     record {
       records = before.records;
-      partial = next_partial c.args.basin.now c.args.series.now c.step.new.self before.records c.month.result.now (c.step.ensures.basin ∙ before.basin)
+      partial =
+          next_partial c.args.basin.now c.args.series.now c.step.new.self before.records c.month.result.now
+          (c.step.ensures.basin ∙ before.basin)
           (c.step.ensures.series ∙ before.fits) c.month.ensures (c.step.ensures.month before.records before.stands);
       tally = before.tally;
     }
@@ -21,5 +23,6 @@ returns-clause-tally g c =
       fits = c.step.ensures.series ∙ before.fits;
       records = before.records ++ c.step.new.self.last ∷ [];
       stands = c.step.ensures.month before.records before.stands;
-      tally = subst (λ m. IsTally c.args.basin.now c.args.series.now (before.records ++ m ∷ []) c.add.new.self) c.month.ensures (c.add.ensures before.records before.tally);
+      tally = subst (λ m. IsTally c.args.basin.now c.args.series.now (before.records ++ m ∷ []) c.add.new.self)
+          c.month.ensures (c.add.ensures before.records before.tally);
     }

@@ -8,6 +8,7 @@ returns-clause-tally g c =
     let done : c.loop-month.run.done ≡ c.args.basin.now.months = omega arith in
     record {
       records = tally.records;
-      run = whole_run c.args.basin.now c.args.series.now c.loop-month.run tally.records c.requires.basin tally.basin tally.fits tally.stands done;
+      run = whole_run c.args.basin.now c.args.series.now c.loop-month.run tally.records c.requires.basin tally.basin
+          tally.fits tally.stands done;
       tally = tally.tally;
     }

@@ -8,6 +8,7 @@ returns-clause-trial g c =
     let done : c.loop-month.run.done ≡ c.args.basin.now.months = omega arith in
     record {
       records = trial.records;
-      run = whole_run c.args.basin.now c.args.series.now c.loop-month.run trial.records c.requires.basin trial.basin trial.fits trial.stands done;
+      run = whole_run c.args.basin.now c.args.series.now c.loop-month.run trial.records c.requires.basin trial.basin
+          trial.fits trial.stands done;
       trial = trial.trial;
     }

@@ -9,16 +9,19 @@ put_report-requires-clause-count g c =
 pub put_report-requires-clause-worst : goal.put_report-requires-clause-worst
 put_report-requires-clause-worst g c =
     let all = c.in-Ok-tally_run.ensures.tally in
-    months_told c.args.basin.now c.args.series.now all.records c.in-Ok-tally_run.tally c.requires.basin all.run.history.partial all.tally
+    months_told c.args.basin.now c.args.series.now all.records c.in-Ok-tally_run.tally c.requires.basin
+    all.run.history.partial all.tally
 
 pub returns-in-Ok-put_report-clause-text : goal.returns-in-Ok-put_report-clause-text
 returns-in-Ok-put_report-clause-text g c =
     let all = c.in-Ok-tally_run.ensures.tally in
-    report_put c.args.basin.now c.args.series.now all.records c.in-Ok-tally_run.tally (g.K.Sink.taken c.args.sink.now) (g.K.Sink.taken c.put_report.new.sink)
+    report_put c.args.basin.now c.args.series.now all.records c.in-Ok-tally_run.tally (g.K.Sink.taken c.args.sink.now)
+    (g.K.Sink.taken c.put_report.new.sink)
     all.run all.tally c.in-Ok-put_report.ensures.text
 
 pub returns-clause-text : goal.returns-clause-text
 returns-clause-text g c =
     let all = c.in-Ok-tally_run.ensures.tally in
-    report_cut c.args.basin.now c.args.series.now all.records c.in-Ok-tally_run.tally (g.K.Sink.taken c.args.sink.now) (g.K.Sink.taken c.put_report.new.sink)
+    report_cut c.args.basin.now c.args.series.now all.records c.in-Ok-tally_run.tally (g.K.Sink.taken c.args.sink.now)
+    (g.K.Sink.taken c.put_report.new.sink)
     all.run all.tally c.in-Err-put_report.ensures.text

@@ -10,16 +10,20 @@ use Rattle.reports.proofs.texts.put_rights.Goals as goal
 
 pub put_listed-requires-clause-right : goal.put_listed-requires-clause-right
 put_listed-requires-clause-right g c =
-    order_in_range c.args.basin.now.rights c.by_seniority-order.result.now c.loop-right.right-index (c.by_seniority-order.ensures ∙ c.requires.roll.order) c.loop-right-test.true
+    order_in_range c.args.basin.now.rights c.by_seniority-order.result.now c.loop-right.right-index
+    (c.by_seniority-order.ensures ∙ c.requires.roll.order) c.loop-right-test.true
 
 pub returns-in_err-put_listed-clause-text : goal.returns-in_err-put_listed-clause-text
 returns-in_err-put_listed-clause-text g c =
     let right : ℕ = get_or c.by_seniority-order.result.now c.loop-right.right-index 0 in
-    subst (λ (piece : List ℕ). Puts (g.K.Sink.taken c.args.sink.now) (g.K.Sink.taken c.put_listed.new.sink) c.from_residual.result piece)
-    (rows_of (row_in c.args.basin.now c.args.rights.now) c.by_seniority-order.result.now _ (c.by_seniority-order.ensures ∙ c.requires.roll.order))
+    subst (λ (piece : List ℕ). Puts (g.K.Sink.taken c.args.sink.now) (g.K.Sink.taken c.put_listed.new.sink)
+    c.from_residual.result piece)
+    (rows_of (row_in c.args.basin.now c.args.rights.now) c.by_seniority-order.result.now _
+    (c.by_seniority-order.ensures ∙ c.requires.roll.order))
     (SoFar-fails right (g.K.Sink.taken c.put_listed.new.sink) c.from_residual.result c.loop-right.invariant
     (slice_get-get_or c.by_seniority-order.result.now c.loop-right.right-index 0 c.loop-right-test.true)
-    (PutsFront-cut (g.K.Sink.taken c.loop-right.sink) (g.K.Sink.taken c.put_listed.new.sink) (row_in c.args.basin.now c.args.rights.now right) []
+    (PutsFront-cut (g.K.Sink.taken c.loop-right.sink) (g.K.Sink.taken c.put_listed.new.sink)
+    (row_in c.args.basin.now c.args.rights.now right) []
     c.in_err-put_listed.ensures.text)
     c.from_residual.ensures.0)
 
@@ -35,5 +39,6 @@ loop-right-preserved g c =
 pub returns-clause-text : goal.returns-clause-text
 returns-clause-text g c =
     subst (λ (piece : List ℕ). Appends (g.K.Sink.taken c.args.sink.now) (g.K.Sink.taken c.loop-right.sink) piece)
-    (rows_of (row_in c.args.basin.now c.args.rights.now) c.by_seniority-order.result.now _ (c.by_seniority-order.ensures ∙ c.requires.roll.order))
+    (rows_of (row_in c.args.basin.now c.args.rights.now) c.by_seniority-order.result.now _
+    (c.by_seniority-order.ensures ∙ c.requires.roll.order))
     (SoFar-whole c.loop-right.invariant c.loop-right-test.false)

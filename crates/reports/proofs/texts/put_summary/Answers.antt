@@ -7,17 +7,24 @@ use Rattle.reports.proofs.texts.put_summary.Goals as goal
 
 pub returns-in_err-put_totals-clause-text : goal.returns-in_err-put_totals-clause-text
 returns-in_err-put_totals-clause-text g c =
-    Puts-cut (g.K.Sink.taken c.args.sink.now) (g.K.Sink.taken c.put_totals.new.sink) c.from_residual-in_err-put_totals.result _ _ c.from_residual-in_err-put_totals.ensures.0
-    (PutsFront-then (g.K.Sink.taken c.args.sink.now) (g.K.Sink.taken c.put_made.new.sink) (g.K.Sink.taken c.put_totals.new.sink)
-    (made_rows c.args.number c.args.size c.args.basin.now) (amount_rows c.args.totals.now ++ count_rows c.args.totals.now c.args.called)
+    Puts-cut (g.K.Sink.taken c.args.sink.now) (g.K.Sink.taken c.put_totals.new.sink)
+    c.from_residual-in_err-put_totals.result _ _ c.from_residual-in_err-put_totals.ensures.0
+    (PutsFront-then (g.K.Sink.taken c.args.sink.now) (g.K.Sink.taken c.put_made.new.sink)
+    (g.K.Sink.taken c.put_totals.new.sink)
+    (made_rows c.args.number c.args.size c.args.basin.now)
+    (amount_rows c.args.totals.now ++ count_rows c.args.totals.now c.args.called)
     c.in_ok-put_made.ensures.text c.in_err-put_totals.ensures.text)
 
 pub returns-clause-text : goal.returns-clause-text
 returns-clause-text g c =
-    Puts-then (g.K.Sink.taken c.args.sink.now) (g.K.Sink.taken c.put_totals.new.sink) (g.K.Sink.taken c.put_end.new.sink) c.put_end.result
-    (made_rows c.args.number c.args.size c.args.basin.now ++ (amount_rows c.args.totals.now ++ count_rows c.args.totals.now c.args.called))
+    Puts-then (g.K.Sink.taken c.args.sink.now) (g.K.Sink.taken c.put_totals.new.sink)
+    (g.K.Sink.taken c.put_end.new.sink) c.put_end.result
+    (made_rows c.args.number c.args.size
+    c.args.basin.now ++ (amount_rows c.args.totals.now ++ count_rows c.args.totals.now c.args.called))
     (balance_row c.args.waters.now ++ done_row c.args.basin.now)
-    (Appends-then (g.K.Sink.taken c.args.sink.now) (g.K.Sink.taken c.put_made.new.sink) (g.K.Sink.taken c.put_totals.new.sink)
-    (made_rows c.args.number c.args.size c.args.basin.now) (amount_rows c.args.totals.now ++ count_rows c.args.totals.now c.args.called)
+    (Appends-then (g.K.Sink.taken c.args.sink.now) (g.K.Sink.taken c.put_made.new.sink)
+    (g.K.Sink.taken c.put_totals.new.sink)
+    (made_rows c.args.number c.args.size c.args.basin.now)
+    (amount_rows c.args.totals.now ++ count_rows c.args.totals.now c.args.called)
     c.in_ok-put_made.ensures.text c.in_ok-put_totals.ensures.text)
     c.put_end.ensures.text

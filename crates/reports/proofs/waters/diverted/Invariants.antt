@@ -4,4 +4,5 @@ use Rattle.water_model.specs.Valid.{is_diversion}
 use Rattle.reports.proofs.waters.diverted.Given as goal
 
 abbrev pub invariant-loop-right : goal.invariant-loop-right
-invariant-loop-right l = l.sum ≡ total_where l.right (λ r. is_diversion l.basin r) (λ r. slice_index l.month.delivered r)
+invariant-loop-right l =
+    l.sum ≡ total_where l.right (λ r. is_diversion l.basin r) (λ r. slice_index l.month.delivered r)

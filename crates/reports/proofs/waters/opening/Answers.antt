@@ -7,7 +7,8 @@ use Rattle.reports.proofs.waters.opening.Goals as goal
 pub overflow_add-sum : goal.overflow_add-sum
 overflow_add-sum c = omega (
   arith,
-  sum_by_more_le (λ v. v.opening) c.as_slice-reservoir-items.result.now c.loop-reservoir.reservoir-index c.reservoir-item.result c.loop-reservoir-test.true,
+  sum_by_more_le (λ v. v.opening) c.as_slice-reservoir-items.result.now c.loop-reservoir.reservoir-index
+      c.reservoir-item.result c.loop-reservoir-test.true,
   ap (λ v. v.opening) c.reservoir-item.is,
   c.loop-reservoir.invariant,
   ap (λ xs. sum_by (λ v. v.opening) xs) c.as_slice-reservoir-items.ensures,

@@ -10,7 +10,8 @@ loop-node-init c = sym (total_start (λ n. inflow_at c.args.basin.now c.args.ser
 pub overflow_add-inflow : goal.overflow_add-inflow
 overflow_add-inflow c = omega (
   arith,
-  inflow_fits c.args.basin.now c.args.series.now c.args.index c.loop-node.node c.requires.basin c.requires.series (omega arith),
+  inflow_fits c.args.basin.now c.args.series.now c.args.index c.loop-node.node c.requires.basin c.requires.series
+      (omega arith),
   c.loop-node.invariant,
   c.inflow_of-inflow.ensures,
 )

@@ -4,7 +4,8 @@ use Rattle.result_reader.proofs.Pieces.{split-cut, split-whole}
 use Rattle.result_reader.proofs.fields.cut.Goals as goal
 
 pub returns-in-Some : goal.returns-in-Some
-returns-in-Some c = split-cut (λ byte. byte == 32) c.args.text.now c.in-Some.at (sym c.first_space.ensures ∙ c.in-Some.is)
+returns-in-Some c =
+    split-cut (λ byte. byte == 32) c.args.text.now c.in-Some.at (sym c.first_space.ensures ∙ c.in-Some.is)
 
 pub returns-in-None : goal.returns-in-None
 returns-in-None c = split-whole (λ byte. byte == 32) c.args.text.now (sym c.first_space.ensures ∙ c.in-None.is)

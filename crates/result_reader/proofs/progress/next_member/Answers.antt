@@ -29,5 +29,7 @@ pub returns-in_err-next : goal.returns-in_err-next
 returns-in_err-next c =
     let b = c.args.basin.now in
     let ds = due_at c.args.basin.now c.args.dues.now c.args.progress.place in
-    rw c.from_residual.ensures (ap (λ o. step b c.args.progress.must (members_due b o ++ ds) (line.Member c.args.node)) c.in_err-next.was
-    ∙ no_member_step b ds c.args.progress.must c.args.node (place_no_members b c.args.dues.now c.args.progress.place c.requires.dues))
+    rw c.from_residual.ensures (ap (λ o. step b c.args.progress.must (members_due b o ++ ds) (line.Member c.args.node))
+    c.in_err-next.was
+    ∙ no_member_step b ds c.args.progress.must c.args.node
+    (place_no_members b c.args.dues.now c.args.progress.place c.requires.dues))

@@ -13,7 +13,9 @@ returns-then-is_call c =
     let calls = sym c.is_call.ensures ∙ c.if-is_call.true in (
       ap (λ m. step b m (members_due b c.args.progress.next_member ++ ds) c.args.item.now) c.if-progress.false
           ∙ (other_step b ds c.args.progress.next_member c.args.item.now c.requires.other
-          ∙ (c.in_ok-place.ensures.0 ∙ ap (λ xs. Some (xs ++ due_at b c.args.dues.now c.in_ok-place.place)) (call_opens b c.args.item.now calls))),
+          ∙ (c.in_ok-place.ensures.0
+          ∙ ap (λ xs. Some (xs ++ due_at b c.args.dues.now c.in_ok-place.place))
+          (call_opens b c.args.item.now calls))),
       sym calls,
       record { place = c.in_ok-place.ensures.1; member = omega arith; must = λ _. refl },
     )
@@ -25,7 +27,9 @@ returns-else-is_call c =
     let calls = sym c.is_call.ensures ∙ c.if-is_call.false in (
       ap (λ m. step b m (members_due b c.args.progress.next_member ++ ds) c.args.item.now) c.if-progress.false
           ∙ (other_step b ds c.args.progress.next_member c.args.item.now c.requires.other
-          ∙ (c.in_ok-place.ensures.0 ∙ ap (λ xs. Some (xs ++ due_at b c.args.dues.now c.in_ok-place.place)) (other_opens b c.args.item.now calls))),
+          ∙ (c.in_ok-place.ensures.0
+          ∙ ap (λ xs. Some (xs ++ due_at b c.args.dues.now c.in_ok-place.place))
+          (other_opens b c.args.item.now calls))),
       sym calls,
       record { place = c.in_ok-place.ensures.1; member = tt; must = λ no. cc },
     )
@@ -34,5 +38,6 @@ pub returns-in_err-place : goal.returns-in_err-place
 returns-in_err-place c =
     let b = c.args.basin.now in
     let ds = due_at c.args.basin.now c.args.dues.now c.args.progress.place in
-    rw c.from_residual.ensures (ap (λ m. step b m (members_due b c.args.progress.next_member ++ ds) c.args.item.now) c.if-progress.false
+    rw c.from_residual.ensures (ap (λ m. step b m (members_due b c.args.progress.next_member ++ ds) c.args.item.now)
+    c.if-progress.false
     ∙ (other_step b ds c.args.progress.next_member c.args.item.now c.requires.other ∙ c.in_err-place.ensures))

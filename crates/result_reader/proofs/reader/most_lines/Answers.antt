@@ -2,12 +2,15 @@ use Rattle.std.proofs.Common.{◌≤◌, ◌+◌, ◌*◌, ◌^◌, length, arit
 use Rattle.result_reader.proofs.LinesLeft.{few_due, few_lines, most_of_run}
 use Rattle.result_reader.proofs.reader.most_lines.Goals as goal
 
-few : (c : goal.After-from) → c.from.result * (1 + length c.args.dues.now + c.len.result * c.len-2.result) + 3 ≤ 5 * 10 ^ 9
+few : (c : goal.After-from) →
+    c.from.result * (1 + length c.args.dues.now + c.len.result * c.len-2.result) + 3 ≤ 5 * 10 ^ 9
 few c =
     let dues : length c.args.dues.now ≤ 50000 =
     omega (arith, ap length c.requires.dues, few_due c.args.basin.now c.requires.basin) in
     few_lines (length c.args.dues.now) c.from.result c.len-2.result c.len.result dues
-    (omega (arith, c.from.ensures, c.requires.basin.run.months)) (omega (arith, c.len-2.ensures, c.requires.basin.few.nodes)) (omega (arith, c.len.ensures, c.requires.basin.few.rights))
+    (omega (arith, c.from.ensures, c.requires.basin.run.months))
+    (omega (arith, c.len-2.ensures, c.requires.basin.few.nodes))
+    (omega (arith, c.len.ensures, c.requires.basin.few.rights))
 
 pub overflow_mul-result : goal.overflow_mul-result
 overflow_mul-result c = omega (arith, few c)

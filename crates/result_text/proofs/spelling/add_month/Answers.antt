@@ -4,4 +4,10 @@ use Rattle.result_text.proofs.spelling.add_month.Goals as goal
 
 pub returns-clause-room : goal.returns-clause-room
 returns-clause-room c =
-    omega (arith, length-month_digits c.args.month c.requires.month, ap length c.word.ensures, ap length c.put_into.ensures, length-append {A = ℕ})
+    omega (
+      arith,
+      length-month_digits c.args.month c.requires.month,
+      ap length c.word.ensures,
+      ap length c.put_into.ensures,
+      length-append {A = ℕ},
+    )

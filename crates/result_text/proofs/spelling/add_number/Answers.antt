@@ -3,7 +3,15 @@ use Rattle.result_text.proofs.Lengths.{decimal_short}
 use Rattle.result_text.proofs.spelling.add_number.Goals as goal
 
 pub amount-requires : goal.amount-requires
-amount-requires c = omega (arith, decimal_short c.args.value (omega arith), ap length c.word.ensures, length-append {A = ℕ})
+amount-requires c =
+    omega (arith, decimal_short c.args.value (omega arith), ap length c.word.ensures, length-append {A = ℕ})
 
 pub returns-clause-room : goal.returns-clause-room
-returns-clause-room c = omega (arith, decimal_short c.args.value (omega arith), ap length c.word.ensures, ap length c.amount.ensures, length-append {A = ℕ})
+returns-clause-room c =
+    omega (
+      arith,
+      decimal_short c.args.value (omega arith),
+      ap length c.word.ensures,
+      ap length c.amount.ensures,
+      length-append {A = ℕ},
+    )

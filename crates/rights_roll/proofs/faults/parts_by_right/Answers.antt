@@ -11,4 +11,5 @@ pub loop-row-preserved : goal.loop-row-preserved
 loop-row-preserved c =
     let row : ReturnRow = record { right = 0; node = 0; part = 0; lag = 0 } in
     parts-more c.args.returns.now c.args.rights c.loop-row.sums.items c.loop-row.row-index row c.saturating_add.result
-    (omega arith) (c.requires c.loop-row.row-index row c.loop-row-test.true) (grind (arith, common_steps)) c.loop-row.invariant
+    (omega arith) (c.requires c.loop-row.row-index row c.loop-row-test.true) (grind (arith, common_steps))
+    c.loop-row.invariant

@@ -7,7 +7,11 @@ use Rattle.toml_tree.proofs.places.earlier_of.Given as goal
 
 abbrev pub invariant-loop-value : goal.invariant-loop-value
 invariant-loop-value l = record {
-  counts : (q : List ℕ) → counted l.counts q ≡ count_by (is_the_text q) (map (λ v. option_and_then as_str (get l.key (view v))) (take l.value-index l.values));
-  earlier : l.earlier.items ++ earlier_from (map (λ v. option_and_then as_str (get l.key (view v))) (take l.value-index l.values)) (map (λ v. option_and_then as_str (get l.key (view v))) (drop l.value-index l.values))
+  counts : (q : List ℕ) →
+      counted l.counts q ≡ count_by (is_the_text q)
+      (map (λ v. option_and_then as_str (get l.key (view v))) (take l.value-index l.values));
+  earlier : l.earlier.items ++ earlier_from
+      (map (λ v. option_and_then as_str (get l.key (view v))) (take l.value-index l.values))
+      (map (λ v. option_and_then as_str (get l.key (view v))) (drop l.value-index l.values))
       ≡ earlier_from [] (map (λ v. option_and_then as_str (get l.key (view v))) l.values);
 }

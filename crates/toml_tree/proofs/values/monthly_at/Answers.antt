@@ -7,4 +7,6 @@ use Rattle.toml_tree.proofs.values.monthly_at.Goals as goal
 
 pub returns : goal.returns
 unfolding monthly_of
-returns c = fill_by_all (month_number c.args.most (get_member c.args.key.now (table_view c.args.row.now))) c.loop-i.months 12 0 c.loop-i.invariant.0 (λ k h. c.loop-i.invariant.1 k (omega arith))
+returns c =
+    fill_by_all (month_number c.args.most (get_member c.args.key.now (table_view c.args.row.now))) c.loop-i.months 12 0
+    c.loop-i.invariant.0 (λ k h. c.loop-i.invariant.1 k (omega arith))

@@ -5,13 +5,15 @@ use Rattle.water_model.proofs.calls.number_of.Goals as goal
 pub overflow_mul-index : goal.overflow_mul-index
 overflow_mul-index c =
     let cell : HasWant c.args.basin.now c.args.inflows.now c.args.right c.args.index =
-    has_want c.args.basin.now c.args.inflows.now c.args.right c.args.index c.index-entry.result.now c.requires.basin c.requires.series c.requires.right c.requires.index c.index-entry.ensures c.if-entry.true in
+    has_want c.args.basin.now c.args.inflows.now c.args.right c.args.index c.index-entry.result.now c.requires.basin
+    c.requires.series c.requires.right c.requires.index c.index-entry.ensures c.if-entry.true in
     rw c.len.ensures (omega (arith, cell.small))
 
 pub overflow_add-index : goal.overflow_add-index
 overflow_add-index c =
     let cell : HasWant c.args.basin.now c.args.inflows.now c.args.right c.args.index =
-    has_want c.args.basin.now c.args.inflows.now c.args.right c.args.index c.index-entry.result.now c.requires.basin c.requires.series c.requires.right c.requires.index c.index-entry.ensures c.if-entry.true in
+    has_want c.args.basin.now c.args.inflows.now c.args.right c.args.index c.index-entry.result.now c.requires.basin
+    c.requires.series c.requires.right c.requires.index c.index-entry.ensures c.if-entry.true in
     rw (c.len.ensures, c.place_of-place.ensures, c.as_slice.ensures) (omega (arith, cell.small))
 
 pub place_of-place-requires : goal.place_of-place-requires
@@ -20,10 +22,12 @@ place_of-place-requires c = rw c.as_slice.ensures (wanted_rise c.args.basin.now 
 pub index-requires : goal.index-requires
 index-requires c =
     let cell : HasWant c.args.basin.now c.args.inflows.now c.args.right c.args.index =
-    has_want c.args.basin.now c.args.inflows.now c.args.right c.args.index c.index-entry.result.now c.requires.basin c.requires.series c.requires.right c.requires.index c.index-entry.ensures c.if-entry.true in
+    has_want c.args.basin.now c.args.inflows.now c.args.right c.args.index c.index-entry.result.now c.requires.basin
+    c.requires.series c.requires.right c.requires.index c.index-entry.ensures c.if-entry.true in
     rw (c.len.ensures, c.place_of-place.ensures, c.as_slice.ensures) cell.within
 
 pub returns-then-entry : goal.returns-then-entry
 returns-then-entry c =
-    want_is_number c.args.basin.now c.args.inflows.now c.args.right c.args.index c.index-entry.result.now c.index.result.now c.index-entry.ensures c.if-entry.true
+    want_is_number c.args.basin.now c.args.inflows.now c.args.right c.args.index c.index-entry.result.now
+    c.index.result.now c.index-entry.ensures c.if-entry.true
     (rw (c.len.ensures, c.place_of-place.ensures, c.as_slice.ensures) at c.index.ensures)

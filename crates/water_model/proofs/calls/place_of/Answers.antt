@@ -6,4 +6,5 @@ pub returns-in-Ok : goal.returns-in-Ok
 returns-in-Ok c = searched_place c.args.numbers.now c.args.number (Ok c.in-Ok.place) c.requires c.in-Ok.ensures.position
 
 pub returns-in-Err : goal.returns-in-Err
-returns-in-Err c = searched_place c.args.numbers.now c.args.number (Err c.in-Err.field-0) c.requires c.in-Err.ensures.position
+returns-in-Err c =
+    searched_place c.args.numbers.now c.args.number (Err c.in-Err.field-0) c.requires c.in-Err.ensures.position

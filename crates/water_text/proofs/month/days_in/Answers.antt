@@ -10,7 +10,8 @@ returns-clause-value c =
     let e = c.days_in_month.ensures in
     let year : c.date.result.year ≡ pos c.args.year = omega (arith, ints, d.0) in
     let month : c.date.result.month ≡ c.args.month = omega (arith, ints, d.1) in
-    let days : c.days_in_month.result ≡ pos (days_in_month (pos c.args.year) c.args.month) = e ∙ rw (year, month) refl in
+    let days : c.days_in_month.result ≡ pos (days_in_month (pos c.args.year) c.args.month) =
+    e ∙ rw (year, month) refl in
     let most = days_in_month-le (pos c.args.year) c.args.month in
     let fits : FitsSigned w8 (pos (days_in_month (pos c.args.year) c.args.month)) = omega (arith, ints, most) in
     rw (days, to_z-of_z w8 (pos (days_in_month (pos c.args.year) c.args.month)) fits)

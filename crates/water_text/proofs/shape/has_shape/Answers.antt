@@ -10,14 +10,23 @@ returns-then-pattern-text c = sym (other_length c.args.pattern.now c.args.text.n
 pub returns-then-not-fits : goal.returns-then-not-fits
 returns-then-not-fits c =
     let step = shape_step c.args.pattern.now c.args.text.now c.loop-at.at (omega arith) c.loop-at-test.true in
-    let fits : fits_at (get_or c.args.pattern.now c.loop-at.at 0) (get_or c.args.text.now c.loop-at.at 0) ≡ false = sym c.fits.ensures ∙ c.if-not-fits.true in
-    sym (c.loop-at.invariant.1 ∙ step ∙ ap (λ t. t && has_shape (drop (c.loop-at.at + 1) c.args.pattern.now) (drop (c.loop-at.at + 1) c.args.text.now)) fits)
+    let fits : fits_at (get_or c.args.pattern.now c.loop-at.at 0) (get_or c.args.text.now c.loop-at.at 0) ≡ false =
+    sym c.fits.ensures ∙ c.if-not-fits.true in
+    sym (c.loop-at.invariant.1 ∙ step
+    ∙ ap (λ t. t && has_shape (drop (c.loop-at.at + 1) c.args.pattern.now)
+    (drop (c.loop-at.at + 1) c.args.text.now)) fits)
 
 pub loop-at-preserved : goal.loop-at-preserved
 loop-at-preserved c =
     let step = shape_step c.args.pattern.now c.args.text.now c.loop-at.at (omega arith) c.loop-at-test.true in
-    let fits : fits_at (get_or c.args.pattern.now c.loop-at.at 0) (get_or c.args.text.now c.loop-at.at 0) ≡ true = sym c.fits.ensures ∙ c.if-not-fits.false in
-    (c.loop-at.invariant.0, c.loop-at.invariant.1 ∙ step ∙ ap (λ t. t && has_shape (drop (c.loop-at.at + 1) c.args.pattern.now) (drop (c.loop-at.at + 1) c.args.text.now)) fits)
+    let fits : fits_at (get_or c.args.pattern.now c.loop-at.at 0) (get_or c.args.text.now c.loop-at.at 0) ≡ true =
+    sym c.fits.ensures ∙ c.if-not-fits.false in (
+      c.loop-at.invariant.0,
+      c.loop-at.invariant.1 ∙ step
+          ∙ ap (λ t. t && has_shape (drop (c.loop-at.at + 1) c.args.pattern.now)
+          (drop (c.loop-at.at + 1) c.args.text.now)) fits,
+    )
 
 pub returns : goal.returns
-returns c = sym (c.loop-at.invariant.1 ∙ shape_end c.args.pattern.now c.args.text.now c.loop-at.at (omega arith) (omega arith))
+returns c =
+    sym (c.loop-at.invariant.1 ∙ shape_end c.args.pattern.now c.args.text.now c.loop-at.at (omega arith) (omega arith))

@@ -13,7 +13,8 @@ loop-number-preserved c = (
   pushed _ c.loop-number.number-index _ _ c.draw.result c.loop-number.invariant.0
       (c.draw.ensures.value ∙ ap (λ x. drawn x c.args.bound) c.loop-number.invariant.1)
       (take_more_set c.loop-number.number-items c.loop-number.number-index c.draw.result (omega arith)),
-  c.draw.ensures.after ∙ ap next c.loop-number.invariant.1 ∙ sym (later_more c.args.self.now.state c.loop-number.number-index),
+  c.draw.ensures.after ∙ ap next c.loop-number.invariant.1
+      ∙ sym (later_more c.args.self.now.state c.loop-number.number-index),
 )
 
 pub returns-clause-value : goal.returns-clause-value
@@ -21,5 +22,7 @@ unfolding twelve_drawn
 returns-clause-value c =
     let long : length c.loop-number.number-items ≡ 12 = omega arith in
     let done : c.loop-number.number-index ≡ 12 = omega arith in
-    let whole : take c.loop-number.number-index c.loop-number.number-items ≡ c.loop-number.number-items = take_all c.loop-number.number-index c.loop-number.number-items (omega arith) in
-    sym whole ∙ c.loop-number.invariant.0 ∙ ap (λ n. list_of n (λ m. drawn (later c.args.self.now.state m) c.args.bound)) done
+    let whole : take c.loop-number.number-index c.loop-number.number-items ≡ c.loop-number.number-items =
+    take_all c.loop-number.number-index c.loop-number.number-items (omega arith) in
+    sym whole ∙ c.loop-number.invariant.0
+    ∙ ap (λ n. list_of n (λ m. drawn (later c.args.self.now.state m) c.args.bound)) done

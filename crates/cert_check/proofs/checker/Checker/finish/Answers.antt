@@ -7,6 +7,7 @@ pub overflow_add-next : goal.overflow_add-next
 overflow_add-next c =
     omega (
       arith,
-      few_lines c.self.inside.means.basin.now c.self.inside.means.series.now c.self.inside.book c.self.invariant.lines.lines c.self.invariant.means.valid
+      few_lines c.self.inside.means.basin.now c.self.inside.means.series.now c.self.inside.book
+          c.self.invariant.lines.lines c.self.invariant.means.valid
           (good_is (seen_of c.self.inside) c.self.invariant.lines.lines c.in-None.is c.self.invariant.lines.stands),
     )

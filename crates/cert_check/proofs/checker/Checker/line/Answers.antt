@@ -6,11 +6,13 @@ use Rattle.cert_check.proofs.checker.Checker.line.Goals as goal
 pub returns-in-Some-clause-answer : goal.returns-in-Some-clause-answer
 returns-in-Some-clause-answer c = λ lines stands.
     still_refused c.args.self.now.basin c.args.self.now.series lines c.args.text.now c.in-Some.refused
-    (refusal_is c.args.self.now lines c.in-Some.refused (sym (ap (λ v. v.refused) c.self.view_is) ∙ c.in-Some.is) stands)
+    (refusal_is c.args.self.now lines c.in-Some.refused (sym (ap (λ v. v.refused) c.self.view_is) ∙ c.in-Some.is)
+    stands)
 
 pub returns-in-Some-clause-stands : goal.returns-in-Some-clause-stands
 returns-in-Some-clause-stands c = λ lines stands.
-    refusal_stands c.args.self.now (lines ++ c.args.text.now ∷ []) c.in-Some.refused (sym (ap (λ v. v.refused) c.self.view_is) ∙ c.in-Some.is)
+    refusal_stands c.args.self.now (lines ++ c.args.text.now ∷ []) c.in-Some.refused
+    (sym (ap (λ v. v.refused) c.self.view_is) ∙ c.in-Some.is)
     (returns-in-Some-clause-answer c lines stands)
 
 pub invariant_of-self : goal.invariant_of-self
@@ -20,7 +22,8 @@ invariant_of-self c =
       means = c.self.invariant.means;
       lines = record {
         lines = lines.lines ++ c.args.text.now ∷ [];
-        stands = good_stands (record (seen_of c.self.inside) { book = c.take_line.new.book }) (lines.lines ++ c.args.text.now ∷ []) c.in-None.is
+        stands = good_stands (record (seen_of c.self.inside) { book = c.take_line.new.book })
+            (lines.lines ++ c.args.text.now ∷ []) c.in-None.is
             (c.in-Ok.ensures.takes lines.lines (good_is (seen_of c.self.inside) lines.lines c.in-None.is lines.stands));
       };
     }

@@ -4,7 +4,8 @@ use Rattle.cert_check.proofs.checker.Checker.open.Goals as goal
 
 pub returns-clause-none : goal.returns-clause-none
 returns-clause-none c =
-    first_book c.args.basin.now c.args.series.now _ c.in_ok-reader.ensures.basin c.in_ok-reader.ensures.none (c.in_ok-account.ensures c.args.series.now) refl refl refl
+    first_book c.args.basin.now c.args.series.now _ c.in_ok-reader.ensures.basin c.in_ok-reader.ensures.none
+    (c.in_ok-account.ensures c.args.series.now) refl refl refl
 
 pub invariant_of-result : goal.invariant_of-result
 invariant_of-result c = record {
@@ -15,5 +16,10 @@ invariant_of-result c = record {
     tables = c.in_ok-tables.ensures;
     last = c.last_outlet.ensures;
   };
-  lines = record { lines = []; stands = first_book c.args.basin.now c.args.series.now _ c.in_ok-reader.ensures.basin c.in_ok-reader.ensures.none (c.in_ok-account.ensures c.args.series.now) refl refl refl };
+  lines = record {
+    lines = [];
+    stands =
+        first_book c.args.basin.now c.args.series.now _ c.in_ok-reader.ensures.basin c.in_ok-reader.ensures.none
+        (c.in_ok-account.ensures c.args.series.now) refl refl refl;
+  };
 }

@@ -5,5 +5,7 @@ use Rattle.inflow_file.proofs.columns.Columns.place_of.Goals as goal
 
 pub returns : goal.returns
 returns c =
-    get_or_read c.args.self.now.places.items c.args.number c.index.result.now (rw c.args.self.now.count c.requires.within) c.index.ensures 0
-    ∙ (c.args.self.now.placed c.args.number c.requires.within c.requires.due ∙ ap (λ xs. place_in xs c.args.number) c.args.self.now.columns_are)
+    get_or_read c.args.self.now.places.items c.args.number c.index.result.now
+    (rw c.args.self.now.count c.requires.within) c.index.ensures 0
+    ∙ (c.args.self.now.placed c.args.number c.requires.within c.requires.due
+    ∙ ap (λ xs. place_in xs c.args.number) c.args.self.now.columns_are)

@@ -7,7 +7,9 @@ use Rattle.inflow_file.proofs.FieldLaws.{not_four}
 use Rattle.inflow_file.proofs.columns.Columns.read_with_kind.Goals as goal
 
 pub returns-in-Some-clause-reads : goal.returns-in-Some-clause-reads
-returns-in-Some-clause-reads c = c.read_fields.ensures.reads ∙ ap (λ row. read_record c.args.self.now.basin.now (with_kind true row)) (sym c.in-Some.ensures)
+returns-in-Some-clause-reads c =
+    c.read_fields.ensures.reads
+    ∙ ap (λ row. read_record c.args.self.now.basin.now (with_kind true row)) (sym c.in-Some.ensures)
 
 pub returns-in-None-clause-reads : goal.returns-in-None-clause-reads
 returns-in-None-clause-reads c = not_four c.args.self.now.basin.now (fields_of c.args.row.now) c.in-None.ensures

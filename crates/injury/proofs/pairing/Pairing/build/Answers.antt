@@ -15,12 +15,14 @@ pub loop-right-preserved : goal.loop-right-preserved
 loop-right-preserved c =
     c.in_ok-add_pair.ensures
     ∙ (ap₂ (λ pairs pair. pairs ++ option_to_list pair) c.loop-right.invariant c.pair_of.ensures
-    ∙ sym (pairs_more c.args.first.now c.in_ok-names.names.basin.now c.by_seniority-order.result.now c.loop-right.right-index c.loop-right-test.true))
+    ∙ sym (pairs_more c.args.first.now c.in_ok-names.names.basin.now c.by_seniority-order.result.now
+    c.loop-right.right-index c.loop-right-test.true))
 
 pub returns : goal.returns
 returns c =
     c.loop-right.invariant
-    ∙ (pairs_all c.args.first.now c.in_ok-names.names.basin.now c.by_seniority-order.result.now c.loop-right.right-index c.loop-right-test.false
+    ∙ (pairs_all c.args.first.now c.in_ok-names.names.basin.now c.by_seniority-order.result.now c.loop-right.right-index
+    c.loop-right-test.false
     (c.by_seniority-order.ensures ∙ c.in_ok-roll.ensures.order)
     ∙ ap (common_rights c.args.first.now) c.in_ok-names.ensures)
 

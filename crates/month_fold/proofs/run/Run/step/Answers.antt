@@ -13,8 +13,12 @@ use Rattle.month_fold.proofs.run.Run.step.Goals as goal
 pub invariant_of-self : goal.invariant_of-self
 invariant_of-self g c =
     let months = c.self.invariant.months in
-    let opened = subst (λ (used : List ℕ). StandsFor (record (seen_of c.self.inside) { last = c.deref_mut-2.result.now; used = used }) months.records) (sym c.as_slice.ensures)
-    (subst (λ (m : MonthRecord). StandsFor (record (seen_of c.self.inside) { last = m }) months.records) (sym c.deref_mut-2.ensures.value) months.stands) in
+    let opened =
+    subst (λ (used : List ℕ). StandsFor
+    (record (seen_of c.self.inside) { last = c.deref_mut-2.result.now; used = used }) months.records)
+    (sym c.as_slice.ensures)
+    (subst (λ (m : MonthRecord). StandsFor (record (seen_of c.self.inside) { last = m }) months.records)
+    (sym c.deref_mut-2.ensures.value) months.stands) in
     record {
       valid = c.self.invariant.valid;
       series = c.self.invariant.series;
@@ -23,26 +27,43 @@ invariant_of-self g c =
       month = c.next_month.ensures.fits;
       months = record {
         records = months.records ++ c.next_month.new.month ∷ [];
-        stands = stands_next (seen_of c.self.inside) months.records c.next_month.new.month c.month_done.new.self c.use_volumes.new.used months.stands (rw (sym c.self.view_is) at c.requires.left)
+        stands = stands_next (seen_of c.self.inside) months.records c.next_month.new.month c.month_done.new.self
+            c.use_volumes.new.used months.stands (rw (sym c.self.view_is) at c.requires.left)
             (c.next_month.ensures.next months.records opened)
-            (subst (λ (delivered : List ℕ). lag.StandsFor c.month_done.new.self c.self.inside.basin.now.returns (map (λ k. k.delivered) months.records ++ delivered ∷ [])) (c.as_slice-2.ensures ∙ ap (λ (m : MonthRecord). m.delivered) c.deref-2.ensures)
-            (c.month_done.ensures.stands c.self.inside.basin.now.returns (map (λ k. k.delivered) months.records) months.stands.lags))
-            (subst (λ (delivered : List ℕ). HasUsed c.self.inside.basin.now (map (λ k. k.delivered) months.records ++ delivered ∷ []) c.use_volumes.new.used) (ap (λ (m : MonthRecord). m.delivered) c.deref-3.ensures)
-            (c.use_volumes.ensures (map (λ k. k.delivered) months.records) (length-map months.records (λ (k : MonthRecord). k.delivered) ∙ sym months.stands.done) months.stands.used));
+            (subst (λ (delivered : List ℕ). lag.StandsFor c.month_done.new.self c.self.inside.basin.now.returns
+            (map (λ k. k.delivered) months.records ++ delivered ∷ []))
+            (c.as_slice-2.ensures ∙ ap (λ (m : MonthRecord). m.delivered) c.deref-2.ensures)
+            (c.month_done.ensures.stands c.self.inside.basin.now.returns (map (λ k. k.delivered) months.records)
+            months.stands.lags))
+            (subst (λ (delivered : List ℕ). HasUsed c.self.inside.basin.now
+            (map (λ k. k.delivered) months.records ++ delivered ∷ []) c.use_volumes.new.used)
+            (ap (λ (m : MonthRecord). m.delivered) c.deref-3.ensures)
+            (c.use_volumes.ensures (map (λ k. k.delivered) months.records)
+            (length-map months.records (λ (k : MonthRecord). k.delivered) ∙ sym months.stands.done)
+            months.stands.used));
       };
     }
 
 pub returns-clause-month : goal.returns-clause-month
 returns-clause-month g c = λ records was.
     let stands = rw (sym c.self.view_is) at was in
-    let opened = subst (λ (used : List ℕ). StandsFor (record (seen_of c.self.inside) { last = c.deref_mut-2.result.now; used = used }) records) (sym c.as_slice.ensures)
-    (subst (λ (m : MonthRecord). StandsFor (record (seen_of c.self.inside) { last = m }) records) (sym c.deref_mut-2.ensures.value) stands) in
-    stands_next (seen_of c.self.inside) records c.next_month.new.month c.month_done.new.self c.use_volumes.new.used stands (rw (sym c.self.view_is) at c.requires.left)
+    let opened =
+    subst (λ (used : List ℕ). StandsFor
+    (record (seen_of c.self.inside) { last = c.deref_mut-2.result.now; used = used }) records)
+    (sym c.as_slice.ensures)
+    (subst (λ (m : MonthRecord). StandsFor (record (seen_of c.self.inside) { last = m }) records)
+    (sym c.deref_mut-2.ensures.value) stands) in
+    stands_next (seen_of c.self.inside) records c.next_month.new.month c.month_done.new.self c.use_volumes.new.used
+    stands (rw (sym c.self.view_is) at c.requires.left)
     (c.next_month.ensures.next records opened)
-    (subst (λ (delivered : List ℕ). lag.StandsFor c.month_done.new.self c.self.inside.basin.now.returns (map (λ k. k.delivered) records ++ delivered ∷ [])) (c.as_slice-2.ensures ∙ ap (λ (m : MonthRecord). m.delivered) c.deref-2.ensures)
+    (subst (λ (delivered : List ℕ). lag.StandsFor c.month_done.new.self c.self.inside.basin.now.returns
+    (map (λ k. k.delivered) records ++ delivered ∷ []))
+    (c.as_slice-2.ensures ∙ ap (λ (m : MonthRecord). m.delivered) c.deref-2.ensures)
     (c.month_done.ensures.stands c.self.inside.basin.now.returns (map (λ k. k.delivered) records) stands.lags))
-    (subst (λ (delivered : List ℕ). HasUsed c.self.inside.basin.now (map (λ k. k.delivered) records ++ delivered ∷ []) c.use_volumes.new.used) (ap (λ (m : MonthRecord). m.delivered) c.deref-3.ensures)
-    (c.use_volumes.ensures (map (λ k. k.delivered) records) (length-map records (λ (k : MonthRecord). k.delivered) ∙ sym stands.done) stands.used))
+    (subst (λ (delivered : List ℕ). HasUsed c.self.inside.basin.now (map (λ k. k.delivered) records ++ delivered ∷ [])
+    c.use_volumes.new.used) (ap (λ (m : MonthRecord). m.delivered) c.deref-3.ensures)
+    (c.use_volumes.ensures (map (λ k. k.delivered) records) (length-map records (λ (k : MonthRecord). k.delivered)
+    ∙ sym stands.done) stands.used))
 
 pub use_volumes-requires-clause-index : goal.use_volumes-requires-clause-index
 use_volumes-requires-clause-index g c = rw (sym c.self.view_is) at c.requires.left
@@ -57,4 +78,5 @@ use_volumes-requires-clause-used g c = c.self.invariant.months.stands.used.count
 
 pub use_volumes-requires-clause-little : goal.use_volumes-requires-clause-little
 use_volumes-requires-clause-little g c =
-    used_little (seen_of c.self.inside) c.self.invariant.months.records c.self.invariant.valid c.self.invariant.series c.self.invariant.months.stands
+    used_little (seen_of c.self.inside) c.self.invariant.months.records c.self.invariant.valid c.self.invariant.series
+    c.self.invariant.months.stands

@@ -23,5 +23,11 @@ overflow_add-self c =
 pub returns : goal.returns
 returns c = λ records is. record {
   tally = c.add.ensures records is.tally;
-  called = omega (arith, is.called, c.called_in.ensures.value, sum_by_push (λ m. called_in c.args.basin.now m) records c.args.month.now);
+  called = omega (
+    arith,
+    is.called,
+    c.called_in.ensures.value,
+    sum_by_push (λ m. called_in c.args.basin.now m) records
+        c.args.month.now,
+  );
 }

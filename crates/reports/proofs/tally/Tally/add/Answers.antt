@@ -8,19 +8,24 @@ pub add_rights-requires-clause-want : goal.add_rights-requires-clause-want
 add_rights-requires-clause-want c =
     let next = c.requires.next in
     let follows = last_follows c.args.basin.now c.args.series.now next.records c.args.month.now next.partial in
-    follows.fits.want ∙ sym (entries_count (figures_of next.records) c.args.basin.now.rights c.args.self.now.rights next.tally.rights)
+    follows.fits.want
+    ∙ sym (entries_count (figures_of next.records) c.args.basin.now.rights c.args.self.now.rights next.tally.rights)
 
 pub add_rights-requires-clause-delivered : goal.add_rights-requires-clause-delivered
 add_rights-requires-clause-delivered c =
     let next = c.requires.next in
     let follows = last_follows c.args.basin.now c.args.series.now next.records c.args.month.now next.partial in
-    follows.fits.delivered ∙ sym (entries_count (figures_of next.records) c.args.basin.now.rights c.args.self.now.rights next.tally.rights)
+    follows.fits.delivered
+    ∙ sym (entries_count (figures_of next.records) c.args.basin.now.rights c.args.self.now.rights next.tally.rights)
 
 pub add_rights-requires-clause-room : goal.add_rights-requires-clause-room
 add_rights-requires-clause-room c = λ right figures at.
     let next = c.requires.next in
-    let told = entry_told (figures_of next.records) c.args.basin.now.rights c.args.self.now.rights right figures next.tally.rights at in
-    right_room c.args.basin.now c.args.series.now next.records c.args.month.now right figures c.requires.basin c.requires.series next.partial told.0 told.1
+    let told =
+    entry_told (figures_of next.records) c.args.basin.now.rights c.args.self.now.rights right figures
+    next.tally.rights at in
+    right_room c.args.basin.now c.args.series.now next.records c.args.month.now right figures c.requires.basin
+    c.requires.series next.partial told.0 told.1
 
 pub with_month-self-requires-clause-index : goal.with_month-self-requires-clause-index
 with_month-self-requires-clause-index c =
@@ -36,12 +41,15 @@ with_month-self-requires-clause-fits c =
 pub with_month-self-requires-clause-room : goal.with_month-self-requires-clause-room
 with_month-self-requires-clause-room c =
     let next = c.requires.next in
-    month_room c.args.basin.now c.args.series.now next.records c.args.month.now c.args.self.now.waters c.requires.basin c.requires.series next.partial next.tally.waters
+    month_room c.args.basin.now c.args.series.now next.records c.args.month.now c.args.self.now.waters c.requires.basin
+    c.requires.series next.partial next.tally.waters
 
 pub returns : goal.returns
 returns c = λ records is. record {
   rights = list_is (figures_of (records ++ c.args.month.now ∷ [])) c.args.basin.now.rights c.add_rights.new.rights
-      (c.add_rights.ensures.count ∙ entries_count (figures_of records) c.args.basin.now.rights c.args.self.now.rights is.rights)
-      (λ k l. c.add_rights.ensures.each records k (entry_is (figures_of records) c.args.basin.now.rights c.args.self.now.rights k is.rights l));
+      (c.add_rights.ensures.count ∙ entries_count (figures_of records) c.args.basin.now.rights c.args.self.now.rights
+      is.rights)
+      (λ k l. c.add_rights.ensures.each records k
+      (entry_is (figures_of records) c.args.basin.now.rights c.args.self.now.rights k is.rights l));
   waters = c.with_month-self.ensures records is.waters;
 }

@@ -1,27 +1,36 @@
 use Rattle.std.proofs.lemmas.Result.{err_from_is_err_and}
-use Rattle.rights_roll.proofs.Soundness.{sound-from_none, none-of_four, refused-date, refused-seniority, refused-zone, refused-parts}
+use Rattle.rights_roll.proofs.Soundness.{sound-from_none, none-of_four, refused-date, refused-seniority, refused-zone}
+use Rattle.rights_roll.proofs.Soundness.{refused-parts}
 use Rattle.rights_roll.proofs.roll.Roll.build.Goals as goal
 
 pub returns-in_err-check_dates-clause-refused : goal.returns-in_err-check_dates-clause-refused
 returns-in_err-check_dates-clause-refused c =
     let p = err_from_is_err_and c.from_residual.result c.from_residual.ensures.1 in
-    rw (p.1, p.2) (refused-date c.args.rights.now c.args.returns.now c.in_err-check_dates.field-0.0 c.in_err-check_dates.ensures)
+    rw (p.1, p.2)
+    (refused-date c.args.rights.now c.args.returns.now c.in_err-check_dates.field-0.0 c.in_err-check_dates.ensures)
 
 pub returns-in_err-order-clause-refused : goal.returns-in_err-order-clause-refused
 returns-in_err-order-clause-refused c =
     let p = err_from_is_err_and c.from_residual-in_err-order.result c.from_residual-in_err-order.ensures.1 in
-    rw (p.1, p.2) (refused-seniority c.args.rights.now c.args.returns.now c.in_err-order.field-0.0 c.in_ok-check_dates.ensures c.in_err-order.ensures.refused)
+    rw (p.1, p.2)
+    (refused-seniority c.args.rights.now c.args.returns.now c.in_err-order.field-0.0
+    c.in_ok-check_dates.ensures c.in_err-order.ensures.refused)
 
 pub returns-in_err-check_zones-clause-refused : goal.returns-in_err-check_zones-clause-refused
 returns-in_err-check_zones-clause-refused c =
-    let p = err_from_is_err_and c.from_residual-in_err-check_zones.result c.from_residual-in_err-check_zones.ensures.1 in
-    rw (p.1, p.2) (refused-zone c.args.rights.now c.args.returns.now c.in_err-check_zones.field-0.0 c.in_ok-check_dates.ensures c.in_ok-order.ensures.none c.in_err-check_zones.ensures.refused)
+    let p = err_from_is_err_and c.from_residual-in_err-check_zones.result
+    c.from_residual-in_err-check_zones.ensures.1 in
+    rw (p.1, p.2)
+    (refused-zone c.args.rights.now c.args.returns.now c.in_err-check_zones.field-0.0
+    c.in_ok-check_dates.ensures c.in_ok-order.ensures.none c.in_err-check_zones.ensures.refused)
 
 pub returns-in_err-check_parts-clause-refused : goal.returns-in_err-check_parts-clause-refused
 returns-in_err-check_parts-clause-refused c =
-    let p = err_from_is_err_and c.from_residual-in_err-check_parts.result c.from_residual-in_err-check_parts.ensures.1 in
+    let p = err_from_is_err_and c.from_residual-in_err-check_parts.result
+    c.from_residual-in_err-check_parts.ensures.1 in
     rw (p.1, p.2)
-    (refused-parts c.args.rights.now c.args.returns.now c.in_err-check_parts.field-0.0 c.in_ok-check_dates.ensures c.in_ok-order.ensures.none c.in_ok-check_zones.ensures.none
+    (refused-parts c.args.rights.now c.args.returns.now c.in_err-check_parts.field-0.0
+    c.in_ok-check_dates.ensures c.in_ok-order.ensures.none c.in_ok-check_zones.ensures.none
     c.in_err-check_parts.ensures.refused)
 
 pub returns-clause-ok : goal.returns-clause-ok
@@ -35,8 +44,10 @@ returns-clause-ok c = record {
 
 pub returns-clause-sound : goal.returns-clause-sound
 returns-clause-sound c =
-    sound-from_none c.args.rights.now c.args.returns.now c.in_ok-check_dates.ensures c.in_ok-order.ensures.none c.in_ok-check_zones.ensures.none c.in_ok-check_parts.ensures.none
+    sound-from_none c.args.rights.now c.args.returns.now c.in_ok-check_dates.ensures c.in_ok-order.ensures.none
+    c.in_ok-check_zones.ensures.none c.in_ok-check_parts.ensures.none
 
 pub returns-clause-faultless : goal.returns-clause-faultless
 returns-clause-faultless c =
-    none-of_four c.args.rights.now c.args.returns.now c.in_ok-check_dates.ensures c.in_ok-order.ensures.none c.in_ok-check_zones.ensures.none c.in_ok-check_parts.ensures.none
+    none-of_four c.args.rights.now c.args.returns.now c.in_ok-check_dates.ensures c.in_ok-order.ensures.none
+    c.in_ok-check_zones.ensures.none c.in_ok-check_parts.ensures.none

@@ -4,7 +4,9 @@ use Rattle.river_net.proofs.FirstLinks.{links_left}
 use Rattle.river_net.proofs.cycle.Search.expand.Given as goal
 
 abbrev pub invariant-loop-next : goal.invariant-loop-next
-invariant-loop-next l = IsExpanding l.graph l.start l.self.seen.items l.self.queue.items l.done (slice_index l.initial.self.queue.items l.done) l.next
+invariant-loop-next l =
+    IsExpanding l.graph l.start l.self.seen.items l.self.queue.items l.done
+    (slice_index l.initial.self.queue.items l.done) l.next
 
 abbrev pub decreases-loop-next : goal.decreases-loop-next
 decreases-loop-next l = links_left (length l.graph.links) l.next

@@ -14,11 +14,17 @@ loop-place-preserved c =
     let e : ℕ = c.loop-place.place - 1 in
     let v : ℕ = (get_or links e c.index-links-place.result).from in
     let below : e < length links = omega arith in
-    let at : tail_in links e ≡ v = entry_is links e c.index-links-place.result (λ l. l.from) 0 below c.index-links-place.is ∙ ap (λ (l : Link). l.from) c.index-links-place.is in
-    let inside : v < length c.args.nodes.now = let ends = (ends_in c.args.nodes.now links c.requires.ends e below).0 in omega arith in
-    leaving_next (length c.args.nodes.now) links e c.loop-place.first.items c.loop-place.next.items v c.index.result.now below inside at
-    (c.index.ensures ∙ get_or_default c.loop-place.first.items v c.index.result.now None (let count = c.loop-place.invariant.firsts.count in omega arith))
-    (let P : ℕ → Type 0 = λ n. IsLeaving (length c.args.nodes.now) links n c.loop-place.first.items c.loop-place.next.items in
+    let at : tail_in links e ≡ v =
+    entry_is links e c.index-links-place.result (λ l. l.from) 0 below c.index-links-place.is
+    ∙ ap (λ (l : Link). l.from) c.index-links-place.is in
+    let inside : v < length c.args.nodes.now = let ends = (ends_in c.args.nodes.now links c.requires.ends e below).0 in
+    omega arith in
+    leaving_next (length c.args.nodes.now) links e c.loop-place.first.items c.loop-place.next.items v c.index.result.now
+    below inside at
+    (c.index.ensures ∙ get_or_default c.loop-place.first.items v c.index.result.now None (let count =
+    c.loop-place.invariant.firsts.count in omega arith))
+    (let P : ℕ → Type 0 =
+    λ n. IsLeaving (length c.args.nodes.now) links n c.loop-place.first.items c.loop-place.next.items in
     let same : c.loop-place.place ≡ e + 1 = omega arith in subst P same c.loop-place.invariant)
 
 pub invariant_of-result : goal.invariant_of-result
@@ -28,9 +34,13 @@ invariant_of-result c =
     let count : n ≡ m = sym c.loop-place.invariant.firsts.count in
     let start : c.loop-place.place ≡ 0 = omega arith in
     let P : ℕ → Type 0 = λ k. IsLeaving n c.args.links.now k c.loop-place.first.items c.loop-place.next.items in
-    let Q : ℕ → Type 0 = λ k. IsLeaving k c.args.links.now 0 c.loop-place.first.items c.loop-place.next.items in record {
+    let Q : ℕ → Type 0 = λ k. IsLeaving k c.args.links.now 0 c.loop-place.first.items c.loop-place.next.items in
+    record {
       leaving = subst Q count (subst P start c.loop-place.invariant);
-      within = subst (λ k. IsWithin k c.args.links.now) count record { ends = ends_in c.args.nodes.now c.args.links.now c.requires.ends };
+      within = subst (λ k. IsWithin k c.args.links.now) count record {
+        ends =
+            ends_in c.args.nodes.now c.args.links.now c.requires.ends;
+      };
       few_nodes = let few = c.requires.few_nodes in omega arith;
       few_links = c.requires.few_links;
     }

@@ -4,7 +4,9 @@ use Rattle.river_net.proofs.FirstLinks.{links_left}
 use Rattle.river_net.proofs.sorting.Sorting.release.Given as goal
 
 abbrev pub invariant-loop-next : goal.invariant-loop-next
-invariant-loop-next l = IsReleasing l.graph l.self.order.items l.self.waits.items l.done (slice_index l.initial.self.order.items l.done) l.next
+invariant-loop-next l =
+    IsReleasing l.graph l.self.order.items l.self.waits.items l.done (slice_index l.initial.self.order.items l.done)
+    l.next
 
 abbrev pub decreases-loop-next : goal.decreases-loop-next
 decreases-loop-next l = links_left (length l.graph.links) l.next

@@ -6,7 +6,8 @@ use Rattle.water_model.proofs.cut_list.CutList.holds.Goals as goal
 pub returns-in-Some-clause-some : goal.returns-in-Some-clause-some
 returns-in-Some-clause-some c =
     rw (sym c.in-Some.ensures.set)
-    (c.is_marked.ensures ∙ sym (get_or-marks c.args.self.now.nodes c.in-Some.words.now c.args.node false c.requires.node))
+    (c.is_marked.ensures ∙ sym
+    (get_or-marks c.args.self.now.nodes c.in-Some.words.now c.args.node false c.requires.node))
 
 pub returns-in-Some-clause-sized : goal.returns-in-Some-clause-sized
 returns-in-Some-clause-sized c =

@@ -13,17 +13,21 @@ loop-rest-preserved c =
       within = omega arith;
       enough = more.1;
       fits = omega arith;
-      spelled = further_digit c.loop-rest.digits c.loop-rest.at c.loop-rest.rest c.args.value i.whole i.some i.within c.loop-rest-test.true i.fits i.spelled;
+      spelled =
+          further_digit c.loop-rest.digits c.loop-rest.at c.loop-rest.rest c.args.value i.whole i.some i.within
+          c.loop-rest-test.true i.fits i.spelled;
     }
 
 pub word-requires : goal.word-requires
 word-requires c =
     let i = c.loop-rest.invariant in
-    let is = last_digit c.loop-rest.digits c.loop-rest.at c.loop-rest.rest c.args.value i.whole i.some i.within (omega arith) i.spelled in
+    let is = last_digit c.loop-rest.digits c.loop-rest.at c.loop-rest.rest c.args.value i.whole i.some i.within
+    (omega arith) i.spelled in
     omega (arith, ap length is)
 
 pub returns : goal.returns
 returns c =
     let i = c.loop-rest.invariant in
-    let is = last_digit c.loop-rest.digits c.loop-rest.at c.loop-rest.rest c.args.value i.whole i.some i.within (omega arith) i.spelled in
+    let is = last_digit c.loop-rest.digits c.loop-rest.at c.loop-rest.rest c.args.value i.whole i.some i.within
+    (omega arith) i.spelled in
     c.word.ensures ∙ ap (λ xs. c.args.self.now ++ xs) is

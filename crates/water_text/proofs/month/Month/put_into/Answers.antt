@@ -13,4 +13,11 @@ pub word-requires : goal.word-requires
 word-requires c = omega (arith, short c.from.result (omega arith), ap length c.amount.ensures, length-append {A = ℕ})
 
 pub word-requires-2 : goal.word-requires-2
-word-requires-2 c = omega (arith, short c.from.result (omega arith), ap length c.amount.ensures, ap length c.word.ensures, length-append {A = ℕ})
+word-requires-2 c =
+    omega (
+      arith,
+      short c.from.result (omega arith),
+      ap length c.amount.ensures,
+      ap length c.word.ensures,
+      length-append {A = ℕ},
+    )
