@@ -17,8 +17,9 @@ use Rattle.water_model.specs.declared.types.MonthRecord.{MonthRecord}
 use Rattle.water_model.proofs.Histories.{all_months}
 use Rattle.water_model.proofs.Balance.{balanced}
 use Rattle.water_model.proofs.Returns.{covered}
-use Rattle.water_model.proofs.Greatest.{cuts_make_greatest, nobody_could_get_more}
-use Rattle.water_model.proofs.Sheltered.{histories_leave_nothing, called_rights_get_nothing, nothing_outside_helps}
+use Rattle.water_model.proofs.Greatest.{cuts_make_greatest, cuts_let_nobody_get_more}
+use Rattle.water_model.proofs.Sheltered.{histories_leave_nothing, called_rights_get_nothing}
+use Rattle.water_model.proofs.Sheltered.{cuts_let_nothing_outside_help}
 use Rattle.month_fold.specs.Runs.{RunSeen, StandsFor, run_pushes}
 use Rattle.result_text.specs.Begun.{begun_bytes}
 use Rattle.result_text.specs.Range.{FitsText}
@@ -66,12 +67,14 @@ whole_run b series run records valid same fits stands done =
       greatest = λ i m at. cuts_make_greatest b series records partial i m at;
       reaches = reaches;
       no_more =
-          λ i m at q plan right l serves. nobody_could_get_more b series records partial i m at q plan right l serves;
+          λ i m at q plan right l serves.
+              cuts_let_nobody_get_more b series records partial i m at q plan right l serves;
       no_help = λ i m at right l cut is supply' want' q plan agrees serves.
-          nothing_outside_helps b series records partial i m at right l cut is supply' want' q plan agrees serves;
+          cuts_let_nothing_outside_help b series records partial i m at right l cut is supply' want' q plan agrees
+              serves;
       juniors = λ i m at right l cut is. histories_leave_nothing b series records partial i m at right l cut is;
-      called = λ i m at right caller l calls. called_rights_get_nothing b series records partial i m at right caller l
-          calls;
+      called = λ i m at right caller l k calls.
+          called_rights_get_nothing b series records partial i m at right caller l k calls;
       balanced = balanced b series records valid partial;
       covered = λ right i l. covered b (deliveries_of records) right i valid l;
     }

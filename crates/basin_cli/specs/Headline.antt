@@ -1,8 +1,8 @@
 -- What the records of a run are: the theorem of the program.
-use Rattle.std.specs.Prelude.{◌≡◌, ℕ, ◌+◌, ◌<◌, ◌≤◌, Bool, List, map, length, slice_index, slice_get, Some}
+use Rattle.std.specs.Prelude.{◌≡◌, ℕ, ◌+◌, ◌<◌, ◌≤◌, Bool, IsTrue, List, map, length, slice_index, slice_get, Some}
 use Rattle.month_fold.specs.Reaches.{HaveReaches}
 use Rattle.water_model.specs.Balance.{IsBalanced, returned_before}
-use Rattle.water_model.specs.History.{IsHistory, Calls, cut_of}
+use Rattle.water_model.specs.History.{IsHistory, calls, cut_of}
 use Rattle.water_model.specs.Hydrology.{delivered_before}
 use Rattle.water_model.specs.Laws.{ServesSeniors, AgreesOn, LeavesNothing}
 use Rattle.water_model.specs.Plans.{IsPlan, IsGreatest, delivery}
@@ -34,7 +34,8 @@ JuniorsGetNothing b m =
 
 -- a right that answers to a caller gets nothing
 abbrev pub CalledGetNothing : Basin → MonthRecord → Type 0
-CalledGetNothing b m = (right caller : ℕ) → right < length b.rights → Calls b m caller right →
+CalledGetNothing b m =
+    (right caller : ℕ) → right < length b.rights → caller < length b.rights → IsTrue (calls b m right caller) →
     slice_index m.delivered right ≡ 0
 
 -- the deliveries of each month, by right

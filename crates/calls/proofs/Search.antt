@@ -9,7 +9,8 @@ use Rattle.water_model.specs.History.{cut_of}
 use Rattle.water_model.specs.Lookups.{has}
 use Rattle.water_model.specs.Places.{by_seniority, seniors_first}
 use Rattle.water_model.specs.Rights.{AreStrict}
-use Rattle.water_model.specs.Text.{calls, calling_right}
+use Rattle.water_model.specs.History.{calls}
+use Rattle.water_model.specs.Text.{calling_right}
 use Rattle.water_model.specs.declared.types.Basin.{Basin}
 use Rattle.water_model.specs.declared.types.MonthRecord.{MonthRecord}
 use Rattle.water_model.specs.declared.types.Right.{Right}

@@ -6,7 +6,8 @@ use Rattle.std.specs.List.{flat_map}
 use Rattle.std.proofs.lemmas.Bool.Decides.{nat_tests}
 use Rattle.place_sums.specs.Sums.{total_where}
 use Rattle.water_model.specs.History.{cut_of, is_zone_of}
-use Rattle.water_model.specs.Text.{calls, calling_right, called_items}
+use Rattle.water_model.specs.History.{calls}
+use Rattle.water_model.specs.Text.{calling_right, called_items}
 use Rattle.water_model.specs.declared.item.Item.{Item}
 use Rattle.water_model.specs.declared.item.Item.TheVariants as line
 use Rattle.water_model.specs.declared.quantity.Quantity.TheVariants as quantity

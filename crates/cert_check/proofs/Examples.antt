@@ -9,7 +9,8 @@ use Rattle.water_text.specs.Names.{is_name}
 use Rattle.water_text.specs.Shapes.{has_shape}
 use Rattle.water_model.specs.Places.{numbers_from, members_from, by_seniority}
 use Rattle.water_model.specs.Spelling.{line_of, fields_of}
-use Rattle.water_model.specs.Text.{month_lines, calling_right, calls}
+use Rattle.water_model.specs.History.{calls}
+use Rattle.water_model.specs.Text.{month_lines, calling_right}
 use Rattle.water_model.specs.declared.item.Item.{Item}
 use Rattle.water_model.specs.declared.types.Basin.{Basin}
 use Rattle.water_model.specs.declared.types.Carry.TheVariants.{River}

@@ -9,7 +9,8 @@ use Rattle.month_terms.specs.Terms.{FitsRecord}
 use Rattle.water_model.specs.CutSets.{CutSets}
 use Rattle.water_model.specs.Entries.{count_in}
 use Rattle.water_model.specs.Quantities.{amounts_of, space_of, with_amounts}
-use Rattle.water_model.specs.Text.{calls, calling_right}
+use Rattle.water_model.specs.History.{calls}
+use Rattle.water_model.specs.Text.{calling_right}
 use Rattle.water_model.specs.declared.quantity.Quantity.{Quantity}
 use Rattle.water_model.specs.declared.quantity.Quantity.TheVariants as quantity
 use Rattle.water_model.specs.declared.types.Basin.{Basin}

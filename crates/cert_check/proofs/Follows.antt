@@ -3,7 +3,7 @@ use Rattle.std.proofs.Common.{◌≡◌, ℕ, ◌+◌, ◌<◌, ◌≤◌, Bool,
 use Rattle.std.specs.Prelude.{Option, Some, None, ◌&&◌, ◌==◌, min, nat_lt, slice_index}
 use Rattle.std.proofs.lemmas.Bool.Decides.{nat_tests}
 use Rattle.water_model.specs.Basin.{taking_node, instream_link}
-use Rattle.water_model.specs.Cuts.{Separates, IsTight, leaves, cut_capacity, cut_kept}
+use Rattle.water_model.specs.Cuts.{separates, IsTight, cut_capacity, cut_kept}
 use Rattle.water_model.specs.History.{Follows}
 use Rattle.water_model.specs.Plans.{carry_of, delivery_by_link, inflow_to, outflow_from, taken_at}
 use Rattle.water_model.specs.declared.quantity.Quantity.TheVariants as quantity
@@ -14,7 +14,7 @@ use Rattle.water_model.proofs.Order.{seniors_below}
 use Rattle.water_model.proofs.Quantities.{has-with_line}
 use Rattle.result_reader.specs.Records.{IsTextMonth}
 use Rattle.result_reader.proofs.AllTold.{has_set}
-use Rattle.cert_check.specs.Checking.{is_tight, separates, amount_wrong}
+use Rattle.cert_check.specs.Checking.{is_tight, amount_wrong}
 use Rattle.cert_check.proofs.Calls.{HasRightSets}
 use Rattle.cert_check.proofs.Month.{IsGoodMonth}
 use Rattle.cert_check.proofs.Rows.{same_is}
@@ -36,28 +36,13 @@ is_most x y h = grind (arith, nat_tests)
 
 -- Tight cuts, as a test and as a fact.
 
-separates_is : (b : Basin) (taking link : Option ℕ) (cut : List Bool) → Separates b taking link cut →
-    separates b taking link cut ≡ true
-separates_is b taking None cut h = h
-separates_is b taking (Some link) cut h = rw (less_is link (length b.links) h.0) h.1
-
-is_separates : (b : Basin) (taking link : Option ℕ) (cut : List Bool) → separates b taking link cut ≡ true →
-    Separates b taking link cut
-is_separates b taking None cut h = h
-is_separates b taking (Some link) cut h = parts (nat_lt link (length b.links)) refl h
-  where
-    parts : (p : Bool) → nat_lt link (length b.links) ≡ p → p && leaves b cut link ≡ true → (link < length b.links) ×
-        (leaves b cut link ≡ true)
-    parts true e k = (is_less link (length b.links) e, k)
-    parts false e k = cc
-
 pub tight_is : (b : Basin) (m : MonthRecord) (r : ℕ) (cut : List Bool) → IsTight b m.month m.supply m.delivered r cut →
     is_tight b m r cut ≡ true
 tight_is b m r cut h =
     all (length cut == length b.nodes) (separates b (taking_node b r) (instream_link b r) cut)
     (cut_capacity b m.month m.supply cut == slice_index m.delivered r + cut_kept b m.delivered r cut)
     (equal_is (length cut) (length b.nodes) h.is_cut.one_each)
-    (separates_is b (taking_node b r) (instream_link b r) cut h.is_cut.separates) (equal_is _ _ h.tight)
+    h.is_cut.separates (equal_is _ _ h.tight)
   where
     all : (p q s : Bool) → p ≡ true → q ≡ true → s ≡ true → p && q && s ≡ true
     all p q s e f g = rw (e, f, g) refl
@@ -71,8 +56,7 @@ is_tight_is b m r cut h =
     record {
       is_cut = record {
         one_each = equal (length cut) (length b.nodes) three.0;
-        separates =
-            is_separates b (taking_node b r) (instream_link b r) cut three.1;
+        separates = three.1;
       };
       tight = equal (cut_capacity b m.month m.supply cut) (slice_index m.delivered r + cut_kept b m.delivered r cut)
           three.2;

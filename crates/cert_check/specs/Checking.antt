@@ -7,7 +7,7 @@ use Rattle.std.specs.Option.{option_map_or}
 use Rattle.place_sums.specs.Sums.{total_where}
 use Rattle.water_text.specs.declared.month.Month.{Month}
 use Rattle.water_model.specs.Basin.{is_senior, taking_node, instream_link}
-use Rattle.water_model.specs.Cuts.{cut_capacity, cut_kept, node_within, leaves}
+use Rattle.water_model.specs.Cuts.{cut_capacity, cut_kept, separates}
 use Rattle.water_model.specs.History.{cut_of, opening_after, is_zone_of}
 use Rattle.water_model.specs.Hydrology.{in_year, evaporation, returned_at, used_of, want_of}
 use Rattle.water_model.specs.Lookups.{of_entry}
@@ -32,10 +32,6 @@ use Rattle.cert_check.specs.declared.refuted.Refuted.{Refuted}
 
 abbrev pub is_short : MonthRecord → ℕ → Bool
 is_short m r = nat_lt (slice_index m.delivered r) (slice_index m.want r)
-
-abbrev pub separates : Basin → Option ℕ → Option ℕ → List Bool → Bool
-separates b taking None cut = node_within taking cut
-separates b taking (Some link) cut = nat_lt link (length b.links) && leaves b cut link
 
 -- whether a set is a tight cut of a right
 abbrev pub is_tight : Basin → MonthRecord → ℕ → List Bool → Bool

@@ -11,7 +11,7 @@ ghost use Rattle.water_text.specs.Months.{IsMonth, days_of};
 ghost use Rattle.water_model.specs.Lookups.{has};
 ghost use Rattle.water_model.specs.Basin.{is_on_link, instream_link, is_senior, taking_node};
 ghost use Rattle.water_model.specs.Plans.{carry_of, carry_of_kind};
-ghost use Rattle.water_model.specs.Cuts.{enters, leaves, takes_within, kept_on, cut_bound, Separates, IsTight};
+ghost use Rattle.water_model.specs.Cuts.{enters, leaves, takes_within, kept_on, cut_bound, separates, IsTight};
 ghost use Rattle.water_model.specs.Valid.{IsValidBasin, IsValidCarry};
 ghost use Rattle.rights_roll.specs.Rolls.{IsRollOf};
 ghost use Rattle.cut_cert.specs.Sets.{cut_at, HasCut, AreAmounts};
@@ -297,7 +297,7 @@ pub fn bound(
 fn separates(basin: &Basin, right: u32, cuts: &CutList) -> bool
     requires basin { IsValidBasin basin.now }
     requires cut { HasCut basin.now cuts.now right }
-    ensures { IsTrue result ↔ Separates basin.now (taking_node basin.now right) (instream_link basin.now right)
+    ensures { result ≡ separates basin.now (taking_node basin.now right) (instream_link basin.now right)
         (cut_at cuts.now right) }
 {
     match basin.rights[right as usize].kind {

@@ -7,7 +7,7 @@ use Rattle.std.specs.Prelude.{if◌then◌else◌, insert, slice_index, Option, 
 use Rattle.place_sums.specs.Sums.{total_where}
 use Rattle.place_sums.proofs.Totals.{total_same}
 use Rattle.water_model.specs.Basin.{taking_node, instream_link, is_at, is_on_link, is_senior, takes_at}
-use Rattle.water_model.specs.Cuts.{IsTight, Separates, cut_kept, kept_on, leaves, node_within, takes_within}
+use Rattle.water_model.specs.Cuts.{IsTight, separates, cut_kept, kept_on, leaves, node_within, takes_within}
 use Rattle.water_model.specs.Laws.{AreDeliveries, IsMetOrCut}
 use Rattle.water_model.specs.Plans.{IsPlan, IsGreatest, delivery, delivery_by_link, outflow_from, taken_at}
 use Rattle.water_text.specs.declared.month.Month.{Month}
@@ -140,20 +140,22 @@ module _ (b : Basin) (at : ℕ) (x : Right) (more : HasOneMore b (with_right b a
     tight_same : (month : Month) (supply : List ℕ) (r : ℕ) (cut : List Bool) → r < length b.rights →
         IsTight b month supply delivered r cut → IsTight (with_right b at x) month supply delivered' (moved at r) cut
     tight_same month supply r cut l tight = record {
-      is_cut = record { one_each = tight.is_cut.one_each; separates = separates };
+      is_cut = record { one_each = tight.is_cut.one_each; separates = apart };
       tight = tight.tight ∙ ap₂ (λ d k. d + k) (sym (same r)) (sym (kept_same r cut l));
     }
       where
-        by_link : (taking link : Option ℕ) → Separates b taking link cut → Separates (with_right b at x) taking link cut
+        by_link : (taking link : Option ℕ) → separates b taking link cut ≡ true →
+            separates (with_right b at x) taking link cut ≡ true
         by_link taking None h = h
         by_link taking (Some link) h = h
 
-        separates : Separates (with_right b at x) (taking_node (with_right b at x) (moved at r))
-            (instream_link (with_right b at x) (moved at r)) cut
-        separates =
-            subst (λ o. Separates (with_right b at x) (taking_node (with_right b at x) (moved at r)) o cut)
+        apart : separates (with_right b at x) (taking_node (with_right b at x) (moved at r))
+            (instream_link (with_right b at x) (moved at r)) cut ≡ true
+        apart =
+            subst (λ o. separates (with_right b at x) (taking_node (with_right b at x) (moved at r)) o cut ≡ true)
             (sym (moved_link b at x r more.place))
-            (subst (λ o. Separates (with_right b at x) o (instream_link b r) cut) (sym (moved_node b at x r more.place))
+            (subst (λ o. separates (with_right b at x) o (instream_link b r) cut ≡ true)
+            (sym (moved_node b at x r more.place))
             (by_link (taking_node b r) (instream_link b r) tight.is_cut.separates))
 
 -- each old right is delivered in a greatest plan of the second basin what it is in the first

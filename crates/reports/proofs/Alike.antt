@@ -14,7 +14,8 @@ use Rattle.water_model.specs.Cuts.{IsReach}
 use Rattle.water_model.specs.History.{cut_of, opening_after}
 use Rattle.water_model.specs.Laws.{HaveSameOutcome}
 use Rattle.water_model.specs.Places.{places_of, seniors_first}
-use Rattle.water_model.specs.Text.{calls, calling_right}
+use Rattle.water_model.specs.History.{calls}
+use Rattle.water_model.specs.Text.{calling_right}
 use Rattle.water_model.specs.declared.types.Basin.{Basin}
 use Rattle.water_model.specs.declared.types.Inflows.{Inflows}
 use Rattle.water_model.specs.declared.types.MonthRecord.{MonthRecord}

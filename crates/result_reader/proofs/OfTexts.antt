@@ -11,7 +11,8 @@ use Rattle.water_model.specs.Entries.{count_in, in_order}
 use Rattle.water_model.specs.History.{cut_of}
 use Rattle.water_model.specs.Places.{members_from, seniors_first}
 use Rattle.water_model.specs.Quantities.{amounts_of, has_line, space_of}
-use Rattle.water_model.specs.Text.{calls, calling_right, call_items, called_items, section_space, lines_at, lines_in}
+use Rattle.water_model.specs.History.{calls}
+use Rattle.water_model.specs.Text.{calling_right, call_items, called_items, section_space, lines_at, lines_in}
 use Rattle.water_model.specs.Text.{month_lines, items_of_month, items_of}
 use Rattle.water_model.specs.Valid.{IsValidBasin}
 use Rattle.water_model.specs.declared.item.Item.{Item}

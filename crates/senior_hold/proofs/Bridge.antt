@@ -5,13 +5,13 @@ use Rattle.std.proofs.lemmas.Bool.{cases_Bool, cases_lt}
 use Rattle.std.proofs.lemmas.Bool.Decides.{nat_tests}
 use Rattle.std.proofs.lemmas.List.FromFn.{get_or-map-range_with_len, length-map-range_with_len}
 use Rattle.std.proofs.Math.ListN.{get_or-eq_default}
-use Rattle.std.specs.Prelude.{◌==◌, slice_index, ◌&&◌, not, if◌then◌else◌, Option, Some, None, is_some}
+use Rattle.std.specs.Prelude.{◌==◌, slice_index, ◌&&◌, not, nat_lt, if◌then◌else◌, Option, Some, None, is_some}
 use Rattle.place_sums.specs.Sums.{total, total_where, when}
 use Rattle.place_sums.proofs.Totals.{total_same, total_zero}
 use Rattle.water_model.specs.Basin.{tail_of, head_of, taking_node, instream_link, is_senior, is_on_link, is_at}
 use Rattle.water_model.specs.Basin.{is_outlet}
 use Rattle.water_model.specs.Cuts.{enters, leaves, takes_within, node_within, kept_on, cut_capacity, cut_kept}
-use Rattle.water_model.specs.Cuts.{Separates, IsCut, IsTight, IsReach}
+use Rattle.water_model.specs.Cuts.{separates, IsCut, IsTight, IsReach}
 use Rattle.water_text.specs.declared.month.Month.{Month}
 use Rattle.water_model.specs.declared.types.Basin.{Basin}
 use Rattle.water_model.proofs.Sets.{has_below, total_where_same}
@@ -176,39 +176,45 @@ right_cut b month supply want w right cut net k (on_link e l i t) is =
       head = ap (has cut) (net.ends.link_to e l) ∙ not_true _ parts.1;
     }
   where
-    separates : Separates b (taking_node b right) (Some e) cut
-    separates = subst (λ o. Separates b (taking_node b right) o cut) i is.separates
+    apart : separates b (taking_node b right) (Some e) cut ≡ true
+    apart = subst (λ o. separates b (taking_node b right) o cut ≡ true) i is.separates
 
     parts : (has cut (tail_of b e) ≡ true) × (not (has cut (head_of b e)) ≡ true)
-    parts = both (has cut (tail_of b e)) (not (has cut (head_of b e))) separates.1
+    parts = both (has cut (tail_of b e)) (not (has cut (head_of b e)))
+        (both (nat_lt e (length b.links)) (leaves b cut e) apart).1
 right_cut b month supply want w right cut net k (at_node v l i t) is =
     subst (λ a. arc.IsCut w a (has cut)) (sym (ap (arc_by_link b right) i)) record {
       basin = λ v h. outside_out cut v (let len = is.one_each in let n = net.ends.nodes in omega arith);
-      tail = sym (ap (λ o. node_within o cut) (net.ends.take_from right k (ap is_some t))) ∙ separates;
+      tail = sym (ap (λ o. node_within o cut) (net.ends.take_from right k (ap is_some t))) ∙ apart;
       head = ap (has cut) (net.ends.take_to right k (ap is_some t))
           ∙ outside_out cut (length b.nodes) (let len = is.one_each in omega arith);
     }
   where
-    separates : Separates b (taking_node b right) None cut
-    separates = subst (λ o. Separates b (taking_node b right) o cut) i is.separates
+    apart : separates b (taking_node b right) None cut ≡ true
+    apart = subst (λ o. separates b (taking_node b right) o cut ≡ true) i is.separates
 
 -- a cut of a right's arc is a cut of the right
 pub arc_cut : (b : Basin) (month : Month) (supply want : List ℕ) (w : Network) (right : ℕ) (cut : List Bool) →
     IsMonthNetwork b month supply want w → right < length b.rights → IsKind b right → length cut ≡ length b.nodes →
     arc.IsCut w (right_arc b right) (has cut) → IsCut b right cut
-arc_cut b month supply want w right cut net k kind len is = record { one_each = len; separates = separates kind }
+arc_cut b month supply want w right cut net k kind len is = record { one_each = len; separates = apart kind }
   where
     two : (p q : Bool) → p ≡ true → q ≡ false → p && not q ≡ true
     two p q h i = grind (arith, nat_tests)
 
-    separates : IsKind b right → Separates b (taking_node b right) (instream_link b right) cut
-    separates (on_link e l i t) = subst (λ o. Separates b (taking_node b right) o cut) (sym i) (
-      l,
-      two (has cut (tail_of b e)) (has cut (head_of b e))
+    all : (p q : Bool) → p ≡ true → q ≡ true → p && q ≡ true
+    all p q h i = grind (arith, nat_tests)
+
+    inside : (x y : ℕ) → x < y → nat_lt x y ≡ true
+    inside x y h = grind (arith, nat_tests)
+
+    apart : IsKind b right → separates b (taking_node b right) (instream_link b right) cut ≡ true
+    apart (on_link e l i t) = subst (λ o. separates b (taking_node b right) o cut ≡ true) (sym i) (
+      all (nat_lt e (length b.links)) (leaves b cut e) (inside e (length b.links) l)
+          (two (has cut (tail_of b e)) (has cut (head_of b e))
           (ap (has cut) (sym (net.ends.link_from e l) ∙ sym (ap w.from (ap (arc_by_link b right) i))) ∙ is.tail)
-          (ap (has cut) (sym (net.ends.link_to e l) ∙ sym (ap w.to (ap (arc_by_link b right) i))) ∙ is.head),
-    )
-    separates (at_node v l i t) = subst (λ o. Separates b (taking_node b right) o cut) (sym i)
+          (ap (has cut) (sym (net.ends.link_to e l) ∙ sym (ap w.to (ap (arc_by_link b right) i))) ∙ is.head)))
+    apart (at_node v l i t) = subst (λ o. separates b (taking_node b right) o cut ≡ true) (sym i)
         (ap (λ o. node_within o cut) (net.ends.take_from right k (ap is_some t))
         ∙ ap (λ a. has cut (w.from a)) (sym (ap (arc_by_link b right) i)) ∙ is.tail)
 

@@ -10,7 +10,7 @@ use Rattle.water_model.specs.Basin.{is_senior, priority_of}
 use Rattle.water_model.specs.Rights.{is_lower}
 use Rattle.water_model.specs.Plans.{IsPlan, delivery, delivery_by_link, carry_of}
 use Rattle.water_model.specs.Cuts.{enters, leaves, takes_within, node_within, kept_on, cut_kept, cut_capacity, IsCut}
-use Rattle.water_model.specs.Cuts.{Separates}
+use Rattle.water_model.specs.Cuts.{separates}
 use Rattle.water_text.specs.declared.month.Month.{Month}
 use Rattle.water_model.specs.declared.types.Basin.{Basin}
 use Rattle.water_model.specs.declared.types.Right.{Right}
@@ -140,26 +140,35 @@ own_part b want q r cut l is_cut =
     two : (p q : Bool) → p ≡ true → q ≡ true → p && q ≡ true
     two p q h i = grind (arith, nat_tests)
 
+    both_of : (p q : Bool) → p && q ≡ true → (p ≡ true) × (q ≡ true)
+    both_of true true h = (refl, refl)
+    both_of true false h = cc
+    both_of false q h = cc
+
+    below : (x y : ℕ) → nat_lt x y ≡ true → x < y
+    below x y h = grind (arith, nat_tests)
+
     same : (n : ℕ) → n == n ≡ true
     same n = grind (arith, nat_tests)
 
-    of_link : (o : Option ℕ) → instream_link b r ≡ o → Separates b (taking_node b r) o cut →
+    of_link : (o : Option ℕ) → instream_link b r ≡ o → separates b (taking_node b r) o cut ≡ true →
         delivery_by_link o (slice_index want r) q r
         ≤ total_where (length b.links) (λ e. leaves b cut e && is_on_link b r e) (λ e. slice_index q.flow e)
         + total_where (length b.rights) (λ s. takes_within b cut s && s == r) (λ s. slice_index q.take s)
-    of_link None h separates =
+    of_link None h within =
         omega (
           arith,
           term_le_total_where (length b.rights) (λ s. takes_within b cut s && s == r) (λ s. slice_index q.take s) r l
-              (two (takes_within b cut r) (r == r) separates (same r)),
+              (two (takes_within b cut r) (r == r) within (same r)),
         )
-    of_link (Some link) h separates =
+    of_link (Some link) h apart =
+        let crosses = both_of (nat_lt link (length b.links)) (leaves b cut link) apart in
         let on_link : is_on_link b r link ≡ true = ap (λ o. is_at o link) h ∙ same link in
         omega (
           arith,
           term_le_total_where (length b.links) (λ e. leaves b cut e && is_on_link b r e) (λ e. slice_index q.flow e)
-              link separates.0
-              (two (leaves b cut link) (is_on_link b r link) separates.1 on_link),
+              link (below link (length b.links) crosses.0)
+              (two (leaves b cut link) (is_on_link b r link) crosses.1 on_link),
         )
 
 -- what a cut allows: the right's delivery, what is kept for its seniors, the takes of its juniors and the outflow come

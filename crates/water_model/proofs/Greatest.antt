@@ -11,7 +11,7 @@ use Rattle.water_model.specs.Basin.{is_senior, instream_link}
 use Rattle.water_model.specs.Plans.{IsPlan, IsGreatest, DeliversSame, DeliversMore, delivery, delivery_by_link}
 use Rattle.water_model.specs.Cuts.{IsTight, cut_kept, cut_capacity, takes_within}
 use Rattle.water_model.specs.History.{Follows, cut_of}
-use Rattle.water_model.specs.Laws.{CutBounds, CutsMakeGreatest, NobodyCouldGetMore, ServesSeniors}
+use Rattle.water_model.specs.Laws.{CutBounds, CutsMakeGreatest, CutsLetNobodyGetMore, ServesSeniors}
 use Rattle.water_model.specs.Laws.{TightCutLeavesNothing, GreatestPlansDeliverSame, ReachIsUnique, AreDeliveries}
 use Rattle.water_model.specs.Laws.{TightMeansBound, MostJuniorInjuresNobody}
 use Rattle.water_text.specs.declared.month.Month.{Month}
@@ -258,6 +258,6 @@ record_gives_most b series before m follows q plan r l serves =
               plan (λ n k h. refl) serves.each,
         )
 
-pub nobody_could_get_more : NobodyCouldGetMore
-nobody_could_get_more b series records history i m at =
+pub cuts_let_nobody_get_more : CutsLetNobodyGetMore
+cuts_let_nobody_get_more b series records history i m at =
     record_gives_most b series (take i records) m (history.each i m at)

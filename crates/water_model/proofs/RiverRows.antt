@@ -10,7 +10,8 @@ use Rattle.water_model.specs.Network.{tail_in, head_in, is_river_in, is_outlet_i
 use Rattle.water_model.specs.Hydrology.{run_month, inflow_at}
 use Rattle.water_model.specs.Spelling.{fields_of, line_of}
 use Rattle.water_model.specs.Places.{numbers_from, members_from, by_seniority}
-use Rattle.water_model.specs.Text.{text, month_lines, calls, calling_right}
+use Rattle.water_model.specs.History.{calls}
+use Rattle.water_model.specs.Text.{text, month_lines, calling_right}
 use Rattle.water_model.specs.declared.types.Basin.{Basin}
 use Rattle.water_model.specs.declared.types.Carry.{Carry}
 use Rattle.water_model.specs.declared.types.Carry.TheVariants.{River, Canal}

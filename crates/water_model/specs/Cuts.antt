@@ -1,6 +1,6 @@
 -- Cuts of a right, their bounds, and reaches.
 use Rattle.std.specs.Prelude.{◌≡◌, ℕ, ℤ, pos, ◌-ℤ◌, ◌+◌, ◌<◌, Bool, false, ◌&&◌, not, List, length, slice_index, Option}
-use Rattle.std.specs.Prelude.{Some, None, IsTrue}
+use Rattle.std.specs.Prelude.{Some, None, IsTrue, nat_lt}
 use Rattle.place_sums.specs.Sums.{total_where, greatest_where}
 use Rattle.water_model.specs.Lookups.{has}
 use Rattle.water_model.specs.Basin.{tail_of, head_of, is_on_link, taking_node, instream_link, is_senior}
@@ -45,14 +45,14 @@ abbrev pub cut_bound : Basin → Month → List ℕ → List ℕ → ℕ → Lis
 cut_bound b month supply delivered right cut =
     pos (cut_capacity b month supply cut) -ℤ pos (cut_kept b delivered right cut)
 
--- a set with the node of a diversion or zone, or with the tail and not the head of an instream right's link
-abbrev pub Separates : Basin → Option ℕ → Option ℕ → List Bool → Type 0
-Separates b taking None cut = IsTrue (node_within taking cut)
-Separates b taking (Some link) cut = (link < length b.links) × IsTrue (leaves b cut link)
+-- whether a set has the node of a diversion or zone, or the tail and not the head of an instream right's link
+abbrev pub separates : Basin → Option ℕ → Option ℕ → List Bool → Bool
+separates b taking None cut = node_within taking cut
+separates b taking (Some link) cut = nat_lt link (length b.links) && leaves b cut link
 
 pub record IsCut (b : Basin) (right : ℕ) (cut : List Bool) : Type 0 where
   pub one_each : length cut ≡ length b.nodes
-  pub separates : Separates b (taking_node b right) (instream_link b right) cut
+  pub separates : IsTrue (separates b (taking_node b right) (instream_link b right) cut)
 
 -- a cut whose bound is what the right is delivered
 pub record IsTight (b : Basin) (month : Month) (supply delivered : List ℕ) (right : ℕ) (cut : List Bool) : Type 0 where

@@ -1,6 +1,7 @@
 -- Records of months, histories, reaches and calling rights.
 use Rattle.std.specs.Prelude.{◌≡◌, ℕ, ◌+◌, ◌-◌, ◌<◌, ◌≤◌, Bool, false, List, map, length, slice_index, slice_get}
-use Rattle.std.specs.Prelude.{Option, Some, None, IsTrue, IfSome, IfNone, IsSomeAnd, take}
+use Rattle.std.specs.Prelude.{Option, Some, None, IsTrue, IfSome, IfNone, ◌&&◌, nat_lt, take}
+use Rattle.std.specs.Option.{option_map_or}
 use Rattle.place_sums.specs.Sums.{total_where}
 use Rattle.water_model.specs.Lookups.{of_entry}
 use Rattle.water_model.specs.Basin.{is_senior, is_at}
@@ -84,16 +85,15 @@ pub record IsHistory (b : Basin) (series : Inflows) (records : List MonthRecord)
   pub partial : IsPartialHistory b series records
   pub whole : length records ≡ b.months
 
--- a right that another right answers to: it is short and senior, and its set holds the other's node
-pub record Calls (b : Basin) (m : MonthRecord) (caller called : ℕ) : Type 0 where
-  pub in_range : caller < length b.rights
-  pub short : IsShort m caller
-  pub senior : IsTrue (is_senior b caller called)
-  pub wanted : 0 < slice_index m.want called
-  pub holds : IsSomeAnd (cut_of m caller) (λ cut. IsTrue (takes_within b cut called))
+-- whether a right answers to another that calls: the caller is short and senior, and its set holds the right's node
+unfoldable pub calls : Basin → MonthRecord → ℕ → ℕ → Bool
+calls b m right caller =
+    nat_lt (slice_index m.delivered caller) (slice_index m.want caller) && is_senior b caller right
+    && nat_lt 0 (slice_index m.want right) && option_map_or (λ cut. takes_within b cut right) (cut_of m caller) false
 
 -- the most senior right that calls, or none
-pub record IsCallingRight (b : Basin) (m : MonthRecord) (called : ℕ) (answer : Option ℕ) : Type 0 where
-  pub calls : IfSome answer (λ caller. Calls b m caller called)
-  pub first : IfSome answer (λ caller. (other : ℕ) → Calls b m other called → IsTrue (is_senior b other caller) → ⊥)
-  pub none : IfNone answer ((other : ℕ) → Calls b m other called → ⊥)
+pub record IsCallingRight (b : Basin) (m : MonthRecord) (right : ℕ) (answer : Option ℕ) : Type 0 where
+  pub calling : IfSome answer (λ caller. (caller < length b.rights) × IsTrue (calls b m right caller))
+  pub first : IfSome answer (λ caller. (other : ℕ) → other < length b.rights → IsTrue (calls b m right other) →
+      IsTrue (is_senior b other caller) → ⊥)
+  pub none : IfNone answer ((other : ℕ) → other < length b.rights → IsTrue (calls b m right other) → ⊥)

@@ -5,7 +5,7 @@ use Rattle.water_model.specs.Lookups.{has}
 use Rattle.water_model.specs.Basin.{is_senior, HasStrictPriority}
 use Rattle.water_model.specs.Plans.{IsPlan, IsGreatest, DeliversSame, delivery}
 use Rattle.water_model.specs.Cuts.{IsCut, IsTight, IsReach, cut_bound, takes_within}
-use Rattle.water_model.specs.History.{IsPartialHistory, Calls, cut_of}
+use Rattle.water_model.specs.History.{IsPartialHistory, calls, cut_of}
 use Rattle.water_model.specs.Valid.{IsValidBasin}
 use Rattle.water_text.specs.declared.month.Month.{Month}
 use Rattle.water_model.specs.declared.types.Basin.{Basin}
@@ -42,10 +42,10 @@ CutsMakeGreatest =
     (b : Basin) (series : Inflows) (records : List MonthRecord) → IsPartialHistory b series records →
     (i : ℕ) (m : MonthRecord) → slice_get records i ≡ Some m → IsGreatest b m.month m.supply m.want m.plan
 
--- Nobody could get more. In any plan of a month that delivers at least as much to each right senior to a right, the
+-- Cuts let nobody get more. In any plan of a month that delivers at least as much to each right senior to a right, the
 -- right gets no more than it got: no water of a junior could lessen a senior's shortage.
-abbrev pub NobodyCouldGetMore : Type 0
-NobodyCouldGetMore =
+abbrev pub CutsLetNobodyGetMore : Type 0
+CutsLetNobodyGetMore =
     (b : Basin) (series : Inflows) (records : List MonthRecord) → IsPartialHistory b series records →
     (i : ℕ) (m : MonthRecord) → slice_get records i ≡ Some m → (q : Plan) → IsPlan b m.month m.supply m.want q →
     (right : ℕ) → right < length b.rights → ServesSeniors b m.delivered m.want q right →
@@ -77,12 +77,12 @@ abbrev pub CalledRightsGetNothing : Type 0
 CalledRightsGetNothing =
     (b : Basin) (series : Inflows) (records : List MonthRecord) → IsPartialHistory b series records →
     (i : ℕ) (m : MonthRecord) → slice_get records i ≡ Some m → (right caller : ℕ) → right < length b.rights →
-    Calls b m caller right → slice_index m.delivered right ≡ 0
+    caller < length b.rights → IsTrue (calls b m right caller) → slice_index m.delivered right ≡ 0
 
--- Nothing outside helps. Whatever is supplied outside the set that a history has of a right, and whatever anyone wants,
+-- Cuts let nothing outside help. Whatever is supplied outside the set that a history has of a right, and whatever anyone wants,
 -- no plan of that month that delivers at least as much to each senior of the right delivers it more than it got.
-abbrev pub NothingOutsideHelps : Type 0
-NothingOutsideHelps =
+abbrev pub CutsLetNothingOutsideHelp : Type 0
+CutsLetNothingOutsideHelp =
     (b : Basin) (series : Inflows) (records : List MonthRecord) → IsPartialHistory b series records →
     (i : ℕ) (m : MonthRecord) → slice_get records i ≡ Some m → (right : ℕ) → right < length b.rights →
     (cut : List Bool) → cut_of m right ≡ Some cut → (other_supply other_want : List ℕ) (q : Plan) →

@@ -1,12 +1,8 @@
 -- The text of a list of months' records.
-use Rattle.std.specs.Prelude.{ℕ, Bool, false, ◌&&◌, List, [], ◌∷◌, ◌++◌, map, find, slice_index, Option, Some, None}
-use Rattle.std.specs.Prelude.{nat_lt, if◌then◌else◌}
+use Rattle.std.specs.Prelude.{ℕ, Bool, List, [], ◌∷◌, ◌++◌, map, find, slice_index, Option, Some, None, if◌then◌else◌}
 use Rattle.std.specs.List.{flat_map}
-use Rattle.std.specs.Option.{option_map_or}
-use Rattle.water_model.specs.Basin.{is_senior}
-use Rattle.water_model.specs.Cuts.{takes_within}
 use Rattle.water_model.specs.Entries.{in_order}
-use Rattle.water_model.specs.History.{cut_of}
+use Rattle.water_model.specs.History.{calls, cut_of}
 use Rattle.water_model.specs.declared.types.Basin.{Basin}
 use Rattle.water_model.specs.declared.types.MonthRecord.{MonthRecord}
 use Rattle.water_model.specs.Places.{members_from, seniors_first}
@@ -19,12 +15,6 @@ use Rattle.water_model.specs.declared.item.Section.TheVariants as section
 use Rattle.water_model.specs.declared.item.TheConstants.{SECTIONS}
 use Rattle.water_model.specs.declared.space.Space.{Space}
 use Rattle.water_model.specs.declared.space.Space.TheVariants as space
-
--- whether a right's set makes another answer to it: it is short and senior, and its set holds the other's node
-unfoldable pub calls : Basin → MonthRecord → ℕ → ℕ → Bool
-calls b m right caller =
-    nat_lt (slice_index m.delivered caller) (slice_index m.want caller) && is_senior b caller right
-    && nat_lt 0 (slice_index m.want right) && option_map_or (λ cut. takes_within b cut right) (cut_of m caller) false
 
 -- the most senior right that calls, or none
 unfoldable pub calling_right : Basin → MonthRecord → ℕ → Option ℕ
