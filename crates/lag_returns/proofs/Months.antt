@@ -1,8 +1,10 @@
 -- What a row keeps after one month more.
 use Rattle.std.proofs.Common.{◌≡◌, ◌∙◌, ℕ, ◌+◌, ◌-◌, ◌*◌, ◌%◌, ◌<◌, ◌≤◌, List, [], ◌∷◌, ◌++◌, length, get_or, map, take}
 use Rattle.std.proofs.Common.{drop, refl, sym, ap, arith}
-use Rattle.std.specs.Prelude.{slice_index, All, option_map, unwrap_or}
-use Rattle.std.proofs.lemmas.List.{length-drop, length-append, map-append, drop-append-le, drop-drop}
+use Rattle.std.specs.Prelude.{slice_index, All, Vec, option_map, unwrap_or}
+use Rattle.std.specs.Vec.{with_items}
+use Rattle.std.proofs.lemmas.List.{with_items_is, length-map, length-drop, length-append, map-append, drop-append-le}
+use Rattle.std.proofs.lemmas.List.{drop-drop}
 use Rattle.std.proofs.lemmas.Grind.{common_steps}
 use Rattle.std.proofs.lemmas.List.Elements.{All-map}
 use Rattle.std.proofs.Math.Nat.{mul-add}
@@ -10,7 +12,7 @@ use Rattle.circular_buffer.specs.Buffer.{keep_last}
 use Rattle.circular_buffer.proofs.Places.{slice_get-append_left}
 use Rattle.place_sums.proofs.Totals.{total_same}
 use Rattle.water_model.specs.Hydrology.{delivered_in, delivered_before}
-use Rattle.lag_returns.specs.ReturnFlows.{due, after_month}
+use Rattle.lag_returns.specs.ReturnFlows.{due, after_month, emptied, fresh}
 use Rattle.lag_returns.specs.Lags.{OnTheWay, IsOnTheWay, StandsFor, IsLagged, return_rows, delivered_to}
 use Rattle.lag_returns.proofs.Arrivals.{IsDue, is_due, remainder}
 use Rattle.water_model.specs.declared.types.ReturnRow.{ReturnRow}
@@ -86,3 +88,15 @@ lagged_after delivered lags h = All-map (λ w. IsLagged w.row) (after_month deli
 pub unchanged : {X : Type 0} (f : X → X) (now before : List X) (i : ℕ) (d : X) → i < length before →
     now ≡ map f (take i before) ++ drop i before → get_or now i d ≡ get_or before i d
 unchanged {X = X} f now before i d l e = grind (arith, common_steps)
+
+-- the list after its elements were written as a slice
+pub written : {X Z : Type 0} (f : X → X) (v : Vec X Z) (now seen : List X) → now ≡ map f seen → seen ≡ v.items →
+    length seen ≡ v.len →
+    (with_items v now).items ≡ map f v.items
+written f v now seen e same len =
+    with_items_is v now (ap length e ∙ length-map seen f ∙ len) ∙ e ∙ ap (map f) same
+
+-- rows with nothing on their way any more are those before the first month
+pub emptied_are : (lags : List OnTheWay) → map emptied lags ≡ map fresh (return_rows lags)
+emptied_are [] = refl
+emptied_are (w ∷ lags) = ap (λ ws. fresh w.row ∷ ws) (emptied_are lags)

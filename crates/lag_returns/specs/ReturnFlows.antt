@@ -19,6 +19,10 @@ pub record IsSoundReturn (row : ReturnRow) (ring : Buffer ℕ) (rest : ℕ) : Ty
 abbrev pub fresh : ReturnRow → OnTheWay
 fresh row = record { row = row; waiting = []; remainder = 0 }
 
+-- the same row with nothing on its way
+abbrev pub emptied : OnTheWay → OnTheWay
+emptied w = fresh w.row
+
 -- the parts of 10,000 that are due: none until as many deliveries wait as the lag has months
 abbrev pub due : OnTheWay → ℕ
 due w = if nat_lt (length w.waiting) w.row.lag then 0 else w.remainder + w.row.part * slice_index w.waiting 0

@@ -3,7 +3,7 @@
 
 ghost use Rattle.std.specs.Prelude.{◌≡◌, ℕ, ◌+◌, ◌*◌, ◌^◌, ◌<◌, ◌≤◌, ◌++◌, ◌∷◌, [], List, length, slice_index};
 ghost use Rattle.std.specs.Prelude.{slice_set, map, All, IfOk};
-ghost use Rattle.lag_returns.specs.ReturnFlows.{after_month, arriving, brought, due, fresh, with_delivery};
+ghost use Rattle.lag_returns.specs.ReturnFlows.{after_month, arriving, brought, due, emptied, fresh, with_delivery};
 ghost use Rattle.lag_returns.specs.Lags.{IsLagged, StandsFor, return_rows, arrivals_at};
 ghost use Rattle.water_model.specs.declared.types.ReturnRow.{ReturnRow};
 
@@ -82,6 +82,14 @@ impl ReturnFlow {
         self.remainder = self.due() % 10_000;
         self.waiting.push_back(amount);
     }
+
+    /// Nothing is on its way any more.
+    fn clear(&mut self)
+        ensures { self.new ≡ fresh self.old.row }
+    {
+        self.waiting.clear();
+        self.remainder = 0;
+    }
 }
 
 /// Adds what each row brings to its node's place.
@@ -106,6 +114,15 @@ fn take_each(flows: &mut [ReturnFlow], delivered: &[u64])
     for flow in flows.iter_mut() {
         let right = flow.row.right as usize;
         flow.take(delivered[right]);
+    }
+}
+
+/// Nothing is on its way to any row any more.
+fn clear_each(flows: &mut [ReturnFlow])
+    ensures { flows.new ≡ map emptied flows.old }
+{
+    for flow in flows.iter_mut() {
+        flow.clear();
     }
 }
 
@@ -167,5 +184,13 @@ impl Lags {
             StandsFor self.new rows (deliveries ++ delivered.now ∷ []) }
     {
         take_each(&mut self.flows, delivered);
+    }
+
+    /// Nothing is on its way any more, as after `open`: the value stands for its rows, and for no month. The cost is
+    /// linear in the rows.
+    pub fn clear(&mut self)
+        ensures { StandsFor self.new (return_rows self.old) [] }
+    {
+        clear_each(&mut self.flows);
     }
 }

@@ -5,6 +5,7 @@ use Rattle.std.specs.Prelude.{All, IfOk, Result, Ok, Err, replicate, slice_get, 
 use Rattle.std.specs.Prelude.{option_map, unwrap_or}
 use Rattle.std.proofs.lemmas.List.{length-map, length-replicate, map-append, take_more}
 use Rattle.std.proofs.lemmas.Option.{slice_get-map, slice_get-get_or, slice_get_within}
+use Rattle.lag_returns.specs.Lags as lag
 use Rattle.water_model.specs.History.{IsPartialHistory, opening_after}
 use Rattle.water_model.specs.Hydrology.{delivered_in, used_of}
 use Rattle.water_model.proofs.Balance.{entry_at}
@@ -14,7 +15,7 @@ use Rattle.water_model.specs.declared.types.Inflows.{Inflows}
 use Rattle.water_model.specs.declared.types.MonthRecord.{MonthRecord}
 use Rattle.month_terms.specs.Terms.{HasUsed}
 use Rattle.month_fold.specs.Reaches.{HasDeliveries, TellUse}
-use Rattle.month_fold.specs.Runs.{RunSeen, StandsFor}
+use Rattle.month_fold.specs.Runs.{EngineSeen, RunSeen, StandsFor, run_with}
 use Rattle.month_terms.proofs.Amounts.{deliveries_small as all_small}
 use Rattle.month_terms.proofs.Adds.{no_numbers}
 use Rattle.month_terms.proofs.WaterYears.{nothing_used, used_most}
@@ -167,3 +168,18 @@ deliveries_more {X = X} f xs i x delivered l is e =
     ∙ ap (map (λ m. m.delivered)) (map-append f (take i xs) (get_or xs i x ∷ []))
     ∙ map-append (λ (m : MonthRecord). m.delivered) (map f (take i xs)) (f (get_or xs i x) ∷ [])
     ∙ ap (λ (d : List ℕ). map (λ m. m.delivered) (map f (take i xs)) ++ d ∷ []) (sym (e ∙ ap (λ y. (f y).delivered) is))
+
+-- before the first month a run stands for none
+pub begins : (engine : EngineSeen) (series : Inflows) →
+    engine.last.closing ≡ map (λ v. v.opening) engine.basin.reservoirs →
+    lag.StandsFor engine.lags engine.basin.returns [] → engine.used ≡ replicate (length engine.basin.rights) 0 →
+    StandsFor (run_with engine series 0) []
+begins engine series stored lags used = record {
+  partial = record { within = omega arith; each = λ i m at. (let none : slice_get [] i ≡ Some m = at in cc) };
+  reaches = λ i m at. (let none : slice_get [] i ≡ Some m = at in cc);
+  done = refl;
+  stored = stored;
+  lags = lags;
+  used = nothing_used engine.basin engine.used (ap length used ∙ length-replicate (length engine.basin.rights) 0)
+      (λ r. ap (λ xs. slice_index xs r) used ∙ no_numbers (length engine.basin.rights) r);
+}

@@ -1,27 +1,29 @@
--- What a run keeps.
-use Rattle.std.specs.Prelude.{◌≡◌, map}
+-- What an engine and a run keep.
+use Rattle.std.specs.Prelude.{◌≡◌, length, map}
+use Rattle.lag_returns.specs.Lags.{return_rows}
 use Rattle.water_model.specs.Valid.{IsValidBasin, IsSeriesOf}
 use Rattle.month_terms.specs.Terms.{FitsRecord}
-use Rattle.month_fold.specs.Runs.{RunSeen, HasMonths}
+use Rattle.month_fold.specs.Runs.{EngineSeen, RunSeen, HasMonths, run_with}
+use Rattle.month_fold.specs.declared.engine.Engine.TheInside.{Inside as EngineInside}
 use Rattle.month_fold.specs.declared.run.Run.TheInside.{Inside}
 
-abbrev pub seen_of : Inside → RunSeen
-seen_of i =
-    record {
-      basin = i.basin.now;
-      series = i.series.now;
-      done = i.done;
-      last = i.month.value;
-      lags = i.lags;
-      used =
-          i.used;
-    }
+abbrev pub engine_of : EngineInside → EngineSeen
+engine_of e = record { basin = e.basin.now; last = e.month.value; lags = e.lags; used = e.used }
 
--- a valid basin, a series of it, and what is derived from it once; and some months stand behind the run
+-- a valid basin, what is derived from it once, and room for its months
+pub record IsFitted (e : EngineInside) : Type 0 where
+  pub valid : IsValidBasin e.basin.now
+  pub solver : e.solver.value ≡ e.basin.now
+  pub tables : e.tables.items ≡ map (λ v. v.area) e.basin.now.reservoirs
+  pub month : FitsRecord e.basin.now e.month.value
+  pub rows : return_rows e.lags ≡ e.basin.now.returns
+  pub used : length e.used ≡ length e.basin.now.rights
+
+abbrev pub seen_of : Inside → RunSeen
+seen_of i = run_with i.engine i.series.now i.done
+
+-- a valid basin and a series of it, and some months stand behind the run
 pub record IsReady (i : Inside) : Type 0 where
-  pub valid : IsValidBasin i.basin.now
-  pub series : IsSeriesOf i.basin.now i.series.now
-  pub solver : i.solver.value ≡ i.basin.now
-  pub tables : i.tables.items ≡ map (λ v. v.area) i.basin.now.reservoirs
-  pub month : FitsRecord i.basin.now i.month.value
+  pub valid : IsValidBasin i.engine.basin
+  pub series : IsSeriesOf i.engine.basin i.series.now
   pub months : HasMonths (seen_of i)

@@ -21,6 +21,24 @@ pub record RunSeen : Type 0 where
   pub lags : List OnTheWay
   pub used : List ℕ
 
+-- what a run is made with, apart from its series
+pub record EngineSeen : Type 0 where
+  pub basin : Basin
+  pub last : MonthRecord
+  pub lags : List OnTheWay
+  pub used : List ℕ
+
+-- the run that it makes of a series, after so many months
+abbrev pub run_with : EngineSeen → Inflows → ℕ → RunSeen
+run_with engine series done = record {
+  basin = engine.basin;
+  series = series;
+  done = done;
+  last = engine.last;
+  lags = engine.lags;
+  used = engine.used;
+}
+
 -- the run went through these months: they are a partial history, with the reaches as the sets of short rights, after
 -- which the next month opens with what is stored, on its way and used
 pub record StandsFor (run : RunSeen) (records : List MonthRecord) : Type 0 where

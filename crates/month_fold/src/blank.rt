@@ -1,9 +1,9 @@
 //! The record that a run begins or goes on with.
-ghost use Rattle.std.specs.Prelude.{ℕ, ◌≡◌, ◌<◌, length, IfOk};
+ghost use Rattle.std.specs.Prelude.{ℕ, ◌≡◌, ◌<◌, length, map, IfOk};
 ghost use Rattle.water_model.specs.Valid.{IsValidBasin};
 ghost use Rattle.month_terms.specs.Terms.{FitsRecord};
 
-use month_terms::opening::blank_record;
+use month_terms::opening::{blank_record, write_openings};
 use std::alloc::{AllocError, Global};
 use water_model::cut_list::CutList;
 use water_model::rows::Rows;
@@ -24,4 +24,12 @@ pub fn blank_month(
     let mut month = blank_record(alloc, basin, cuts)?;
     month.closing = stored;
     Ok(month)
+}
+
+/// Writes what each reservoir holds when a run begins into a record, as its closing. All else stays.
+pub fn open_storage(basin: &Basin, month: &mut MonthRecord)
+    requires { length month.old.closing ≡ length basin.now.reservoirs }
+    ensures { month.new ≡ record month.old { closing = map (λ v. v.opening) basin.now.reservoirs } }
+{
+    write_openings(basin, month.closing.as_mut_slice());
 }

@@ -2,6 +2,7 @@
 #![tactic(auto)]
 
 mod blank;
+pub mod engine;
 pub mod laws;
 mod next;
 mod resume;

@@ -1,5 +1,5 @@
 //! A run of a basin, month by month.
-ghost use Rattle.std.specs.Prelude.{ℕ, List, ◌≡◌, ◌+◌, ◌-◌, ◌*◌, ◌<◌, ◌≤◌, ◌++◌, ◌∷◌, [], length, map, IfOk};
+ghost use Rattle.std.specs.Prelude.{List, ◌≡◌, ◌+◌, ◌-◌, ◌<◌, ◌≤◌, ◌++◌, ◌∷◌, [], map, IfOk};
 ghost use Rattle.senior_hold.specs.MonthNetwork.{month_pushes};
 ghost use Rattle.water_model.specs.Valid.{IsValidBasin, IsSeriesOf};
 ghost use Rattle.water_model.specs.declared.types.MonthRecord.{MonthRecord};
@@ -7,18 +7,11 @@ ghost use Rattle.water_model.specs.History.{IsPartialHistory};
 ghost use Rattle.month_fold.specs.Reaches.{HaveReaches};
 ghost use Rattle.month_fold.specs.Runs.{StandsFor};
 
-use crate::blank::blank_month;
-use crate::next::{next_month, use_volumes};
-use crate::resume::{on_the_way, stored_after, used_after};
-use lag_returns::Lags;
-use month_terms::evaporation::tables_of;
-use reservoirs::AreaTable;
-use senior_hold::Solver;
+use crate::engine::Engine;
 use std::alloc::{AllocError, Global};
 use std::marker::Model;
 use std::sync::ledger::Ledger;
 use steps::Steps;
-use water_model::rows::Rows;
 use water_model::types::{Basin, Inflows, MonthRecord};
 
 /// A run of a basin with a series of inflows.
@@ -26,18 +19,13 @@ use water_model::types::{Basin, Inflows, MonthRecord};
 /// It keeps the record of the last month, what is on its way and what was used of volumes, and no record before. It
 /// stands for all months that it went through: contracts say what holds for each list of records that it stands for.
 #[derive(Drop)]
-pub struct Run<'b> {
-    basin: &'b Basin,
-    series: &'b Inflows,
-    solver: Box<Solver<'b>>,
-    tables: Vec<AreaTable>,
-    lags: Lags,
-    used: Rows<u64>,
-    month: Box<MonthRecord>,
+pub struct Run<'b, 's> {
+    engine: Engine<'b>,
+    series: &'s Inflows,
     done: u32,
 }
 
-impl<'b> Model for Run<'b> {
+impl<'b, 's> Model for Run<'b, 's> {
     ghost use Rattle.month_fold.specs.Runs.{RunSeen};
 
     ghost Value = { RunSeen };
@@ -49,17 +37,13 @@ impl<'b> Model for Run<'b> {
     ghost invariant = { IsReady };
 }
 
-/// The solver of the basin's months. AllocError comes where memory is lacking.
-fn solver_of<'b>(alloc: Global, basin: &'b Basin) -> Result<Box<Solver<'b>>, AllocError>
-    requires { IsValidBasin basin.now }
-    ensures { IfOk result (λ solver. solver.value ≡ basin.now) }
-{
-    Ok(Box::new(alloc, Solver::open(alloc, basin)?)?)
-}
-
-impl<'b> Run<'b> {
+impl<'b, 's> Run<'b, 's> {
     /// A run before its first month. AllocError comes where memory is lacking.
-    pub fn open(alloc: Global, basin: &'b Basin, series: &'b Inflows) -> Result<Run<'b>, AllocError>
+    pub fn open(
+        alloc: Global,
+        basin: &'b Basin,
+        series: &'s Inflows,
+    ) -> Result<Run<'b, 's>, AllocError>
         requires basin { IsValidBasin basin.now }
         requires series { IsSeriesOf basin.now series.now }
         ensures basin { IfOk result (λ run. run.basin ≡ basin.now) }
@@ -69,15 +53,43 @@ impl<'b> Run<'b> {
         Run::resume(alloc, basin, series, &[])
     }
 
+    /// A run before its first month, in the memory of an engine: it takes none. The engine may have served other runs,
+    /// and nothing of them is left.
+    pub fn begin(mut engine: Engine<'b>, series: &'s Inflows) -> Run<'b, 's>
+        requires { IsSeriesOf engine.basin series.now }
+        ensures basin { result.basin ≡ engine.entry.basin }
+        ensures series { result.series ≡ series.now }
+        ensures stands { StandsFor result [] }
+    {
+        engine.clear();
+        Run {
+            engine,
+            series,
+            done: 0,
+        }
+    }
+
+    /// Ends the run. Its engine may serve another one.
+    pub fn close(self) -> Engine<'b>
+        ensures { result.basin ≡ self.entry.basin }
+    {
+        let Run {
+            engine,
+            series: _,
+            done: _,
+        } = self;
+        engine
+    }
+
     /// A run that went through these months, which may have been solved by another run. AllocError comes where memory
     /// is lacking. No month is solved: the cost is that of opening a run, and linear in the return rows times the
     /// months.
     pub fn resume(
         alloc: Global,
         basin: &'b Basin,
-        series: &'b Inflows,
+        series: &'s Inflows,
         months: &[Box<MonthRecord>],
-    ) -> Result<Run<'b>, AllocError>
+    ) -> Result<Run<'b, 's>, AllocError>
         requires basin { IsValidBasin basin.now }
         requires series { IsSeriesOf basin.now series.now }
         requires months { IsPartialHistory basin.now series.now (map (λ m. m.value) months.now) }
@@ -86,20 +98,10 @@ impl<'b> Run<'b> {
         ensures series { IfOk result (λ run. run.series ≡ series.now) }
         ensures stands { IfOk result (λ run. StandsFor run (map (λ m. m.value) months.now)) }
     {
-        let solver = solver_of(alloc, basin)?;
-        let tables = tables_of(alloc, basin)?;
-        let lags = on_the_way(alloc, basin, months)?;
-        let used = used_after(alloc, basin, months)?;
-        let stored = stored_after(alloc, basin, months)?;
-        let month = blank_month(alloc, basin, stored)?;
+        let engine = Engine::behind(alloc, basin, months)?;
         Ok(Run {
-            basin,
+            engine,
             series,
-            solver,
-            tables,
-            lags,
-            used,
-            month,
             done: months.len() as u32,
         })
     }
@@ -108,7 +110,7 @@ impl<'b> Run<'b> {
     pub fn left(&self) -> u32
         ensures { result ≡ self.now.basin.months - self.now.done }
     {
-        self.basin.months - self.done
+        self.engine.months() - self.done
     }
 
     /// The record of the month that was solved last. Before the first step it says nothing but the storage with which
@@ -116,7 +118,7 @@ impl<'b> Run<'b> {
     pub fn month(&self) -> &MonthRecord
         ensures { result.now ≡ self.now.last }
     {
-        &self.month
+        self.engine.month()
     }
 
     /// Solves the next month, whose record `month` then gives: it follows the records before it, and the set of each
@@ -130,19 +132,7 @@ impl<'b> Run<'b> {
             StandsFor self.new (records ++ self.new.last ∷ []) }
         ensures pushes { searches.new ≤ searches.old + month_pushes self.old.basin }
     {
-        next_month(
-            self.basin,
-            self.series,
-            &self.tables,
-            &self.lags,
-            self.used.as_slice(),
-            &mut *self.solver,
-            self.done,
-            &mut *self.month,
-            searches,
-        );
-        self.lags.month_done(self.month.delivered.as_slice());
-        use_volumes(self.basin, self.done, &self.month, &mut self.used);
+        self.engine.step(self.series, self.done, searches);
         self.done += 1;
     }
 }

@@ -14,16 +14,24 @@ pub fn zeros(alloc: Global, count: usize) -> Result<Rows<u64>, AllocError>
     Ok(Rows::from_vec(vec![in alloc; 0; count]?))
 }
 
+/// Writes what each reservoir holds when the run begins, in units of 1,000 cubic metres.
+pub fn write_openings(basin: &Basin, stored: &mut [u64])
+    requires { length stored.old ≡ length basin.now.reservoirs }
+    ensures { stored.new ≡ map (λ v. v.opening) basin.now.reservoirs }
+{
+    for reservoir in 0..basin.reservoirs.len() {
+        stored[reservoir] = basin.reservoirs[reservoir].opening;
+    }
+}
+
 /// What each reservoir holds when the run begins, in units of 1,000 cubic metres. AllocError comes where memory is
 /// lacking.
 pub fn openings(alloc: Global, basin: &Basin) -> Result<Rows<u64>, AllocError>
     ensures { IfOk result (λ rows. rows ≡ map (λ v. v.opening) basin.now.reservoirs) }
 {
-    let mut openings = Vec::with_capacity(alloc, basin.reservoirs.len())?;
-    for reservoir in basin.reservoirs.as_slice() {
-        openings.push(reservoir.opening)?;
-    }
-    Ok(Rows::from_vec(openings))
+    let mut stored = zeros(alloc, basin.reservoirs.len())?;
+    write_openings(basin, stored.as_mut_slice());
+    Ok(stored)
 }
 
 /// Three lists of so many zeros.

@@ -1,18 +1,9 @@
-use Rattle.std.proofs.Common.{◌≡◌, ◌∙◌, ◌++◌, ◌∷◌, List, [], map, length, ap, sym, subst}
-use Rattle.std.specs.Prelude.{All, Vec}
-use Rattle.std.specs.Vec.{with_items}
-use Rattle.std.proofs.lemmas.List.{with_items_is, length-map}
+use Rattle.std.proofs.Common.{◌∙◌, ◌++◌, ◌∷◌, [], ap, sym, subst}
+use Rattle.std.specs.Prelude.{All}
 use Rattle.lag_returns.specs.ReturnFlows.{after_month}
 use Rattle.lag_returns.specs.Lags.{IsLagged, StandsFor, return_rows}
-use Rattle.lag_returns.proofs.Months.{lagged_after, rows_after, stands_after}
+use Rattle.lag_returns.proofs.Months.{lagged_after, rows_after, stands_after, written}
 use Rattle.lag_returns.proofs.Lags.month_done.Goals as goal
-
--- the list after its elements were written as a slice
-written : {X Z : Type 0} (f : X → X) (v : Vec X Z) (now seen : List X) → now ≡ map f seen → seen ≡ v.items →
-    length seen ≡ v.len →
-    (with_items v now).items ≡ map f v.items
-written f v now seen e same len =
-    with_items_is v now (ap length e ∙ length-map seen f ∙ len) ∙ e ∙ ap (map f) same
 
 pub invariant_of-self : goal.invariant_of-self
 invariant_of-self c =

@@ -1,0 +1,88 @@
+use Rattle.std.proofs.Common.{◌∙◌, ◌<◌, sym, ap, subst, [], ◌∷◌, ◌++◌, map, List, ℕ}
+use Rattle.std.proofs.lemmas.List.{length-map}
+use Rattle.lag_returns.specs.Lags as lag
+use Rattle.month_terms.specs.Terms.{HasUsed}
+use Rattle.water_model.specs.declared.types.MonthRecord.{MonthRecord}
+use Rattle.water_model.specs.Valid.{IsSeriesOf}
+use Rattle.month_fold.specs.RunInside.{engine_of}
+use Rattle.month_fold.specs.Runs.{EngineSeen, StandsFor, run_with}
+use Rattle.month_fold.specs.Reaches.{HasDeliveries}
+use Rattle.month_fold.proofs.Resuming.{used_little}
+use Rattle.month_fold.proofs.Standing.{stands_next}
+use Rattle.month_fold.proofs.engine.Engine.step.Goals as goal
+
+pub next_month-requires-clause-months : goal.next_month-requires-clause-months
+next_month-requires-clause-months g c =
+    let engine = engine_of c.self.inside in
+    let stands =
+    subst (λ (e : EngineSeen). StandsFor (run_with e c.args.series.now c.args.done) c.requires.months.records)
+    (sym c.self.view_is) c.requires.months.stands in
+    record {
+      records = c.requires.months.records;
+      stands =
+          subst (λ (used : List ℕ). StandsFor
+          (run_with (record engine { last = c.deref_mut-2.result.now; used = used }) c.args.series.now c.args.done)
+          c.requires.months.records)
+          (sym c.as_slice.ensures)
+          (subst (λ (m : MonthRecord). StandsFor
+          (run_with (record engine { last = m }) c.args.series.now c.args.done) c.requires.months.records)
+          (sym c.deref_mut-2.ensures.value) stands);
+    }
+
+pub invariant_of-self : goal.invariant_of-self
+invariant_of-self g c =
+    let stands =
+    subst (λ (e : EngineSeen). StandsFor (run_with e c.args.series.now c.args.done) c.requires.months.records)
+    (sym c.self.view_is) c.requires.months.stands in
+    record {
+      valid = c.self.invariant.valid;
+      solver = c.next_month.ensures.solver ∙ (c.deref_mut.ensures.value ∙ c.self.invariant.solver);
+      tables = c.self.invariant.tables;
+      month = c.next_month.ensures.fits;
+      rows = c.month_done.ensures.rows ∙ c.self.invariant.rows;
+      used = (c.use_volumes.ensures (map (λ k. k.delivered) c.requires.months.records)
+          (length-map c.requires.months.records (λ (k : MonthRecord). k.delivered) ∙ sym stands.done)
+          stands.used).count;
+    }
+
+pub returns-clause-month : goal.returns-clause-month
+returns-clause-month g c = λ records was.
+    let engine = engine_of c.self.inside in
+    let stands =
+    subst (λ (e : EngineSeen). StandsFor (run_with e c.args.series.now c.args.done) records) (sym c.self.view_is) was in
+    let opened =
+    subst (λ (used : List ℕ). StandsFor
+    (run_with (record engine { last = c.deref_mut-2.result.now; used = used }) c.args.series.now c.args.done) records)
+    (sym c.as_slice.ensures)
+    (subst (λ (m : MonthRecord). StandsFor (run_with (record engine { last = m }) c.args.series.now c.args.done)
+    records)
+    (sym c.deref_mut-2.ensures.value) stands) in
+    stands_next (run_with engine c.args.series.now c.args.done) records c.next_month.new.month
+    c.month_done.new.self c.use_volumes.new.used stands
+    (subst (λ (e : EngineSeen). c.args.done < e.basin.months) (sym c.self.view_is) c.requires.left)
+    (c.next_month.ensures.next records opened)
+    (subst (λ (delivered : List ℕ). lag.StandsFor c.month_done.new.self c.self.inside.basin.now.returns
+    (map (λ k. k.delivered) records ++ delivered ∷ []))
+    (c.as_slice-2.ensures ∙ ap (λ (m : MonthRecord). m.delivered) c.deref-2.ensures)
+    (c.month_done.ensures.stands c.self.inside.basin.now.returns (map (λ k. k.delivered) records) stands.lags))
+    (subst (λ (delivered : List ℕ). HasUsed c.self.inside.basin.now (map (λ k. k.delivered) records ++ delivered ∷ [])
+    c.use_volumes.new.used) (ap (λ (m : MonthRecord). m.delivered) c.deref-3.ensures)
+    (c.use_volumes.ensures (map (λ k. k.delivered) records) (length-map records (λ (k : MonthRecord). k.delivered)
+    ∙ sym stands.done) stands.used))
+
+pub use_volumes-requires-clause-index : goal.use_volumes-requires-clause-index
+use_volumes-requires-clause-index g c =
+    subst (λ (e : EngineSeen). c.args.done < e.basin.months) (sym c.self.view_is) c.requires.left
+
+pub use_volumes-requires-clause-deliveries : goal.use_volumes-requires-clause-deliveries
+use_volumes-requires-clause-deliveries g c =
+    subst (HasDeliveries c.self.inside.basin.now) (sym c.deref-3.ensures)
+    (record { count = c.next_month.ensures.fits.fits.delivered; small = c.next_month.ensures.small })
+
+pub use_volumes-requires-clause-little : goal.use_volumes-requires-clause-little
+use_volumes-requires-clause-little g c =
+    let engine = engine_of c.self.inside in
+    used_little (run_with engine c.args.series.now c.args.done) c.requires.months.records c.self.invariant.valid
+    (subst (λ (e : EngineSeen). IsSeriesOf e.basin c.args.series.now) (sym c.self.view_is) c.requires.series)
+    (subst (λ (e : EngineSeen). StandsFor (run_with e c.args.series.now c.args.done) c.requires.months.records)
+    (sym c.self.view_is) c.requires.months.stands)
