@@ -316,8 +316,8 @@ pub fn bound(
     capacity as i64 - kept as i64
 }
 
-/// Whether the nodes that the words mark are a cut of a right: they hold the node of a diversion or zone, and of an instream right the tail of
-/// its link and not the head.
+/// Whether the nodes that the words mark are a cut of a right: they hold the node of a diversion or zone, and of an
+/// instream right the tail of its link and not the head.
 fn separates(basin: &Basin, right: u32, words: &[u64]) -> bool
     requires basin { IsValidBasin basin.now }
     requires right { right < length basin.now.rights }
