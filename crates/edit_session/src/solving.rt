@@ -15,7 +15,7 @@ use water_model::types::{Basin, Inflows, MonthRecord};
 /// Solves the next month of a run and keeps its record behind those before it. After an AllocError these are kept.
 fn add_month<L: Ledger>(
     alloc: Global,
-    run: &mut Run<'_, '_>,
+    run: &mut Run,
     kept: &mut Vec<Box<MonthRecord>>,
     searches: &mut Steps<L>,
 ) -> Result<(), AllocError>

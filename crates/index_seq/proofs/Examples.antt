@@ -1,5 +1,5 @@
 -- A record of two years, and the text of its traces.
-use Rattle.std.proofs.Common.{◌≡◌, ℕ, ◌++◌, refl, false, true, List, [], ◌∷◌, replicate, None}
+use Rattle.std.proofs.Common.{◌≡◌, ◌++◌, refl, false, true, [], ◌∷◌, replicate, None}
 use Rattle.std.specs.Prelude.{codes}
 use Rattle.std.specs.Fmt.{digits}
 use Rattle.std.specs.List.{flat_map}

@@ -1,18 +1,15 @@
 -- Traces of one record have the same yearly deliveries.
-use Rattle.std.proofs.Common.{◌≡◌, ℕ, zero, suc, ◌+◌, ◌*◌, ◌<◌, refl, sym, ap, ◌∙◌, arith, List, [], ◌∷◌, ◌++◌, length}
+use Rattle.std.proofs.Common.{◌≡◌, ℕ, zero, suc, ◌*◌, refl, sym, ap, ◌∙◌, arith, List, [], ◌∷◌, ◌++◌, length}
 use Rattle.std.proofs.Common.{take, drop, map, Some}
 use Rattle.std.specs.Prelude.{slice_index, slice_get, sum_by}
 use Rattle.std.specs.List.{flat_map}
 use Rattle.std.proofs.lemmas.List.Sums.{sum_by-cons}
 use Rattle.water_model.specs.History.{IsHistory}
 use Rattle.water_model.specs.Places.{numbers_from}
-use Rattle.water_model.specs.Valid.{IsValidBasin}
-use Rattle.water_model.specs.declared.types.Basin.{Basin}
-use Rattle.water_model.specs.declared.types.Inflows.{Inflows}
 use Rattle.water_model.specs.declared.types.MonthRecord.{MonthRecord}
 use Rattle.water_model.proofs.Outcome.{one_outcome}
 use Rattle.index_seq.specs.Laws.{TracesHaveOneResult}
-use Rattle.index_seq.specs.Traces.{AreTraces, begun_after, delivered_in_year, yearly_deliveries, years_of}
+use Rattle.index_seq.specs.Traces.{begun_after, delivered_in_year, years_of}
 
 -- two lists of records whose rights are delivered the same
 abbrev AreAlike : List MonthRecord → List MonthRecord → Type 0

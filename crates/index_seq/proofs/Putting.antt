@@ -1,5 +1,5 @@
 -- The lines of different amounts, put one after another.
-use Rattle.std.proofs.Common.{◌≡◌, ℕ, ◌<◌, ◌≤◌, List, [], ◌∷◌, ◌++◌, length, take, drop, refl, sym, ap, subst, ◌∙◌}
+use Rattle.std.proofs.Common.{◌≡◌, ℕ, ◌<◌, ◌≤◌, List, [], ◌∷◌, ◌++◌, length, drop, refl, sym, ap, subst, ◌∙◌}
 use Rattle.std.proofs.Common.{arith, append_assoc, append-nil, Option, Some, None, Result}
 use Rattle.std.specs.Prelude.{slice_index, IsErr, ◌==◌}
 use Rattle.std.specs.List.{flat_map, prefix_len}

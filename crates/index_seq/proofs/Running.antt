@@ -1,9 +1,8 @@
 -- The sums of traces, from one month to the next, from one year to the next, and from one trace to the next.
-use Rattle.std.proofs.Common.{◌≡◌, ℕ, zero, suc, ◌+◌, ◌*◌, ◌/◌, ◌<◌, ◌≤◌, ◌^◌, refl, sym, ap, subst, ◌∙◌, arith, List}
+use Rattle.std.proofs.Common.{◌≡◌, ℕ, zero, suc, ◌+◌, ◌*◌, ◌<◌, ◌≤◌, ◌^◌, refl, sym, ap, subst, ◌∙◌, arith, List}
 use Rattle.std.proofs.Common.{[], ◌∷◌, ◌++◌, length, take, drop, map, inl, inr, append-nil, append_assoc, length-append}
 use Rattle.std.proofs.Common.{take_all, add-one}
 use Rattle.std.specs.Prelude.{slice_index, slice_index_or, slice_get, sum_by, Some, ◌⊎◌}
-use Rattle.std.specs.List.{flat_map}
 use Rattle.std.proofs.Math.Nat.{mul-le-mul_right, add-mul, mul_assoc}
 use Rattle.std.proofs.lemmas.Grind.{flat_map-append}
 use Rattle.std.proofs.lemmas.List.{drop-append-le, take-append-le, length-drop, drop_all}
@@ -16,7 +15,7 @@ use Rattle.water_model.specs.Valid.{IsValidBasin, IsSeriesOf}
 use Rattle.water_model.specs.declared.types.Basin.{Basin}
 use Rattle.water_model.specs.declared.types.Inflows.{Inflows}
 use Rattle.water_model.specs.declared.types.MonthRecord.{MonthRecord}
-use Rattle.index_seq.specs.Sums.{AreSums, IsYear, IsUnderWay, HaveSums, AreFirst}
+use Rattle.index_seq.specs.Sums.{IsEmptyYear, IsUnderWay, HaveSums}
 use Rattle.index_seq.specs.Traces.{begun_after, delivered_in_year, yearly_deliveries, years_of, HasWholeYears}
 use Rattle.index_seq.specs.Traces.{AreTraces}
 use Rattle.senior_hold.specs.MonthNetwork.{month_pushes}
@@ -176,10 +175,9 @@ no_years f xs = sym (append-nil xs)
 -- a trace begins where those before it are whole
 pub trace_start : (b : Basin) (series : Inflows) (trace : ℕ) (run : RunSeen) (all : List (List ℕ)) (none : List ℕ) →
     (h : HaveSums b series trace all) →
-    run.basin ≡ b → run.series ≡ begun_after series trace → StandsFor run [] → length none ≡ length b.rights →
-    ((r : ℕ) → r < length b.rights → slice_index none r ≡ 0) →
+    run.basin ≡ b → run.series ≡ begun_after series trace → StandsFor run [] → IsEmptyYear b none →
     IsUnderWay b series trace 0 0 run all none
-trace_start b series trace run all none h same fits stands long zeros = record {
+trace_start b series trace run all none h same fits stands empty = record {
   traces = h.traces;
   number = h.number;
   first = h.first;
@@ -189,7 +187,7 @@ trace_start b series trace run all none h same fits stands long zeros = record {
   stands = stands;
   count = refl;
   sums = h.sums;
-  year = record { count = long; each = zeros };
+  year = record { count = empty.count; each = empty.zeros };
 }
 
 last_or_before : {X : Type 0} (xs : List X) (x y : X) (i : ℕ) → slice_get (xs ++ x ∷ []) i ≡ Some y →
@@ -238,6 +236,17 @@ trace_over b series trace run all none u whole = record {
         ∙ (sym (flat_map-append (λ records. map (delivered_in_year records r) (numbers_from 0 (years_of b))) u.traces
         (u.records ∷ []))
         ∙ no_years (delivered_in_year [] r) (yearly_deliveries b (u.traces ++ u.records ∷ []) r))
+
+-- the year behind its last one is empty
+pub year_over : (b : Basin) (series : Inflows) (trace : ℕ) (run : RunSeen) (all : List (List ℕ)) (none : List ℕ) →
+    IsUnderWay b series trace (years_of b) 0 run all none →
+    IsEmptyYear b none
+year_over b series trace run all none u = record {
+  count = u.year.count;
+  zeros = λ r l.
+      u.year.each r l
+      ∙ ap (sum_by (λ k. slice_index k.delivered r)) (drop_all (12 * years_of b) u.records (omega (arith, u.count)));
+}
 
 -- before the first trace
 pub sums_start : (b : Basin) (series : Inflows) (all : List (List ℕ)) → length all ≡ length b.rights →

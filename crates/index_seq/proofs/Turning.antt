@@ -1,7 +1,7 @@
 -- A series that begins in another year.
-use Rattle.std.proofs.Common.{◌≡◌, ℕ, ◌+◌, ◌-◌, ◌*◌, ◌/◌, ◌%◌, ◌<◌, ◌≤◌, ◌^◌, refl, sym, ap, ◌∙◌, arith, List, [], ◌∷◌}
-use Rattle.std.proofs.Common.{◌++◌, length, take, drop, get_or, inl, inr, length-append}
-use Rattle.std.specs.Prelude.{Bool, true, false, cond, filter, slice_index, All}
+use Rattle.std.proofs.Common.{◌≡◌, ℕ, ◌+◌, ◌-◌, ◌*◌, ◌%◌, ◌<◌, ◌≤◌, ◌^◌, refl, sym, ap, ◌∙◌, arith, List, [], ◌∷◌}
+use Rattle.std.proofs.Common.{◌++◌, subst, length, take, drop, get_or, inl, inr, length-append}
+use Rattle.std.specs.Prelude.{Bool, true, false, cond, filter, All}
 use Rattle.std.proofs.Math.ListN.{get_or-append}
 use Rattle.std.proofs.Math.Nat.{mod-eq_of_lt, add-mod_left, mul-le-mul, mul-le-mul_right, add-mul}
 use Rattle.std.proofs.lemmas.Bool.{cases_lt}
@@ -12,16 +12,7 @@ use Rattle.water_model.specs.Valid.{IsValidBasin, IsSeriesOf, is_gauged}
 use Rattle.water_model.proofs.Order.{length-numbers_from}
 use Rattle.water_model.specs.declared.types.Basin.{Basin}
 use Rattle.water_model.specs.declared.types.Inflows.{Inflows}
-use Rattle.index_seq.specs.Traces.{HasWholeYears, years_of, begun_after, IsBegunAfter}
-
--- the place at which the record begins lies in it
-pub within : (b : Basin) (series : Inflows) (years : ℕ) → IsSeriesOf b series → years < years_of b →
-    12 * years * length series.gauged ≤ length series.amount
-within b series years fits h =
-    let shift : 12 * years ≤ b.months = omega arith in
-    let most : 12 * years * length series.gauged ≤ b.months * length series.gauged =
-    mul-le-mul_right (length series.gauged) shift in
-    omega (arith, fits.amounts)
+use Rattle.index_seq.specs.Traces.{years_of, begun_after, IsBegunAfter, IsTurnOf}
 
 -- an amount of the part that comes first, and of the part that comes last
 early : (xs : List ℕ) (at k : ℕ) → at + k < length xs → get_or (drop at xs ++ take at xs) k 0 ≡ get_or xs (at + k) 0
@@ -101,16 +92,9 @@ begun_fits b series years fits h = record {
     all_parted : (P : ℕ → Type 0) (xs : List ℕ) (at : ℕ) → All P xs → All P (drop at xs ++ take at xs)
     all_parted P xs at h = All-append P (drop at xs) (take at xs) (All-drop P at xs h) (All-take P at xs h)
 
--- the same by the number of gauges
-pub begun_at_is : (series begun : Inflows) (years gauges : ℕ) → gauges ≡ length series.gauged →
-    begun ≡ (record series {
-      amount =
-          drop (12 * years * gauges) series.amount ++ take (12 * years * gauges) series.amount;
-    }) →
-    begun ≡ begun_after series years
-begun_at_is series begun years gauges e is =
-    is ∙ ap (λ n. record series { amount = drop (12 * years * n) series.amount ++ take (12 * years * n) series.amount })
-    e
+-- an equal series differs in nothing
+pub turn_of_same : (series begun : Inflows) → begun ≡ series → IsTurnOf series begun
+turn_of_same series begun e = subst (IsTurnOf series) (sym e) (record { rest = refl; count = refl })
 
 -- gauges are nodes, so the place is small
 filtered : (p : ℕ → Bool) (xs : List ℕ) → length (filter p xs) ≤ length xs

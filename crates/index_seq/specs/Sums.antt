@@ -23,6 +23,11 @@ pub record IsYear (b : Basin) (records : List MonthRecord) (years : ℕ) (year :
   pub each : (r : ℕ) → r < length b.rights →
       slice_index year r ≡ sum_by (λ m. slice_index m.delivered r) (drop (12 * years) records)
 
+-- by right, that it was delivered nothing yet in a year
+pub record IsEmptyYear (b : Basin) (year : List ℕ) : Type 0 where
+  pub count : length year ≡ length b.rights
+  pub zeros : (r : ℕ) → r < length b.rights → slice_index year r ≡ 0
+
 -- the first traces of a record
 pub record AreFirst (b : Basin) (series : Inflows) (traces : List (List MonthRecord)) : Type 0 where
   pub each : (y : ℕ) (records : List MonthRecord) → slice_get traces y ≡ Some records →

@@ -23,6 +23,11 @@ begun_after series years =
           series.amount;
     }
 
+-- a series that differs from another at most in the gauges' amounts, of which it has as many
+pub record IsTurnOf (series begun : Inflows) : Type 0 where
+  pub rest : begun ≡ record series { amount = begun.amount }
+  pub count : length begun.amount ≡ length series.amount
+
 -- the amount of each gauge in a month is that of so many years later, counted on from the beginning past the end. The
 -- wants stay
 pub record IsBegunAfter (b : Basin) (series : Inflows) (years : ℕ) (begun : Inflows) : Type 0 where

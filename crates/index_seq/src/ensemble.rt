@@ -1,5 +1,5 @@
 //! All traces of a record, and their text.
-ghost use Rattle.std.specs.Prelude.{◌≡◌, ◌+◌, ◌*◌, ◌≤◌, Err, IfOk, OnOk};
+ghost use Rattle.std.specs.Prelude.{◌≡◌, ◌+◌, ◌*◌, ◌≤◌, Err, IfOk};
 ghost use Rattle.water_edge.specs.Edge.{HasCause};
 ghost use Rattle.water_model.specs.Valid.{IsValidBasin, IsSeriesOf};
 ghost use Rattle.index_seq.specs.Ends.{HaveLines, Tells};
@@ -20,18 +20,12 @@ use water_edge::Sink;
 use water_model::rows::Rows;
 use water_model::types::{Basin, Inflows};
 
-/// Puts the sums of all traces in order, right by right. AllocError comes where memory is lacking.
-fn put_in_order(
-    alloc: Global,
-    basin: &Basin,
-    series: &Inflows,
-    sums: &mut [Rows<u64>],
-) -> Result<(), AllocError>
+/// Puts the sums of all traces in order, right by right.
+fn put_in_order(basin: &Basin, series: &Inflows, sums: &mut [Rows<u64>])
     requires { HaveSums basin.now series.now (years_of basin.now) sums.old }
-    ensures { OnOk result (HaveLines basin.now series.now sums.new) }
+    ensures { HaveLines basin.now series.now sums.new }
 {
-    sort_sums(alloc, sums)?;
-    Ok(())
+    sort_sums(sums);
 }
 
 /// What each right was delivered in the years of all traces, in order. AllocError comes where memory is lacking.
@@ -48,7 +42,7 @@ fn sorted_amounts<L: Ledger>(
     ensures pushes { searches.new ≤ searches.old + years_of basin.now * run_pushes basin.now }
 {
     let mut amounts = run_traces(alloc, basin, series, searches)?;
-    put_in_order(alloc, basin, series, amounts.as_mut_slice())?;
+    put_in_order(basin, series, amounts.as_mut_slice());
     Ok(amounts)
 }
 

@@ -1,13 +1,14 @@
 //! A trace, month by month and year by year.
-ghost use Rattle.std.specs.Prelude.{ℕ, List, ◌≡◌, ◌+◌, ◌*◌, ◌<◌, ◌≤◌, length, slice_index, IfOk, OnOk};
+ghost use Rattle.std.specs.Prelude.{ℕ, ◌≡◌, ◌+◌, ◌*◌, ◌<◌, ◌≤◌, length, slice_index, IfOk, OnOk};
 ghost use Rattle.water_model.specs.Valid.{IsValidBasin, IsSeriesOf};
-ghost use Rattle.index_seq.specs.Sums.{IsUnderWay, HaveSums};
-ghost use Rattle.index_seq.specs.Traces.{HasWholeYears, begun_after, years_of};
+ghost use Rattle.index_seq.specs.Sums.{IsUnderWay, IsEmptyYear, HaveSums};
+ghost use Rattle.index_seq.specs.Traces.{HasWholeYears, IsTurnOf, begun_after, years_of};
 ghost use Rattle.senior_hold.specs.MonthNetwork.{month_pushes};
 ghost use Rattle.month_fold.specs.Runs.{run_pushes};
 
-use crate::begun::rotate;
+use crate::begun::turn_series;
 use crate::sums::{add_month, empty_sums, empty_year, end_year};
+use month_fold::engine::Engine;
 use month_fold::run::Run;
 use std::alloc::{AllocError, Global};
 use std::sync::ledger::Ledger;
@@ -125,40 +126,40 @@ fn run_years<L: Ledger>(
     Ok(())
 }
 
-/// Runs the record from one more of its years, and adds the years of this trace to the sums. AllocError comes where
-/// memory is lacking.
-fn run_trace<L: Ledger>(
-    alloc: Global,
+/// Runs the record from one more of its years, and adds the years of this trace to the sums. `begun` is written over
+/// with the trace's series. AllocError comes where memory is lacking.
+fn run_trace<'b, L: Ledger>(
     basin: &Basin,
     series: &Inflows,
     trace: u32,
+    engine: Engine<'b>,
+    begun: &mut Inflows,
     sums: &mut [Rows<u64>],
+    year: &mut [u64],
     searches: &mut Steps<L>,
-) -> Result<(), AllocError>
+) -> Result<Engine<'b>, AllocError>
     requires basin { IsValidBasin basin.now }
     requires whole { HasWholeYears basin.now }
     requires series { IsSeriesOf basin.now series.now }
     requires trace { trace < years_of basin.now }
+    requires engine { engine.basin ≡ basin.now }
+    requires begun { IsTurnOf series.now begun.old }
     requires sums { HaveSums basin.now series.now trace sums.old }
+    requires year { IsEmptyYear basin.now year.old }
+    ensures engine { IfOk result (λ kept. kept.basin ≡ basin.now) }
+    ensures begun { IsTurnOf series.now begun.new }
     ensures sums { OnOk result (HaveSums basin.now series.now (trace + 1) sums.new) }
+    ensures year { OnOk result (IsEmptyYear basin.now year.new) }
     ensures pushes { searches.new ≤ searches.old + run_pushes basin.now }
 {
-    let begun = rotate(alloc, basin, series, trace)?;
-    let mut year = empty_year(alloc, basin.rights.len())?;
-    let mut run = Run::open(alloc, basin, &begun)?;
-    run_years(
-        basin,
-        series,
-        trace,
-        &mut run,
-        sums,
-        year.as_mut_slice(),
-        searches,
-    )?;
-    Ok(())
+    turn_series(basin, series, trace, begun);
+    let mut run = Run::begin(engine, begun);
+    run_years(basin, series, trace, &mut run, sums, year, searches)?;
+    Ok(run.close())
 }
 
-/// What each right was delivered in each year of each trace, trace by trace. AllocError comes where memory is lacking.
+/// What each right was delivered in each year of each trace, trace by trace. AllocError comes where memory is lacking:
+/// it is taken once for all traces.
 pub fn run_traces<L: Ledger>(
     alloc: Global,
     basin: &Basin,
@@ -173,8 +174,20 @@ pub fn run_traces<L: Ledger>(
 {
     let count = basin.months / 12;
     let mut sums = empty_sums(alloc, basin.rights.len(), (count * count) as usize)?;
+    let mut year = empty_year(alloc, basin.rights.len())?;
+    let mut begun = series.copy(alloc)?;
+    let mut engine = Engine::open(alloc, basin)?;
     for trace in 0..count {
-        run_trace(alloc, basin, series, trace, sums.as_mut_slice(), searches)?;
+        engine = run_trace(
+            basin,
+            series,
+            trace,
+            engine,
+            &mut begun,
+            sums.as_mut_slice(),
+            year.as_mut_slice(),
+            searches,
+        )?;
     }
     Ok(sums)
 }

@@ -94,34 +94,30 @@ pub fn end_year(sums: &mut [Rows<u64>], year: &mut [u64]) -> Result<(), AllocErr
     Ok(())
 }
 
-/// Puts amounts in order. AllocError comes where memory is lacking.
-fn sort_slice(alloc: Global, amounts: &mut [u64]) -> Result<(), AllocError>
+/// Puts amounts in order. It takes no memory.
+fn sort_slice(amounts: &mut [u64])
     ensures count { length amounts.new ≡ length amounts.old }
     ensures permutation { IsPermutation amounts.old amounts.new }
-    ensures sorted { OnOk result (IsNonDecreasingBy (λ x. x) amounts.new) }
+    ensures sorted { IsNonDecreasingBy (λ x. x) amounts.new }
 {
-    amounts.sort(alloc)?;
-    Ok(())
+    amounts.sort_unstable();
 }
 
-/// Puts the amounts of a right in order. AllocError comes where memory is lacking.
-fn sort_amounts(alloc: Global, amounts: &mut Rows<u64>) -> Result<(), AllocError>
+/// Puts the amounts of a right in order.
+fn sort_amounts(amounts: &mut Rows<u64>)
     ensures permutation { IsPermutation amounts.old amounts.new }
-    ensures sorted { OnOk result (IsNonDecreasingBy (λ x. x) amounts.new) }
+    ensures sorted { IsNonDecreasingBy (λ x. x) amounts.new }
 {
-    sort_slice(alloc, amounts.as_mut_slice())?;
-    Ok(())
+    sort_slice(amounts.as_mut_slice());
 }
 
-/// Puts the amounts of each right in order. AllocError comes where memory is lacking.
-pub fn sort_sums(alloc: Global, sums: &mut [Rows<u64>]) -> Result<(), AllocError>
+/// Puts the amounts of each right in order. It takes no memory.
+pub fn sort_sums(sums: &mut [Rows<u64>])
     ensures count { length sums.new ≡ length sums.old }
-    ensures permutation { OnOk result ((r : ℕ) →
-        IsPermutation (slice_index_or sums.old r []) (slice_index_or sums.new r [])) }
-    ensures sorted { OnOk result ((r : ℕ) → IsNonDecreasingBy (λ x. x) (slice_index_or sums.new r [])) }
+    ensures permutation { (r : ℕ) → IsPermutation (slice_index_or sums.old r []) (slice_index_or sums.new r []) }
+    ensures sorted { (r : ℕ) → IsNonDecreasingBy (λ x. x) (slice_index_or sums.new r []) }
 {
     for right in 0..sums.len() {
-        sort_amounts(alloc, &mut sums[right])?;
+        sort_amounts(&mut sums[right]);
     }
-    Ok(())
 }

@@ -76,9 +76,11 @@ impl<'b> Engine<'b> {
         requires basin { IsValidBasin basin.now }
         requires deliveries { All (λ m. HasDeliveries basin.now m.value) months.now }
         requires used { TellUse basin.now (map (λ m. m.value) months.now) }
-        requires stored { length (opening_after basin.now (map (λ m. m.value) months.now)) ≡ length basin.now.reservoirs }
+        requires stored { length (opening_after basin.now (map (λ m. m.value) months.now))
+            ≡ length basin.now.reservoirs }
         ensures basin { IfOk result (λ engine. engine.basin ≡ basin.now) }
-        ensures stored { IfOk result (λ engine. engine.last.closing ≡ opening_after basin.now (map (λ m. m.value) months.now)) }
+        ensures stored { IfOk result
+            (λ engine. engine.last.closing ≡ opening_after basin.now (map (λ m. m.value) months.now)) }
         ensures lags { IfOk result (λ engine. lag.StandsFor engine.lags basin.now.returns
             (map (λ m. m.delivered) (map (λ m. m.value) months.now))) }
         ensures used { IfOk result (λ engine. HasUsed basin.now

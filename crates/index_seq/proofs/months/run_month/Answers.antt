@@ -1,6 +1,5 @@
-use Rattle.std.proofs.Common.{◌≡◌, ◌∷◌, [], ◌++◌, ◌∙◌, sym, subst, length, arith, ap}
+use Rattle.std.proofs.Common.{◌∷◌, [], ◌++◌, ◌∙◌, sym, subst}
 use Rattle.month_fold.specs.Runs.{StandsFor}
-use Rattle.water_model.specs.History.{IsPartialHistory}
 use Rattle.water_model.specs.declared.types.MonthRecord.{MonthRecord}
 use Rattle.index_seq.specs.Traces.{begun_after}
 use Rattle.index_seq.proofs.Running.{partial_next, month_room, month_more, month_fits}

@@ -1,12 +1,39 @@
-use Rattle.index_seq.proofs.Running.{trace_over}
+use Rattle.std.proofs.Common.{◌∙◌, sym, subst}
+use Rattle.water_model.specs.Valid.{IsSeriesOf}
+use Rattle.water_model.specs.declared.types.Basin.{Basin}
+use Rattle.water_model.specs.declared.types.Inflows.{Inflows}
+use Rattle.index_seq.proofs.Running.{trace_start, trace_over, year_over}
 use Rattle.index_seq.proofs.Turning.{begun_fits}
 use Rattle.index_seq.proofs.months.run_trace.Goals as goal
+
+pub begin-run-requires : goal.begin-run-requires
+begin-run-requires g c =
+    subst (λ (b : Basin). IsSeriesOf b c.turn_series.new.begun) (sym c.requires.engine)
+    (subst (λ (s : Inflows). IsSeriesOf c.args.basin.now s) (sym c.turn_series.ensures.value)
+    (begun_fits c.args.basin.now c.args.series.now c.args.trace c.requires.series c.requires.trace))
+
+pub run_years-requires-clause-begun : goal.run_years-requires-clause-begun
+run_years-requires-clause-begun g c =
+    begun_fits c.args.basin.now c.args.series.now c.args.trace c.requires.series c.requires.trace
+
+pub run_years-requires-clause-first : goal.run_years-requires-clause-first
+run_years-requires-clause-first g c = c.begin-run.ensures.stands.done
+
+pub run_years-requires-clause-under_way : goal.run_years-requires-clause-under_way
+run_years-requires-clause-under_way g c =
+    trace_start c.args.basin.now c.args.series.now c.args.trace _ c.args.sums.now c.args.year.now c.requires.sums
+    (c.begin-run.ensures.basin ∙ c.requires.engine) (c.begin-run.ensures.series ∙ c.turn_series.ensures.value)
+    c.begin-run.ensures.stands c.requires.year
+
+pub returns-clause-engine : goal.returns-clause-engine
+returns-clause-engine g c = c.close.ensures ∙ c.in_ok-run_years.ensures.under_way.basin
 
 pub returns-clause-sums : goal.returns-clause-sums
 returns-clause-sums g c =
     trace_over c.args.basin.now c.args.series.now c.args.trace _ c.run_years.new.sums _
     c.in_ok-run_years.ensures.under_way c.requires.whole
 
-pub run_years-requires-clause-begun : goal.run_years-requires-clause-begun
-run_years-requires-clause-begun g c =
-    begun_fits c.args.basin.now c.args.series.now c.args.trace c.requires.series c.requires.trace
+pub returns-clause-year : goal.returns-clause-year
+returns-clause-year g c =
+    year_over c.args.basin.now c.args.series.now c.args.trace _ c.run_years.new.sums _
+    c.in_ok-run_years.ensures.under_way

@@ -1,15 +1,17 @@
-use Rattle.std.proofs.Common.{◌≡◌, ◌∙◌, ◌*◌, ℕ, arith, subst}
-use Rattle.index_seq.specs.Sums.{HaveSums}
+use Rattle.std.proofs.Common.{◌≡◌, ◌∙◌, ◌+◌, ℕ, List, arith, sym, subst}
+use Rattle.senior_hold.proofs.Lists.{whole_rows}
+use Rattle.index_seq.specs.Sums.{HaveSums, IsEmptyYear}
 use Rattle.index_seq.specs.Traces.{years_of}
-use Rattle.index_seq.proofs.Running.{within_steps, sums_start}
+use Rattle.index_seq.proofs.Running.{within_steps, one_step, sums_start}
+use Rattle.index_seq.proofs.Turning.{turn_of_same}
 use Rattle.index_seq.proofs.months.run_traces.Goals as goal
 use Rattle.month_fold.specs.Runs.{run_pushes}
 
-pub returns-in_err-run_trace-clause-pushes : goal.returns-in_err-run_trace-clause-pushes
-returns-in_err-run_trace-clause-pushes g c =
+pub returns-in_err-engine-2-clause-pushes : goal.returns-in_err-engine-2-clause-pushes
+returns-in_err-engine-2-clause-pushes g c =
     within_steps (run_pushes c.args.basin.now) c.args.searches.now c.loop-trace.searches c.run_trace.new.searches
     c.loop-trace.trace (years_of c.args.basin.now)
-    c.loop-trace.invariant.pushes c.in_err-run_trace.ensures.pushes c.loop-trace-test.true
+    c.loop-trace.invariant.pushes c.in_err-engine-2.ensures.pushes c.loop-trace-test.true
 
 pub returns-clause-sums : goal.returns-clause-sums
 returns-clause-sums g c =
@@ -18,7 +20,31 @@ returns-clause-sums g c =
 
 pub loop-trace-init : goal.loop-trace-init
 loop-trace-init g c = record {
+  engine = c.in_ok-engine.ensures;
+  begun = turn_of_same c.args.series.now c.in_ok-begun.begun c.in_ok-begun.ensures;
   sums = sums_start c.args.basin.now c.args.series.now c.in_ok-sums.sums (c.in_ok-sums.ensures.count ∙ c.len.ensures)
       c.in_ok-sums.ensures.empty;
+  year = record {
+    count = c.in_ok-year.ensures.count ∙ c.len-2.ensures;
+    zeros = λ r l. c.in_ok-year.ensures.zeros r (omega (arith, l, c.len-2.ensures));
+  };
   pushes = omega arith;
 }
+
+pub loop-trace-preserved : goal.loop-trace-preserved
+loop-trace-preserved g c =
+    let told = c.in_ok-engine-2.ensures in
+    record {
+      engine = told.engine;
+      begun = told.begun;
+      sums = subst (λ (sums : List (List ℕ)). HaveSums c.args.basin.now c.args.series.now (c.loop-trace.trace + 1) sums)
+          (sym (whole_rows c.loop-trace.sums c.run_trace.new.sums
+          (told.sums.sums.count ∙ sym c.loop-trace.invariant.sums.sums.count)))
+          told.sums;
+      year = subst (λ (year : List ℕ). IsEmptyYear c.args.basin.now year)
+          (sym (whole_rows c.loop-trace.year c.run_trace.new.year
+          (told.year.count ∙ sym c.loop-trace.invariant.year.count)))
+          told.year;
+      pushes = one_step (run_pushes c.args.basin.now) c.args.searches.now c.loop-trace.searches c.run_trace.new.searches
+          c.loop-trace.trace c.loop-trace.invariant.pushes told.pushes;
+    }

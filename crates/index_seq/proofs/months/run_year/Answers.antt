@@ -1,8 +1,6 @@
 use Rattle.std.proofs.Common.{◌≡◌, ℕ, arith, subst}
 use Rattle.index_seq.specs.Sums.{IsUnderWay}
-use Rattle.index_seq.proofs.Running.{within_steps}
 use Rattle.index_seq.proofs.months.run_year.Goals as goal
-use Rattle.senior_hold.specs.MonthNetwork.{month_pushes}
 
 pub returns-clause-under_way : goal.returns-clause-under_way
 returns-clause-under_way g c =

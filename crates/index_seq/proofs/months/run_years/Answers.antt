@@ -1,4 +1,4 @@
-use Rattle.std.proofs.Common.{◌≡◌, ◌+◌, ◌*◌, ◌<◌, ◌≤◌, ℕ, arith, subst}
+use Rattle.std.proofs.Common.{◌≡◌, ◌+◌, ◌*◌, ◌≤◌, ℕ, arith, subst}
 use Rattle.index_seq.specs.Sums.{IsUnderWay}
 use Rattle.index_seq.specs.Traces.{years_of}
 use Rattle.index_seq.proofs.Running.{within_steps, pushes_of_run}
