@@ -53,7 +53,6 @@ last_greatest (z ∷ xs) x y h (inr m) = last_greatest xs x y h.1 m
 greater_fails : (xs : List ℕ) (x y : ℕ) → Has xs y → x < y → list_all (λ other. nat_le other x) xs ≡ false
 greater_fails [] x y h l = absurd h
 greater_fails (z ∷ xs) x y (inl is) l = rw (lt-leb z x (omega arith)) refl
-
 greater_fails (z ∷ xs) x y (inr m) l = rw (greater_fails xs x y m l) (never (nat_le z x))
   where
     never : (p : Bool) → p && false ≡ false

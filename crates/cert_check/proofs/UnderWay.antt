@@ -239,7 +239,6 @@ in_month_more b valid series fits before i at l t (line.Deliver r amount want) h
         delivered = set_below t.now.delivered r amount (λ k. 10 ^ 9) m.bounded.delivered small;
       };
     }
-
 in_month_more b valid series fits before i at l t (line.Amount quantity.Outflow k amount) h n m = record {
   months = m.months;
   index = m.index;
