@@ -1,12 +1,10 @@
 -- What each status of a call means: its cause, and what it leaves on out and err.
-use Rattle.std.specs.Prelude.{◌≡◌, ℕ, ◌+◌, ◌*◌, ◌<◌, ◌≤◌, ◌++◌, List, length, take, codes, Option, Some, None, Result}
+use Rattle.std.specs.Prelude.{◌≡◌, ℕ, ◌+◌, ◌*◌, ◌<◌, ◌≤◌, List, length, take, Option, Some, None, Result}
 use Rattle.std.specs.Prelude.{Ok, Err, ⊤, IfSome, IsSome}
-use Rattle.std.specs.Fmt.{decimal}
 use Rattle.std.specs.Io.KnownBytes.{Appends}
 use Rattle.water_edge.specs.Edge.{Rose}
 use Rattle.basin_file.specs.BasinFaults.{Spells}
 use Rattle.basin_gen.specs.Generator.{generated}
-use Rattle.cert_check.specs.KindNames.{kind_name}
 use Rattle.cert_check.specs.Whole.{text_verdict}
 use Rattle.cert_check.specs.declared.refuted.Refuted.{Refuted}
 use Rattle.edit_script.specs.declared.refused.ScriptFault.TheVariants as script
@@ -27,6 +25,7 @@ use Rattle.basin_cli.specs.declared.status.Status.TheVariants.{Done, No}
 use Rattle.basin_cli.specs.declared.ending.Ending.{Ending}
 use Rattle.basin_cli.specs.declared.ending.Ending.TheVariants as ending
 use Rattle.basin_cli.specs.declared.ending.File.TheVariants as file
+use Rattle.basin_cli.specs.Answer.{answered}
 use Rattle.basin_cli.specs.Command.{Command, Files, run, check, report, trial, why, compare, ensemble, edit, upgrade}
 use Rattle.basin_cli.specs.Ending.{status_of, line_of}
 use Rattle.basin_cli.specs.Explained.{Explains, HasMonth, HasRight, IsAbout, PushesUpTo}
@@ -216,10 +215,9 @@ pub record WritesRun (status : Status) (bytes series_bytes : List ℕ) (old new 
   pub written : LeavesRun basin series status old new before after
 
 -- the line that answers a verdict
-unfoldable pub answer_line : Basin → Result (List Item) Refuted → List ℕ
-answer_line b (Ok items) = codes "checked " ++ decimal b.months ++ codes "\n"
-answer_line b (Err refuted) =
-    codes "refuted " ++ decimal refuted.line ++ codes " " ++ kind_name refuted.kind ++ codes "\n"
+abbrev pub answer_line : Basin → Result (List Item) Refuted → List ℕ
+answer_line b (Ok items) = answered (Ok b.months)
+answer_line b (Err refuted) = answered (Err refuted)
 
 -- what `check` leaves on out: the answer to the verdict on the result's bytes
 pub record WritesAnswer (status : Status) (bytes series_bytes result : List ℕ) (old new : Option (List ℕ)) : Type 0

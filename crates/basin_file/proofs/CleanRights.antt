@@ -7,6 +7,7 @@ use Rattle.std.proofs.lemmas.Bool.Decides.{nat_tests}
 use Rattle.std.proofs.lemmas.Option.{slice_get-map, slice_get_within}
 use Rattle.std.proofs.lemmas.Slice.Eq.{bytes_eq-Decides}
 use Rattle.std.specs.Option.{option_map_or, option_or}
+use Rattle.std.proofs.lemmas.Bool.{eq-eqb, le-ltb}
 use Rattle.toml.specs.Data.{Data, Members, no_members, member, as_array, as_str}
 use Rattle.toml_tree.specs.Items.{items_len}
 use Rattle.toml_tree.specs.Texts.{texts_behind, is_the_text, earlier_like}
@@ -47,7 +48,7 @@ use Rattle.basin_file.specs.Spelled.{basin_of}
 use Rattle.basin_file.specs.Upgraded.{basin_table, link_row, listed, node_row, number, reservoir_row, return_row}
 use Rattle.basin_file.specs.Upgraded.{right_row, row_of_kind, want_data}
 use Rattle.basin_file.proofs.CleanTables.{all_rights, before_less, d, few_rights, fits_at, format, i, keys, len_listed}
-use Rattle.basin_file.proofs.CleanTables.{link_clean, map_same, node_clean, not_over, once, owns, reservoir_clean}
+use Rattle.basin_file.proofs.CleanTables.{link_clean, map_same, node_clean, once, owns, reservoir_clean}
 use Rattle.basin_file.proofs.CleanTables.{right_named, sound_at, there_left, there_right, top_known, z}
 use Rattle.basin_file.proofs.Counts.{count_where-entries, counts_within}
 use Rattle.basin_file.proofs.Fitting.{Fits, IsClean, clean_by, fits_date, fits_month, fits_name, fits_none, fits_number}
@@ -58,9 +59,6 @@ use Rattle.basin_file.proofs.Lists.{Each, each_at, each_then}
 use Rattle.basin_file.proofs.TableKeys.{skip, there}
 use Rattle.basin_file.proofs.TableSpells.{diversion_named, link_named, node_named, reservoir_named, table_spells}
 use Rattle.basin_file.proofs.TableSpells.{whole_there}
-
-same_number : (m n : ℕ) → m ≡ n → (m == n) ≡ true
-same_number m n e = grind (arith, nat_tests)
 
 module _ (b : Basin) (valid : IsValidBasin b) where
   diversion_clean : (k : ℕ) (r : Right) → slice_get (d b valid) k ≡ Some r →
@@ -124,7 +122,7 @@ module _ (b : Basin) (valid : IsValidBasin b) where
             nodes = refl;
             canal = refl;
             late = refl;
-            many = not_over 2000 (rights_before (basin_table b) which.Diversion + (k + 1))
+            many = le-ltb 2000 (rights_before (basin_table b) which.Diversion + (k + 1))
                 (omega (arith, within, few_rights b valid));
             same = owns (basin_table b)
                 (record { table = which.Diversion; number = k + 1; row = row_of_kind b r (kind.Diversion node) }) Rights
@@ -190,7 +188,7 @@ module _ (b : Basin) (valid : IsValidBasin b) where
             nodes = refl;
             canal = refl;
             late = refl;
-            many = not_over 2000 (rights_before (basin_table b) which.Instream + (k + 1))
+            many = le-ltb 2000 (rights_before (basin_table b) which.Instream + (k + 1))
                 (omega (arith, before_instreams, within, few_rights b valid));
             same = owns (basin_table b)
                 (record { table = which.Instream; number = k + 1; row = row_of_kind b r (kind.Instream link) }) Rights
@@ -249,7 +247,7 @@ module _ (b : Basin) (valid : IsValidBasin b) where
             nodes = refl;
             canal = refl;
             late = refl;
-            many = not_over 2000 (rights_before (basin_table b) which.Zone + (k + 1))
+            many = le-ltb 2000 (rights_before (basin_table b) which.Zone + (k + 1))
                 (omega (arith, before_zones, within, few_rights b valid));
             same = owns (basin_table b)
                 (record { table = which.Zone; number = k + 1; row = row_of_kind b r (kind.Zone reservoir level) })
@@ -304,7 +302,7 @@ module _ (b : Basin) (valid : IsValidBasin b) where
           each_then (IsValidReturn b)
           (λ entry. is_the_text (right_name b row.right) (Some (right_name b entry.right)) ≡ true →
           (entry.right == row.right) ≡ true) b.returns
-          (λ entry its e. same_number entry.right row.right
+          (λ entry its e. eq-eqb entry.right row.right
           (once (right_name b) (length b.rights) valid.names.rights entry.right row.right its.right h.right
           (sym ((bytes_eq-Decides (right_name b row.right) (right_name b entry.right)).0 e)))) rows
 
@@ -323,7 +321,7 @@ module _ (b : Basin) (valid : IsValidBasin b) where
           let before : count_by (λ (entry : ReturnRow). entry.right == row.right) (take k b.returns) + 1 ≤ count_by
           (λ (entry : ReturnRow). entry.right == row.right) b.returns =
           before_less (λ (entry : ReturnRow). entry.right == row.right) b.returns k row at
-          (same_number row.right row.right refl) in
+          (eq-eqb row.right row.right refl) in
           let most : count_by (λ (entry : ReturnRow). entry.right == row.right) b.returns ≤ 8 =
           subst (λ (n : ℕ). n ≤ 8) (count_where-entries (λ (entry : ReturnRow). entry.right == row.right) b.returns)
           (valid.few.rows row.right h.right) in

@@ -3,7 +3,7 @@ use Rattle.std.proofs.Common.{◌≡◌, ◌≢◌, ℕ, zero, suc, ◌+◌, ◌
 use Rattle.std.proofs.Common.{nat_lt, ap, sym, subst, refl, inl, inr, arith, List, [], ◌∷◌, ◌++◌, length, length-append}
 use Rattle.std.proofs.Common.{map, take, slice_get, count_by, is_some, codes}
 use Rattle.std.specs.Prelude.{Option, Some, None, option_map, option_and_then, unwrap_or, if◌then◌else◌}
-use Rattle.std.proofs.lemmas.Bool.{cases_Bool}
+use Rattle.std.proofs.lemmas.Bool.{cases_Bool, le-ltb, ltb-true}
 use Rattle.std.proofs.lemmas.Bool.Decides.{nat_tests}
 use Rattle.std.proofs.lemmas.List.{map-append}
 use Rattle.std.proofs.lemmas.Option.{slice_get_within}
@@ -49,9 +49,6 @@ use Rattle.basin_file.proofs.Lists.{each_at, each_then}
 use Rattle.basin_file.proofs.TableKeys.{HasKeysOf, skip, table_keys, there}
 use Rattle.basin_file.proofs.TableSpells.{each_right, kind_name, link_named, node_named, reservoir_named, text_there}
 
-pub not_over : (limit m : ℕ) → m ≤ limit → nat_lt limit m ≡ false
-not_over limit m l = grind (arith, nat_tests)
-
 pub fits_at : (tree : Members) (key : KeyRow) (o p : Option Data) → o ≡ p → Fits tree key p → Fits tree key o
 fits_at tree key o p e f = subst (Fits tree key) (sym e) f
 
@@ -65,7 +62,7 @@ owns tree e space q k own text named low =
     (stands_before tree space (rights_before tree e.table + (e.number - 1))) o false) text
     ∙ (ap (λ (o : Option ℕ). option_map_or (λ at. nat_lt at (rights_before tree e.table + (e.number - 1))) o false)
     named
-    ∙ not_over k (rights_before tree e.table + (e.number - 1)) low))
+    ∙ le-ltb k (rights_before tree e.table + (e.number - 1)) low))
 
 -- the item at a place of what is listed
 item_there : {X : Type 0} (row : X → Members) (xs : List X) (at : ℕ) →
@@ -128,16 +125,13 @@ pub once : (name : ℕ → List ℕ) (len : ℕ) → ((i j : ℕ) → i < j → 
     n < len → name m ≡ name n → m ≡ n
 once name len own m n lm ln same =
     elim (cases_Bool (nat_lt m n)) [
-      | inl before ↦ absurd (own m n (less m n before) ln same)
+      | inl before ↦ absurd (own m n (ltb-true m n before) ln same)
       | inr other ↦ elim (cases_Bool (nat_lt n m)) [
-        | inl behind ↦ absurd (own n m (less n m behind) lm (sym same))
+        | inl behind ↦ absurd (own n m (ltb-true n m behind) lm (sym same))
         | inr neither ↦ equal m n other neither
       ]
     ]
   where
-    less : (m n : ℕ) → nat_lt m n ≡ true → m < n
-    less m n e = grind (arith, nat_tests)
-
     equal : (m n : ℕ) → nat_lt m n ≡ false → nat_lt n m ≡ false → m ≡ n
     equal m n e f = grind (arith, nat_tests)
 
@@ -180,7 +174,7 @@ module _ (b : Basin) (valid : IsValidBasin b) where
         nodes = refl;
         canal = refl;
         late = refl;
-        many = not_over 2000 (k + 1) (omega (arith, within, valid.few.nodes));
+        many = le-ltb 2000 (k + 1) (omega (arith, within, valid.few.nodes));
         same = owns (basin_table b) (record { table = which.Node; number = k + 1; row = node_row n }) Nodes n.name k
             refl refl
             (ap (named_at (basin_table b) Nodes) (sym name) ∙ node_named b valid k within) (omega arith);
@@ -232,7 +226,7 @@ module _ (b : Basin) (valid : IsValidBasin b) where
             ap (λ (o : Option Data). is_some o && not (is_some (get_member (codes "per_day") (link_row b l)))) closed
             ∙ (ap (λ (o : Option Data). is_some (closed_data l.carry) && not (is_some o)) per_day ∙ canal l.carry);
         late = refl;
-        many = not_over 4000 (k + 1) (omega (arith, within, valid.few.links));
+        many = le-ltb 4000 (k + 1) (omega (arith, within, valid.few.links));
         same = owns (basin_table b) (record { table = which.Link; number = k + 1; row = link_row b l }) Links l.name k
             refl
             (text_there (codes "name") (link_row b l) l.name
@@ -309,7 +303,7 @@ module _ (b : Basin) (valid : IsValidBasin b) where
         nodes = refl;
         canal = refl;
         late = refl;
-        many = not_over 64 (items_len (items_of (map point_data v.area)))
+        many = le-ltb 64 (items_len (items_of (map point_data v.area)))
             (omega (arith, len_items point_data v.area, h.few_points));
         same = owns (basin_table b) (record { table = which.Reservoir; number = k + 1; row = reservoir_row b v })
             Reservoirs (node_name b v.node) k refl refl

@@ -1,8 +1,8 @@
 -- Counts of entries and of return rows.
 use Rattle.std.proofs.Common.{nat_lt, ◌≡◌, ℕ, zero, suc, ◌+◌, ◌<◌, ◌≤◌, List, [], ◌∷◌, length, map, take, Bool, true}
 use Rattle.std.proofs.Common.{false, Some, slice_get, if◌then◌else◌, count_by, refl, sym, ap, ◌∙◌, arith, nat_lt}
-use Rattle.std.proofs.lemmas.Bool.Decides.{nat_tests}
 use Rattle.std.proofs.lemmas.List.Sums.{sum_by-cons}
+use Rattle.std.proofs.lemmas.Bool.{ltb-false}
 use Rattle.place_sums.specs.Sums.{count_where}
 use Rattle.place_sums.proofs.Totals.{total_start, total_first}
 use Rattle.water_model.specs.Lookups.{of_entry}
@@ -62,9 +62,6 @@ pub few_by : {X : Type 0} (limit before n : ℕ) (xs : List X) →
     EachFrom (λ k x. nat_lt limit (before + (k + 1)) ≡ false) n xs → before + n ≤ limit → before + n + length xs ≤ limit
 few_by limit before n [] each low = omega arith
 few_by limit before n (x ∷ xs) each low =
-    let here : before + (n + 1) ≤ limit = few limit (before + (n + 1)) each.0 in
+    let here : before + (n + 1) ≤ limit = ltb-false limit (before + (n + 1)) each.0 in
     let rest : before + (n + 1) + length xs ≤ limit = few_by limit before (n + 1) xs each.1 here in
     omega arith
-  where
-    few : (limit m : ℕ) → nat_lt limit m ≡ false → m ≤ limit
-    few limit m e = grind (arith, nat_tests)

@@ -21,7 +21,7 @@ use Rattle.reservoirs.specs.declared.TableRefused.TheVariants as area
 use Rattle.reservoirs.proofs.Tables.{is_table}
 use Rattle.basin_tree.specs.Order.{tree_fault}
 use Rattle.basin_tree.specs.declared.walk.Finding.{Finding}
-use Rattle.basin_file.specs.BasinFaults.{roll_finding, area_finding, areas_fault, basin_fault, document_fault}
+use Rattle.basin_file.specs.BasinFaults.{roll_finding, area_finding, areas_fault}
 use Rattle.basin_file.specs.Sound.{IsSoundBasin}
 use Rattle.basin_file.specs.Spelled.{basin_of}
 use Rattle.basin_file.proofs.Lists.{Each, each_all}
@@ -119,13 +119,6 @@ valid_by b sound network roll tables = record {
   network = network;
   roll = roll;
 }
-
--- a document that has no fault by itself has that of its basin
-pub behind_tree : (tree : Members) (basin : Basin) (fault : Option Finding) → None ≡ tree_fault tree →
-    basin ≡ basin_of tree →
-    fault ≡ basin_fault basin → document_fault (Some tree) ≡ fault
-behind_tree tree basin fault e b f =
-    ap (λ o. option_or o (basin_fault (basin_of tree))) (sym e) ∙ (ap basin_fault (sym b) ∙ sym f)
 
 -- the basin that is spelled is sound
 pub sound_of : {E : Type 0} (tree : Members) (r : Result Basin E) → tree_fault tree ≡ None →

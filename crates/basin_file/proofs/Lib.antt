@@ -5,6 +5,7 @@ pub mod Refers
 pub mod OwnNames
 pub mod Ranges
 pub mod Counts
+pub mod RowsValid
 pub mod Whole
 pub mod Joins
 pub mod Faultless

@@ -1,8 +1,8 @@
 -- What it means that no pass found anything.
-use Rattle.std.proofs.Common.{◌≡◌, ℕ, zero, suc, ◌+◌, List, [], ◌∷◌, ◌++◌, Bool, true, false, not, ◌&&◌, ◌||◌, Option}
+use Rattle.std.proofs.Common.{◌≡◌, ℕ, zero, suc, ◌+◌, List, [], ◌∷◌, ◌++◌, Bool, true, false, not, ◌||◌, Option}
 use Rattle.std.proofs.Common.{Some, None, option_map, option_and_then, unwrap_or, is_some, slice_get, Ordering, Less}
 use Rattle.std.proofs.Common.{Equal, Greater, refl, sym, ap, ◌∙◌, inl, inr, option_to_list}
-use Rattle.std.proofs.lemmas.Bool.{cases_Bool}
+use Rattle.std.proofs.lemmas.Bool.{cases_Bool, and_parts, not-false, or_parts}
 use Rattle.std.proofs.lemmas.Map.Text.{is_eq-slice_cmp}
 use Rattle.std.proofs.lemmas.Slice.Eq.{bytes_eq-Decides}
 use Rattle.std.specs.Cmp.Lexicographic.{slice_cmp}
@@ -35,24 +35,12 @@ map_none : {X Y : Type 0} (f : X → Y) (a : Option X) → option_map f a ≡ No
 map_none f None e = refl
 map_none f (Some x) e = cc
 
-pub bool_or : (p q : Bool) → (p || q) ≡ false → (p ≡ false) × (q ≡ false)
-bool_or false q e = (refl, e)
-bool_or true q e = cc
-
-pub bool_and : (p q : Bool) → (p && q) ≡ true → (p ≡ true) × (q ≡ true)
-bool_and true q e = (refl, e)
-bool_and false q e = cc
-
-pub bool_not : (p : Bool) → not p ≡ false → p ≡ true
-bool_not true e = refl
-bool_not false e = cc
-
 -- a test that holds of none of a list
 pub any_none : {X : Type 0} (p : X → Bool) (xs : List X) (i : ℕ) (x : X) → slice_get xs i ≡ Some x →
     list_any p xs ≡ false → p x ≡ false
 any_none p [] i x there e = cc
-any_none p (y ∷ xs) zero x there e = let same : y ≡ x = cc in rw (← same) (bool_or (p y) (list_any p xs) e).0
-any_none p (y ∷ xs) (suc i) x there e = any_none p xs i x there (bool_or (p y) (list_any p xs) e).1
+any_none p (y ∷ xs) zero x there e = let same : y ≡ x = cc in rw (← same) (or_parts (p y) (list_any p xs) e).0
+any_none p (y ∷ xs) (suc i) x there e = any_none p xs i x there (or_parts (p y) (list_any p xs) e).1
 
 each_pass : (list : List Pass) (tree : Members) → first_fault list tree ≡ None →
     Each (λ pass. find (pass.1 tree) (entries_of tree) ≡ None) list
@@ -146,7 +134,7 @@ table_passes f tree table is_listed e = by table is_listed
 tables_in : (format : ℕ) (o : Option Data) → option_map_or (λ d. not (has_kind format Tables d)) o false ≡ false →
     items_all (λ x. is_some (as_table x)) (unwrap_or (option_and_then as_array o) no_items) ≡ true
 tables_in format None k = refl
-tables_in format (Some d) k = by (as_array d) (bool_not _ k)
+tables_in format (Some d) k = by (as_array d) (not-false _ k)
   where
     by : (a : Option Items) → option_map_or (items_all (λ x. is_some (as_table x))) a false ≡ true →
         items_all (λ x. is_some (as_table x)) (unwrap_or a no_items) ≡ true
@@ -183,7 +171,7 @@ rows_pass : (f : Entry → Bool) (table : BasinTable) (n : ℕ) (items : Items) 
 rows_pass f table n no_items tables e = tt
 rows_pass f table n (item d ds) tables e =
     let both = find_append f (entry_at table (n + 1) d) (entries_behind table (n + 1) ds) e in
-    let each = bool_and (is_some (as_table d)) (items_all (λ x. is_some (as_table x)) ds) tables in
+    let each = and_parts (is_some (as_table d)) (items_all (λ x. is_some (as_table x)) ds) tables in
     by (as_table d) each.0 both.0 (rows_pass f table (n + 1) ds each.1 both.1)
   where
     by : (o : Option Members) → is_some o ≡ true →
@@ -219,8 +207,8 @@ fine_rows tree none table is_listed =
     (λ k row p. record {
       keys = p.0.0.0.0;
       present =
-          (bool_or (lacks_key table row) (has_no_nodes table row)
-          (bool_or (lacks_key table row || has_no_nodes table row) (shuts_no_canal table row) p.0.0.0.1).0).0;
+          (or_parts (lacks_key table row) (has_no_nodes table row)
+          (or_parts (lacks_key table row || has_no_nodes table row) (shuts_no_canal table row) p.0.0.0.1).0).0;
       kinds = p.0.0.1;
       names = p.0.1.0;
       few = p.0.1.1;
@@ -247,8 +235,8 @@ pub absent : (format : ℕ) (table : BasinTable) (key : List ℕ) (row : Members
     is_known format (keys_of table) key ≡ false → get_member key row ≡ None
 absent format table key no_members e other = refl
 absent format table key (member name d ms) e other =
-    let both = bool_or (not (is_known format (keys_of table) name)) (has_unknown format table ms) e in
-    by (slice_cmp nat_cmp key name) refl (bool_not (is_known format (keys_of table) name) both.0)
+    let both = or_parts (not (is_known format (keys_of table) name)) (has_unknown format table ms) e in
+    by (slice_cmp nat_cmp key name) refl (not-false (is_known format (keys_of table) name) both.0)
     (absent format table key ms both.1 other)
   where
     by : (o : Ordering) → slice_cmp nat_cmp key name ≡ o → is_known format (keys_of table) name ≡ true →

@@ -2,7 +2,7 @@
 use Rattle.std.proofs.Common.{◌≡◌, ℕ, zero, suc, ◌+◌, ◌<◌, ◌≤◌, List, [], ◌∷◌, ◌++◌, length, map, Bool, true, false}
 use Rattle.std.proofs.Common.{not, ◌&&◌, Option, Some, None, option_and_then, is_some, slice_get, refl, ap, inl, inr}
 use Rattle.std.proofs.Common.{arith, option_to_list}
-use Rattle.std.proofs.lemmas.Bool.{cases_Bool}
+use Rattle.std.proofs.lemmas.Bool.{cases_Bool, and_parts, not-false}
 use Rattle.std.proofs.lemmas.Bool.Decides.{nat_tests}
 use Rattle.std.specs.Option.{option_map_or}
 use Rattle.toml.specs.Data.{Data, Items, no_items, item, Members, get, get_item, get_member, as_str, as_table}
@@ -21,7 +21,7 @@ use Rattle.basin_tree.specs.NameFaults.{is_bad_name, names_none}
 use Rattle.basin_tree.specs.Places.{own_key, texts_in, texts_of, named_at}
 use Rattle.basin_tree.specs.Tables.{KeyRow, keys_of}
 use Rattle.basin_file.specs.Spelled.{small, number_at, rows_behind, rows_in}
-use Rattle.basin_file.proofs.Passed.{IsListed, HasNoFault, IsFine, all_tables, any_none, bool_and, bool_not}
+use Rattle.basin_file.proofs.Passed.{IsListed, HasNoFault, IsFine, all_tables, any_none}
 
 -- the value at a required key of a fine row, and that it is of its kind
 pub there_at : (tree : Members) (table : BasinTable) (k : ℕ) (row : Members) (i : ℕ) (key : KeyRow) →
@@ -37,7 +37,7 @@ there_at tree table k row i key at required fine =
         option_map_or (λ d. not (has_kind (format_of tree) key.kind d)) o false ≡ false →
         (d : Data) × (get_member key.name row ≡ Some d) × (has_kind (format_of tree) key.kind d ≡ true)
     by None e present kinds = (let absent = rw required at present in cc)
-    by (Some d) e present kinds = (d, e, bool_not _ kinds)
+    by (Some d) e present kinds = (d, e, not-false _ kinds)
 
 text_in : (d : Data) → is_some (as_str d) ≡ true → (q : List ℕ) × (as_str d ≡ Some q)
 text_in d e = by (as_str d) refl e
@@ -58,7 +58,7 @@ name_there tree table k row i key at fine =
     any_none (λ key. option_map_or (is_bad_name key.kind) (get_member key.name row) false) (keys_of table) i _ at
     fine.names in
     let same : text_at key row ≡ Some q.0 = rw (d.1) q.1 in
-    (q.0, same, bool_not _ (rw (d.1, q.1) at good))
+    (q.0, same, not-false _ (rw (d.1, q.1) at good))
 
 -- a text of a fine row that should name an entry does
 pub refers_there : (tree : Members) (table : BasinTable) (k : ℕ) (row : Members) (i : ℕ) (key : List ℕ)
@@ -73,7 +73,7 @@ refers_there tree table k row i key space at fine =
     any_none (λ key. option_map_or (names_none tree key.kind) (get_member key.name row) false) (keys_of table) i _
     at fine.refers in
     let same : text_at key row ≡ Some q.0 = rw (d.1) q.1 in
-    by q.0 (named_at tree space q.0) refl same (bool_not _ (rw (d.1, q.1) at good))
+    by q.0 (named_at tree space q.0) refl same (not-false _ (rw (d.1, q.1) at good))
   where
     by : (q : List ℕ) (o : Option ℕ) → named_at tree space q ≡ o → text_at key row ≡ Some q → is_some o ≡ true →
         (q : List ℕ) × (at : ℕ) × (text_at key row ≡ Some q) × (named_at tree space q ≡ Some at)
@@ -85,7 +85,7 @@ pub texts_behind-rows : (key : List ℕ) (items : Items) → items_all (λ x. is
     texts_behind key items ≡ map (text_at key) (rows_behind items)
 texts_behind-rows key no_items e = refl
 texts_behind-rows key (item d ds) e =
-    let each = bool_and (is_some (as_table d)) (items_all (λ x. is_some (as_table x)) ds) e in
+    let each = and_parts (is_some (as_table d)) (items_all (λ x. is_some (as_table x)) ds) e in
     by d each.0 (texts_behind-rows key ds each.1)
   where
     by : (d : Data) → is_some (as_table d) ≡ true → texts_behind key ds ≡ map (text_at key) (rows_behind ds) →
@@ -97,7 +97,7 @@ pub length-rows : (items : Items) → items_all (λ x. is_some (as_table x)) ite
     length (rows_behind items) ≡ items_len items
 length-rows no_items e = refl
 length-rows (item d ds) e =
-    let each = bool_and (is_some (as_table d)) (items_all (λ x. is_some (as_table x)) ds) e in
+    let each = and_parts (is_some (as_table d)) (items_all (λ x. is_some (as_table x)) ds) e in
     by (as_table d) each.0 (length-rows ds each.1)
   where
     by : (o : Option Members) → is_some o ≡ true → length (rows_behind ds) ≡ items_len ds →
@@ -110,7 +110,7 @@ pub get_item-rows : (n : ℕ) (items : Items) → items_all (λ x. is_some (as_t
     option_and_then as_table (get_item n items) ≡ slice_get (rows_behind items) n
 get_item-rows n no_items e = refl
 get_item-rows n (item d ds) e =
-    let each = bool_and (is_some (as_table d)) (items_all (λ x. is_some (as_table x)) ds) e in
+    let each = and_parts (is_some (as_table d)) (items_all (λ x. is_some (as_table x)) ds) e in
     by n (as_table d) refl each.0 (λ m. get_item-rows m ds each.1)
   where
     by : (n : ℕ) (o : Option Members) → as_table d ≡ o → is_some o ≡ true →

@@ -2,7 +2,7 @@
 use Rattle.std.proofs.Common.{◌≡◌, ℕ, suc, ◌*◌, ◌^◌, ◌<◌, ◌≤◌, ◌∙◌, Bool, true, false, ap, sym, refl, inl, inr, arith}
 use Rattle.std.proofs.Common.{List, [], ◌∷◌, length, map, slice_get, replicate, nat_lt, codes}
 use Rattle.std.specs.Prelude.{Option, Some, None, option_map, option_and_then, unwrap_or, if◌then◌else◌}
-use Rattle.std.proofs.lemmas.Bool.{cases_Bool}
+use Rattle.std.proofs.lemmas.Bool.{cases_Bool, ltb-true, not-false}
 use Rattle.std.proofs.lemmas.Bool.Decides.{nat_tests}
 use Rattle.toml.specs.Data.{Data, string, array, Members, no_members, member, get_member, as_str}
 use Rattle.toml_tree.specs.Texts.{texts_behind, is_the_text, first_from}
@@ -45,7 +45,6 @@ use Rattle.basin_file.proofs.Listed.{items_in, joined, map_back, number_read, pl
 use Rattle.basin_file.proofs.Listed.{texts_listed}
 use Rattle.basin_file.proofs.Lists.{Each, each_at, each_then}
 use Rattle.basin_file.proofs.Months.{series_wants}
-use Rattle.basin_file.proofs.Passed.{bool_not}
 use Rattle.basin_file.proofs.ReadBack.{area_read, carry_read, date_read, first_read, inflow_read, monthly_read}
 use Rattle.basin_file.proofs.ReadBack.{name_read, volume_read, whole_read}
 use Rattle.basin_file.proofs.TableKeys.{HasKeysOf, skip, table_keys, there}
@@ -155,7 +154,7 @@ each_date : (rights : List Right) → ((k : ℕ) → k < length rights → of_en
     Each (λ r. is_date r.date ≡ true) rights
 each_date [] h = tt
 each_date (r ∷ rights) h =
-    (bool_not (is_date r.date) (h 0 (omega arith)), each_date rights (λ k l. h (suc k) (omega arith)))
+    (not-false (is_date r.date) (h 0 (omega arith)), each_date rights (λ k l. h (suc k) (omega arith)))
 
 each_with : {X : Type 0} (P Q : X → Type 0) (xs : List X) → Each P xs → Each Q xs → Each (λ x. P x × Q x) xs
 each_with P Q [] a b = tt
@@ -194,16 +193,13 @@ module _ (b : Basin) (valid : IsValidBasin b) where
   node_once : (m n : ℕ) → m < length b.nodes → n < length b.nodes → node_name b m ≡ node_name b n → m ≡ n
   node_once m n lm ln same =
       elim (cases_Bool (nat_lt m n)) [
-        | inl before ↦ absurd (valid.names.nodes m n (less m n before) ln same)
+        | inl before ↦ absurd (valid.names.nodes m n (ltb-true m n before) ln same)
         | inr other ↦ elim (cases_Bool (nat_lt n m)) [
-          | inl behind ↦ absurd (valid.names.nodes n m (less n m behind) lm (sym same))
+          | inl behind ↦ absurd (valid.names.nodes n m (ltb-true n m behind) lm (sym same))
           | inr neither ↦ equal m n other neither
         ]
       ]
     where
-      less : (m n : ℕ) → nat_lt m n ≡ true → m < n
-      less m n e = grind (arith, nat_tests)
-
       equal : (m n : ℕ) → nat_lt m n ≡ false → nat_lt n m ≡ false → m ≡ n
       equal m n e f = grind (arith, nat_tests)
 

@@ -1,8 +1,7 @@
 -- Members that are added to a table, and the members of a whole table in their order.
-use Rattle.std.proofs.Common.{◌≡◌, ℕ, suc, ◌∙◌, ap, arith, refl, true, false, List, [], ◌∷◌, length, String, Global}
+use Rattle.std.proofs.Common.{◌≡◌, ℕ, ◌∙◌, ap, refl, true, false, List, [], ◌∷◌, length, String, Global}
 use Rattle.std.proofs.Common.{string_bytes, nat_cmp, Ordering, Less, Equal, Greater}
 use Rattle.std.specs.Prelude.{◌==◌, Option, Some, None, codes}
-use Rattle.std.proofs.lemmas.Bool.Decides.{nat_tests}
 use Rattle.std.specs.Cmp.Lexicographic.{slice_cmp}
 use Rattle.std.specs.Ordering.{is_lt, match_ordering}
 use Rattle.std.specs.String.{string_cmp}
@@ -33,14 +32,6 @@ pub listed-put : (key : List ℕ) (values : List Value) (ms : Members) → (leng
     with_member key (array (items_view values)) ms ≡ with_option key (some_items (items_view values)) ms
 listed-put key [] ms h = cc
 listed-put key (v ∷ values) ms h = refl
-
-pub listed-none : (key : List ℕ) (values : List Value) (ms : Members) → (length values == 0) ≡ true →
-    ms ≡ with_option key (some_items (items_view values)) ms
-listed-none key [] ms h = refl
-listed-none key (v ∷ values) ms h = absurd (none (length values) h)
-  where
-    none : (n : ℕ) → (suc n == 0) ≡ true → ⊥
-    none n h = grind (arith, nat_tests)
 
 -- a key that comes before the others stands in front
 pub with_member-front : (key : List ℕ) (d : Data) (ms : Members) → is_before key ms ≡ true →

@@ -1,79 +1,50 @@
 -- What a document without faults spells is sound.
-use Rattle.std.proofs.Common.{◌≡◌, ◌≢◌, ℕ, zero, suc, ◌+◌, ◌*◌, ◌-◌, ◌^◌, ◌<◌, ◌≤◌, ◌==◌, List, [], ◌∷◌, ◌++◌, length}
-use Rattle.std.proofs.Common.{map, take, Bool, true, false, ◌&&◌, ◌||◌, Option, Some, None, option_map, option_and_then}
-use Rattle.std.proofs.Common.{unwrap_or, is_some, slice_get, count_by, refl, sym, ap, ◌∙◌, arith, nat_lt, nat_le, codes}
-use Rattle.std.proofs.Common.{length-append, zero-add, append_assoc, subst, not, IsTrue}
+use Rattle.std.proofs.Common.{◌≡◌, ◌≢◌, ℕ, ◌+◌, ◌-◌, ◌<◌, ◌≤◌, ◌==◌, List, [], ◌∷◌, ◌++◌, length}
+use Rattle.std.proofs.Common.{map, take, Bool, true, false, Option, Some, None}
+use Rattle.std.proofs.Common.{slice_get, count_by, refl, sym, ap, ◌∙◌, arith, nat_le, codes}
+use Rattle.std.proofs.Common.{append_assoc, subst, not}
 use Rattle.std.proofs.lemmas.Bool.Decides.{nat_tests}
 use Rattle.std.proofs.lemmas.List.{length-map, append-nil, map-append}
 use Rattle.std.proofs.lemmas.Option.{slice_get-map, slice_get_within}
 use Rattle.std.proofs.lemmas.Slice.Eq.{bytes_eq-Decides}
-use Rattle.std.specs.Option.{option_map_or}
-use Rattle.toml.specs.Data.{Data, Items, no_items, Members, get, get_item, get_member, as_array, as_bool, as_table}
-use Rattle.toml.specs.Data as toml
-use Rattle.toml_tree.specs.Items.{items_all, items_len}
+use Rattle.std.proofs.lemmas.Bool.{eqb-true, or_parts}
+use Rattle.toml.specs.Data.{Members, get_member}
 use Rattle.toml_tree.specs.Texts.{texts_behind, is_the_text, earlier_like}
 use Rattle.toml_tree.specs.Values.{text_at, text_or_empty, whole_at, whole_of}
-use Rattle.water_text.specs.Names.{is_name}
-use Rattle.water_model.specs.Basin.{is_outlet, node_name, link_name, right_name, node_of_reservoir}
-use Rattle.water_model.specs.Lookups.{of_entry}
+use Rattle.water_model.specs.Basin.{node_name, link_name, right_name, node_of_reservoir}
 use Rattle.water_model.specs.Valid.{HasValidFormat, IsValidNode, IsValidLink, IsValidRight, IsValidReturn, IsValidRun}
-use Rattle.water_model.specs.Valid.{HasFewEntries, HasOwnNames, AreRanked, is_diversion_kind, rank_of_kind, rows_of}
+use Rattle.water_model.specs.Valid.{HasFewEntries, HasOwnNames, AreRanked, rank_of_kind, rows_of}
 use Rattle.water_model.specs.Valid.{IsAlwaysOpen}
 use Rattle.water_model.specs.declared.types.ReturnRow.{ReturnRow}
 use Rattle.water_model.specs.declared.types.Right.{Right}
-use Rattle.water_model.specs.declared.types.RightKind.TheVariants as kind
 use Rattle.water_model.proofs.Balance.{entry_at}
 use Rattle.basin_tree.specs.declared.tables.BasinTable.{BasinTable}
 use Rattle.basin_tree.specs.declared.tables.BasinTable.TheVariants.{Top, Node, Link, Reservoir, Diversion, Instream}
 use Rattle.basin_tree.specs.declared.tables.BasinTable.TheVariants.{Zone, Return}
-use Rattle.basin_tree.specs.declared.tables.Kind.TheVariants.{Name, Refers, Tables, Want}
-use Rattle.basin_tree.specs.declared.tables.Space.{Space}
+use Rattle.basin_tree.specs.declared.tables.Kind.TheVariants.{Want}
 use Rattle.basin_tree.specs.declared.tables.Space.TheVariants.{Nodes, Links, Reservoirs, Diversions, Rights}
 use Rattle.basin_tree.specs.Entries.{items_at}
-use Rattle.basin_tree.specs.KeyFaults.{format_of, unknown_key, missing_key, wrong_kind, out_of_range, lacks_key}
-use Rattle.basin_tree.specs.KeyFaults.{has_no_nodes, shuts_no_canal, any_value}
-use Rattle.basin_tree.specs.Kinds.{has_kind}
-use Rattle.basin_tree.specs.NameFaults.{is_outlet_at, rights_before}
-use Rattle.basin_tree.specs.Places.{own_key, texts_in, texts_of, named_at}
+use Rattle.basin_tree.specs.KeyFaults.{format_of, unknown_key, out_of_range}
+use Rattle.basin_tree.specs.KeyFaults.{any_value}
+use Rattle.basin_tree.specs.Places.{texts_in, texts_of, named_at}
 use Rattle.basin_tree.specs.Ranges.{in_range, ends_late}
-use Rattle.basin_tree.specs.Tables.{KeyRow, keys_of}
+use Rattle.basin_tree.specs.Tables.{keys_of}
 use Rattle.basin_file.specs.Sound.{IsSoundReservoir, IsSoundBasin}
-use Rattle.basin_file.specs.Spelled.{name_at, rows_in, number_at, node_of, link_of, reservoir_of, volume_of, is_series}
+use Rattle.basin_file.specs.Spelled.{rows_in, node_of, link_of, reservoir_of, volume_of, is_series}
 use Rattle.basin_file.specs.Spelled.{diversion_of, instream_of, zone_of, return_of, rights_of, basin_of}
-use Rattle.basin_file.proofs.Lists.{Each, EachFrom, each_all, each_append, each_from, each_map, from_at, from_then}
-use Rattle.basin_file.proofs.Passed.{IsListed, HasNoFault, IsFine, absent, all_tables, any_none, bool_not, bool_or}
-use Rattle.basin_file.proofs.Passed.{fine_rows, top_passes}
-use Rattle.basin_file.proofs.Months.{always_open, series_wants, no_text}
-use Rattle.basin_file.proofs.Refers.{name_there, there_at, refers_there, texts_behind-rows, texts_in-rows}
-use Rattle.basin_file.proofs.Refers.{length-rows_in, get_item-rows, number_within, number_is}
-use Rattle.basin_file.proofs.OwnNames.{own_texts, own_name, own_names, names_of_rows, same_text, table_own, rights_own}
-use Rattle.basin_file.proofs.Ranges.{whole_in, volume_valid, monthly_in, points_valid, few_points, inflow_valid}
-use Rattle.basin_file.proofs.Ranges.{carry_valid, first_valid, run_ends}
-use Rattle.basin_file.proofs.Counts.{count_where-entries, few_pass, counts_within, few_by}
-
--- at least one node is listed
-some_items : (format : ℕ) (o : Option Data) → not (is_some o) ≡ false →
-    option_map_or (λ d. not (has_kind format Tables d)) o false ≡ false →
-    option_map_or (λ items. items_len items == 0) (option_and_then as_array o) false ≡ false →
-    1 ≤ items_len (unwrap_or (option_and_then as_array o) no_items)
-some_items format None p k n = cc
-some_items format (Some d) p k n = by (as_array d) (bool_not _ k) n
-  where
-    positive : (n : ℕ) → (n == 0) ≡ false → 1 ≤ n
-    positive n e = grind (arith, nat_tests)
-
-    by : (a : Option Items) → option_map_or (items_all (λ x. is_some (as_table x))) a false ≡ true →
-        option_map_or (λ items. items_len items == 0) a false ≡ false →
-        1 ≤ items_len (unwrap_or a no_items)
-    by None e n = cc
-    by (Some items) e n = positive (items_len items) n
-
--- the right at a place among the diversions is one
-front_diversion : (tree : Members) (rows : List Members) (more others : List Right) (k : ℕ) → k < length rows →
-    of_entry (map (diversion_of tree) rows ++ more ++ others) k (λ r. is_diversion_kind r.kind) false ≡ true
-front_diversion tree [] more others k h = absurd (omega arith)
-front_diversion tree (members ∷ rows) more others zero h = refl
-front_diversion tree (members ∷ rows) more others (suc k) h = front_diversion tree rows more others k (omega arith)
+use Rattle.basin_file.proofs.Lists.{Each, EachFrom, each_all, each_append, each_from, each_map}
+use Rattle.basin_file.proofs.Passed.{IsListed, HasNoFault, IsFine, absent, all_tables}
+use Rattle.basin_file.proofs.Passed.{top_passes}
+use Rattle.basin_file.proofs.Months.{always_open, no_text}
+use Rattle.basin_file.proofs.Refers.{there_at, refers_there, texts_behind-rows, texts_in-rows}
+use Rattle.basin_file.proofs.Refers.{number_is}
+use Rattle.basin_file.proofs.OwnNames.{own_texts, own_names, names_of_rows, same_text, table_own, rights_own}
+use Rattle.basin_file.proofs.Ranges.{whole_in}
+use Rattle.basin_file.proofs.Ranges.{first_valid, run_ends}
+use Rattle.basin_file.proofs.Counts.{count_where-entries, few_pass, counts_within}
+use Rattle.basin_file.proofs.RowsValid.{fine, fine_at, length_texts, few_nodes, few_links, few_diversions, few_rights}
+use Rattle.basin_file.proofs.RowsValid.{some_node, name_of_row, node_valid, link_valid, few_node_texts}
+use Rattle.basin_file.proofs.RowsValid.{reservoir_sound, diversion_valid, instream_valid, zone_valid, return_valid}
 
 ranked_more : (g : Members → Right) (n : ℕ) → ((members : Members) → rank_of_kind (g members).kind ≡ n) →
     (rows : List Members) (least : ℕ) (others : List Right) → least ≤ n →
@@ -85,231 +56,10 @@ ranked_more g n same (members ∷ rows) least others low rest = (
       (rw (same members) (omega arith)) rest,
 )
 
-eq_means : (m n : ℕ) → (m == n) ≡ true → m ≡ n
-eq_means m n e = grind (arith, nat_tests)
-
 module _ (tree : Members) (none : HasNoFault tree) where
-  fine : (table : BasinTable) → IsListed table → EachFrom (IsFine tree table) 0 (rows_in tree table)
-  fine table is_listed = fine_rows tree none table is_listed
-
-  fine_at : (table : BasinTable) → IsListed table → (k : ℕ) (members : Members) →
-      slice_get (rows_in tree table) k ≡ Some members → IsFine tree table k members
-  fine_at table is_listed k members there =
-      subst (λ (n : ℕ). IsFine tree table n members) (zero-add k)
-      (from_at (IsFine tree table) 0 (rows_in tree table) k members there (fine table is_listed))
-
-  length_texts : (table : BasinTable) → IsListed table → length (texts_in tree table) ≡ length (rows_in tree table)
-  length_texts table is_listed =
-      rw (texts_in-rows tree none table is_listed) (length-map (rows_in tree table) (text_at (own_key table)))
-
-  few_nodes : length (rows_in tree Node) ≤ 2000
-  few_nodes =
-      let h : 0 + 0 + length (rows_in tree Node) ≤ 2000 = few_by 2000 0 0 (rows_in tree Node)
-      (from_then (IsFine tree Node) (λ k members. nat_lt 2000 (0 + (k + 1)) ≡ false) 0 (rows_in tree Node)
-      (λ k members fine. rw zero-add fine.few) (fine Node tt)) (omega arith) in
-      omega arith
-
-  few_links : length (rows_in tree Link) ≤ 4000
-  few_links =
-      let h : 0 + 0 + length (rows_in tree Link) ≤ 4000 = few_by 4000 0 0 (rows_in tree Link)
-      (from_then (IsFine tree Link) (λ k members. nat_lt 4000 (0 + (k + 1)) ≡ false) 0 (rows_in tree Link)
-      (λ k members fine. rw zero-add fine.few) (fine Link tt)) (omega arith) in
-      omega arith
-
-  few_diversions : 0 + 0 + length (rows_in tree Diversion) ≤ 2000
-  few_diversions = few_by 2000 0 0 (rows_in tree Diversion)
-      (from_then (IsFine tree Diversion) (λ k members. nat_lt 2000 (0 + (k + 1)) ≡ false) 0 (rows_in tree Diversion)
-      (λ k members fine. fine.few) (fine Diversion tt)) (omega arith)
-
-  few_instreams : rights_before tree Instream + 0 + length (rows_in tree Instream) ≤ 2000
-  few_instreams =
-      let count = length-rows_in tree none Diversion tt in
-      let low = few_diversions in
-      few_by 2000 (rights_before tree Instream) 0 (rows_in tree Instream)
-      (from_then (IsFine tree Instream) (λ k members. nat_lt 2000 (rights_before tree Instream + (k + 1)) ≡ false) 0
-      (rows_in tree Instream) (λ k members fine. fine.few) (fine Instream tt)) (omega arith)
-
-  few_zones : rights_before tree Zone + 0 + length (rows_in tree Zone) ≤ 2000
-  few_zones =
-      let count = length-rows_in tree none Instream tt in
-      let low = few_instreams in
-      few_by 2000 (rights_before tree Zone) 0 (rows_in tree Zone)
-      (from_then (IsFine tree Zone) (λ k members. nat_lt 2000 (rights_before tree Zone + (k + 1)) ≡ false) 0
-      (rows_in tree Zone) (λ k members fine. fine.few) (fine Zone tt)) (omega arith)
-
-  few_rights : length (rights_of tree) ≤ 2000
-  few_rights =
-      let diversions = length-rows_in tree none Diversion tt in
-      let instreams = length-rows_in tree none Instream tt in
-      let low = few_zones in
-      rw (
-        length-append,
-        length-append,
-        length-map (rows_in tree Diversion) (diversion_of tree),
-        length-map (rows_in tree Instream) (instream_of tree),
-        length-map (rows_in tree Zone) (zone_of tree),
-      ) (omega arith)
-
-  some_node : 1 ≤ length (rows_in tree Node)
-  some_node =
-      let missing = bool_or (lacks_key Top tree) (has_no_nodes Top tree)
-      (bool_or (lacks_key Top tree || has_no_nodes Top tree) (shuts_no_canal Top tree)
-      (top_passes (missing_key tree) tree none.missing)).0 in
-      let node : KeyRow = record { name = codes "node"; is_required = true; kind = Tables; since = 1 } in
-      rw (length-rows_in tree none Node tt)
-      (some_items (format_of tree) (get_member (codes "node") tree)
-      (any_none (λ key. key.is_required && not (is_some (get_member key.name tree))) (keys_of Top) 3 node refl
-      missing.0)
-      (any_none
-      (λ key. option_map_or (λ d. not (has_kind (format_of tree) key.kind d)) (get_member key.name tree) false)
-      (keys_of Top) 3 node refl (top_passes (wrong_kind tree) tree none.kinds))
-      missing.1)
-
-  -- a text that should name an entry has a number below so many
-  number : (table : BasinTable) (k : ℕ) (members : Members) (i : ℕ) (key : List ℕ) (space : Space) (n : ℕ) →
-      slice_get (keys_of table) i ≡ Some (record { name = key; is_required = true; kind = Refers space; since = 1 }) →
-      IsFine tree table k members →
-      length (texts_of tree space) ≡ n → number_at tree space key members < n
-  number table k members i key space n at fine len =
-      let there = refers_there tree table k members i key space at fine in
-      let h = number_within tree space key members there.0 there.1 there.2 there.3 in
-      rw len at h
-
-  node_texts : length (texts_of tree Nodes) ≡ length (basin_of tree).nodes
-  node_texts = length_texts Node tt ∙ sym (length-map (rows_in tree Node) node_of)
-
-  link_texts : length (texts_of tree Links) ≡ length (basin_of tree).links
-  link_texts = length_texts Link tt ∙ sym (length-map (rows_in tree Link) (link_of tree))
-
-  reservoir_texts : length (texts_of tree Reservoirs) ≡ length (basin_of tree).reservoirs
-  reservoir_texts = length_texts Reservoir tt ∙ sym (length-map (rows_in tree Reservoir) (reservoir_of tree))
-
-  name_of_row : (table : BasinTable) (k : ℕ) (members : Members) →
-      slice_get (keys_of table) 0 ≡ Some (record { name = codes "name"; is_required = true; kind = Name; since = 1 }) →
-      IsFine tree table k members → (text_at (codes "name") members ≡ Some (name_at (codes "name") members)) ×
-      IsTrue (is_name (name_at (codes "name") members))
-  name_of_row table k members at fine =
-      let there = name_there tree table k members 0 (codes "name") at fine in
-      (own_name members there.0 there.1 there.2, rw (there.1) (rw (there.2) there.2))
-
-  node_valid : (k : ℕ) (members : Members) → IsFine tree Node k members → IsValidNode (node_of members)
-  node_valid k members fine =
-      record {
-        name = (name_of_row Node k members refl fine).1;
-        inflow =
-            inflow_valid (get_member (codes "inflow") members);
-      }
-
-  link_valid : (k : ℕ) (members : Members) → IsFine tree Link k members →
-      IsValidLink (basin_of tree) (link_of tree members)
-  link_valid k members fine = record {
-    name = (name_of_row Link k members refl fine).1;
-    ends = record {
-      from = number Link k members 1 (codes "from") Nodes _ refl fine node_texts;
-      to = number Link k members 2 (codes "to") Nodes _ refl fine node_texts;
-    };
-    carry = carry_valid (get_member (codes "per_day") members) (get_member (codes "closed") members);
-  }
-
-  -- the node that a place spells is an outlet where the document says so
-  outlet_at : (at : ℕ) → is_outlet (basin_of tree) at ≡ is_outlet_at tree at
-  outlet_at at =
-      rw (
-        slice_get-map node_of (rows_in tree Node) at,
-        ← get_item-rows at (items_at tree Node) (all_tables tree none Node tt),
-      ) (by (get_item at (items_at tree Node)))
-    where
-      truth : (o : Option Bool) → unwrap_or o false ≡ option_map_or (λ outlet. outlet) o false
-      truth None = refl
-      truth (Some b) = refl
-
-      row_truth : (d : Data) → unwrap_or (option_map (λ n. n.outlet) (option_map node_of (as_table d))) false
-          ≡ option_map_or (λ outlet. outlet) (option_and_then as_bool (get (codes "outlet") d)) false
-      row_truth (toml.table members) = truth (option_and_then as_bool (get_member (codes "outlet") members))
-      row_truth _ = refl
-
-      by : (o : Option Data) →
-          unwrap_or (option_map (λ n. n.outlet) (option_map node_of (option_and_then as_table o))) false
-          ≡ option_map_or (λ outlet. outlet) (option_and_then as_bool (option_and_then (get (codes "outlet")) o)) false
-      by None = refl
-      by (Some d) = row_truth d
-
-  few_node_texts : length (texts_of tree Nodes) ≤ 4000
-  few_node_texts = let same = length_texts Node tt in let few = few_nodes in omega arith
-
-  reservoir_sound : (k : ℕ) (members : Members) → IsFine tree Reservoir k members →
-      IsSoundReservoir (basin_of tree) (reservoir_of tree members)
-  reservoir_sound k members fine = record {
-    node = number Reservoir k members 0 (codes "node") Nodes _ refl fine node_texts;
-    inner =
-        (let there = refers_there tree Reservoir k members 0 (codes "node") Nodes refl fine in
-        rw (number_is tree Nodes (codes "node") members there.0 there.1 there.2 there.3 few_node_texts)
-        (outlet_at there.1 ∙ (rw (there.2, there.3) at fine.inner)));
-    opening = (whole_in 0 (16 * 10 ^ 9) 0 (get_member (codes "opening") members) (omega arith) (omega arith)).1;
-    points = points_valid (get_member (codes "area") members);
-    few_points = few_points (get_member (codes "area") members) fine.few;
-    rate = monthly_in 10000 (get_member (codes "rate") members);
-  }
-
-  order_most : (members : Members) → whole_at (codes "order") 0 1000000 0 members ≤ 1000000
-  order_most members = (whole_in 0 1000000 0 (get_member (codes "order") members) (omega arith) (omega arith)).1
-
-  diversion_valid : (k : ℕ) (members : Members) → IsFine tree Diversion k members →
-      IsValidRight (basin_of tree) (diversion_of tree members)
-  diversion_valid k members fine = record {
-    name = (name_of_row Diversion k members refl fine).1;
-    order = order_most members;
-    place = number Diversion k members 1 (codes "node") Nodes _ refl fine node_texts;
-    want = monthly_in (10 ^ 9) (get_member (codes "want") members);
-    volume = volume_valid (kind.Diversion (number_at tree Nodes (codes "node") members)) refl
-        (get_member (codes "volume") members);
-    series = series_wants (get_member (codes "want") members);
-  }
-
-  instream_valid : (k : ℕ) (members : Members) → IsFine tree Instream k members →
-      IsValidRight (basin_of tree) (instream_of tree members)
-  instream_valid k members fine = record {
-    name = (name_of_row Instream k members refl fine).1;
-    order = order_most members;
-    place = number Instream k members 1 (codes "link") Links _ refl fine link_texts;
-    want = monthly_in (10 ^ 9) (get_member (codes "want") members);
-    volume = tt;
-    series = series_wants (get_member (codes "want") members);
-  }
-
-  zone_valid : (k : ℕ) (members : Members) → IsFine tree Zone k members →
-      IsValidRight (basin_of tree) (zone_of tree members)
-  zone_valid k members fine = record {
-    name = (name_of_row Zone k members refl fine).1;
-    order = order_most members;
-    place =
-        (let level = whole_in 1 16 1 (get_member (codes "level") members) (omega arith) (omega arith) in
-        (number Zone k members 1 (codes "reservoir") Reservoirs _ refl fine reservoir_texts, level.0, level.1));
-    want = monthly_in (10 ^ 9) (get_member (codes "want") members);
-    volume = tt;
-    series = series_wants (get_member (codes "want") members);
-  }
-
-  own_diversion : (k : ℕ) (members : Members) → IsFine tree Return k members →
-      number_at tree Diversions (codes "diversion") members < length (rows_in tree Diversion)
-  own_diversion k members fine =
-      number Return k members 0 (codes "diversion") Diversions _ refl fine (length_texts Diversion tt)
-
-  return_valid : (k : ℕ) (members : Members) → IsFine tree Return k members →
-      IsValidReturn (basin_of tree) (return_of tree members)
-  return_valid k members fine = record {
-    right =
-        (let own = own_diversion k members fine in
-        let same = length-map (rows_in tree Diversion) (diversion_of tree) in
-        rw (length-append, length-append) (omega arith));
-    diversion = front_diversion tree (rows_in tree Diversion) _ _ _ (own_diversion k members fine);
-    node = number Return k members 1 (codes "node") Nodes _ refl fine node_texts;
-    part = whole_in 1 10000 1 (get_member (codes "part") members) (omega arith) (omega arith);
-    lag = whole_in 1 120 1 (get_member (codes "lag") members) (omega arith) (omega arith);
-  }
-
   few_diversion_texts : length (texts_of tree Diversions) ≤ 4000
-  few_diversion_texts = let same = length_texts Diversion tt in let few = few_diversions in omega arith
+  few_diversion_texts =
+      let same = length_texts tree none Diversion tt in let few = few_diversions tree none in omega arith
 
   -- a members's diversion is the one that its text names
   right_is : (k : ℕ) (members : Members) → IsFine tree Return k members →
@@ -358,12 +108,12 @@ module _ (tree : Members) (none : HasNoFault tree) where
       let members =
       entry_at (rows_in tree Return) k (let h =
       slice_get_within (map (return_of tree) (rows_in tree Return)) k entry there in omega arith) in
-      let fine = fine_at Return tt k members.0 members.1 in
+      let fine = fine_at tree none Return tt k members.0 members.1 in
       let text = right_is k members.0 fine in
       let spelled : Some (return_of tree members.0) ≡ Some entry =
       (rw (slice_get-map (return_of tree) (rows_in tree Return) k, members.1) at there) in
       let its : (return_of tree members.0).right ≡ right =
-      eq_means (return_of tree members.0).right right (let same : return_of tree members.0 ≡ entry = cc in
+      eqb-true (return_of tree members.0).right right (let same : return_of tree members.0 ≡ entry = cc in
       subst (λ (r : ReturnRow). is_row_of right r ≡ true) (sym same) is_row) in
       let within : count_by (is_row_of right) (take k (map (return_of tree) (rows_in tree Return)))
       ≤ count_by (is_the_text text.0) (take k (map (text_at (codes "diversion")) (rows_in tree Return))) =
@@ -375,14 +125,14 @@ module _ (tree : Members) (none : HasNoFault tree) where
       omega arith
     where
       module_fine : EachFrom (IsFine tree Return) 0 (rows_in tree Return)
-      module_fine = fine Return tt
+      module_fine = fine tree none Return tt
 
       alike : (j : ℕ) (other : Members) → IsFine tree Return j other → (q : List ℕ) →
           named_at tree Diversions q ≡ Some right →
           is_row_of right (return_of tree other) ≡ true → is_the_text q (text_at (codes "diversion") other) ≡ true
       alike j other fine_other q named is_row =
           let text = right_is j other fine_other in
-          let its : (return_of tree other).right ≡ right = eq_means (return_of tree other).right right is_row in
+          let its : (return_of tree other).right ≡ right = eqb-true (return_of tree other).right right is_row in
           let same : q ≡ text.0 = same_text tree Diversions q text.0 right named (rw its at text.2) in
           rw text.1 ((bytes_eq-Decides q text.0).1 same)
 
@@ -397,8 +147,9 @@ module _ (tree : Members) (none : HasNoFault tree) where
   nodes_own =
       own_names (λ n. n.name) (map node_of (rows_in tree Node)) (texts_of tree Nodes)
       (names_of_rows node_of (λ n. n.name) (codes "name") (rows_in tree Node)
-      (each_from (IsFine tree Node) _ 0 (rows_in tree Node) (λ k members fine. (name_of_row Node k members refl fine).0)
-      (fine Node tt))
+      (each_from (IsFine tree Node) _ 0 (rows_in tree Node)
+      (λ k members fine. (name_of_row tree none Node k members refl fine).0)
+      (fine tree none Node tt))
       ∙ sym (texts_in-rows tree none Node tt))
       (table_own tree none Node tt Nodes refl)
 
@@ -407,8 +158,9 @@ module _ (tree : Members) (none : HasNoFault tree) where
   links_own =
       own_names (λ l. l.name) (map (link_of tree) (rows_in tree Link)) (texts_of tree Links)
       (names_of_rows (link_of tree) (λ l. l.name) (codes "name") (rows_in tree Link)
-      (each_from (IsFine tree Link) _ 0 (rows_in tree Link) (λ k members fine. (name_of_row Link k members refl fine).0)
-      (fine Link tt))
+      (each_from (IsFine tree Link) _ 0 (rows_in tree Link)
+      (λ k members fine. (name_of_row tree none Link k members refl fine).0)
+      (fine tree none Link tt))
       ∙ sym (texts_in-rows tree none Link tt))
       (table_own tree none Link tt Links refl)
 
@@ -423,19 +175,19 @@ module _ (tree : Members) (none : HasNoFault tree) where
       diversions : map (λ r. Some r.name) (map (diversion_of tree) (rows_in tree Diversion)) ≡ texts_in tree Diversion
       diversions = names_of_rows (diversion_of tree) (λ r. r.name) (codes "name") (rows_in tree Diversion)
           (each_from (IsFine tree Diversion) _ 0 (rows_in tree Diversion)
-          (λ k members fine. (name_of_row Diversion k members refl fine).0) (fine Diversion tt))
+          (λ k members fine. (name_of_row tree none Diversion k members refl fine).0) (fine tree none Diversion tt))
           ∙ sym (texts_in-rows tree none Diversion tt)
 
       instreams : map (λ r. Some r.name) (map (instream_of tree) (rows_in tree Instream)) ≡ texts_in tree Instream
       instreams = names_of_rows (instream_of tree) (λ r. r.name) (codes "name") (rows_in tree Instream)
           (each_from (IsFine tree Instream) _ 0 (rows_in tree Instream)
-          (λ k members fine. (name_of_row Instream k members refl fine).0) (fine Instream tt))
+          (λ k members fine. (name_of_row tree none Instream k members refl fine).0) (fine tree none Instream tt))
           ∙ sym (texts_in-rows tree none Instream tt)
 
       zones : map (λ r. Some r.name) (map (zone_of tree) (rows_in tree Zone)) ≡ texts_in tree Zone
       zones = names_of_rows (zone_of tree) (λ r. r.name) (codes "name") (rows_in tree Zone)
           (each_from (IsFine tree Zone) _ 0 (rows_in tree Zone)
-          (λ k members fine. (name_of_row Zone k members refl fine).0) (fine Zone tt))
+          (λ k members fine. (name_of_row tree none Zone k members refl fine).0) (fine tree none Zone tt))
           ∙ sym (texts_in-rows tree none Zone tt)
 
   own_rights : (i j : ℕ) → i < j → j < length (basin_of tree).rights →
@@ -448,7 +200,8 @@ module _ (tree : Members) (none : HasNoFault tree) where
       (named_at tree Nodes q ≡ Some (reservoir_of tree members).node)
   node_is k members fine =
       let there = refers_there tree Reservoir k members 0 (codes "node") Nodes refl fine in
-      let same = number_is tree Nodes (codes "node") members there.0 there.1 there.2 there.3 few_node_texts in
+      let same =
+      number_is tree Nodes (codes "node") members there.0 there.1 there.2 there.3 (few_node_texts tree none) in
       (there.0, there.2, rw same there.3)
 
   reservoirs_own : (i j : ℕ) → i < j → j < length (basin_of tree).reservoirs →
@@ -457,8 +210,8 @@ module _ (tree : Members) (none : HasNoFault tree) where
       let len = length-map (rows_in tree Reservoir) (reservoir_of tree) in
       let one = entry_at (rows_in tree Reservoir) i (omega arith) in
       let other = entry_at (rows_in tree Reservoir) j (omega arith) in
-      let text = node_is i one.0 (fine_at Reservoir tt i one.0 one.1) in
-      let text2 = node_is j other.0 (fine_at Reservoir tt j other.0 other.1) in
+      let text = node_is i one.0 (fine_at tree none Reservoir tt i one.0 one.1) in
+      let text2 = node_is j other.0 (fine_at tree none Reservoir tt j other.0 other.1) in
       let nodes : Some (reservoir_of tree one.0).node ≡ Some (reservoir_of tree other.0).node =
       (rw (
         slice_get-map (reservoir_of tree) (rows_in tree Reservoir) i,
@@ -484,13 +237,13 @@ module _ (tree : Members) (none : HasNoFault tree) where
   each_valid P table is_listed spells valid =
       each_map P spells (rows_in tree table)
       (each_from (IsFine tree table) (λ members. P (spells members)) 0 (rows_in tree table) valid
-      (fine table is_listed))
+      (fine tree none table is_listed))
 
   run_valid : IsValidRun (basin_of tree)
   run_valid =
       let months = whole_in 1 1200 1 (get_member (codes "months") tree) (omega arith) (omega arith) in
       let late =
-      bool_or (any_value (λ kind d. not (in_range kind d)) Top tree) (ends_late tree)
+      or_parts (any_value (λ kind d. not (in_range kind d)) Top tree) (ends_late tree)
       (top_passes (out_of_range tree) tree none.ranges) in
       record {
         first = first_valid (text_or_empty (codes "first_month") tree);
@@ -501,10 +254,10 @@ module _ (tree : Members) (none : HasNoFault tree) where
 
   few_entries : HasFewEntries (basin_of tree)
   few_entries = record {
-    some_node = rw (length-map (rows_in tree Node) node_of) some_node;
-    nodes = rw (length-map (rows_in tree Node) node_of) few_nodes;
-    links = rw (length-map (rows_in tree Link) (link_of tree)) few_links;
-    rights = few_rights;
+    some_node = rw (length-map (rows_in tree Node) node_of) (some_node tree none);
+    nodes = rw (length-map (rows_in tree Node) node_of) (few_nodes tree none);
+    links = rw (length-map (rows_in tree Link) (link_of tree)) (few_links tree none);
+    rights = few_rights tree none;
     rows = λ right h. few_rows right;
   }
 
@@ -515,9 +268,9 @@ module _ (tree : Members) (none : HasNoFault tree) where
   rights_valid =
       each_append (λ r. IsValidRight (basin_of tree) r) _ _
       (each_append (λ r. IsValidRight (basin_of tree) r) _ _
-      (each_valid (λ r. IsValidRight (basin_of tree) r) Diversion tt (diversion_of tree) diversion_valid)
-      (each_valid (λ r. IsValidRight (basin_of tree) r) Instream tt (instream_of tree) instream_valid))
-      (each_valid (λ r. IsValidRight (basin_of tree) r) Zone tt (zone_of tree) zone_valid)
+      (each_valid (λ r. IsValidRight (basin_of tree) r) Diversion tt (diversion_of tree) (diversion_valid tree none))
+      (each_valid (λ r. IsValidRight (basin_of tree) r) Instream tt (instream_of tree) (instream_valid tree none)))
+      (each_valid (λ r. IsValidRight (basin_of tree) r) Zone tt (zone_of tree) (zone_valid tree none))
 
   ranked : AreRanked 0 (rights_of tree)
   ranked = rw append_assoc
@@ -585,15 +338,18 @@ module _ (tree : Members) (none : HasNoFault tree) where
     format = format_valid;
     run = run_valid;
     few = few_entries;
-    nodes = each_all _ _ (each_valid IsValidNode Node tt node_of node_valid);
-    links = each_all _ _ (each_valid (λ l. IsValidLink (basin_of tree) l) Link tt (link_of tree) link_valid);
+    nodes = each_all _ _ (each_valid IsValidNode Node tt node_of (node_valid tree none));
+    links =
+        each_all _ _ (each_valid (λ l. IsValidLink (basin_of tree) l) Link tt (link_of tree) (link_valid tree none));
     reservoirs =
         each_all _ _
-        (each_valid (λ v. IsSoundReservoir (basin_of tree) v) Reservoir tt (reservoir_of tree) reservoir_sound);
+        (each_valid (λ v. IsSoundReservoir (basin_of tree) v) Reservoir tt (reservoir_of tree)
+        (reservoir_sound tree none));
     rights = each_all _ _ rights_valid;
     ranked = ranked;
     returns =
         each_all _ _
-        (each_valid (λ members. IsValidReturn (basin_of tree) members) Return tt (return_of tree) return_valid);
+        (each_valid (λ members. IsValidReturn (basin_of tree) members) Return tt (return_of tree)
+        (return_valid tree none));
     names = names_own;
   }

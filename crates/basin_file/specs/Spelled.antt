@@ -1,5 +1,5 @@
 -- The basin that a document spells. What can't be there in a document without a fault has a default.
-use Rattle.std.specs.Prelude.{ℕ, ◌^◌, ◌*◌, is_some, ◌||◌, ◌==◌, ◌+◌, nat_lt, List, [], ◌∷◌, ◌++◌, map, Bool, false}
+use Rattle.std.specs.Prelude.{ℕ, ◌^◌, is_some, ◌||◌, ◌==◌, ◌+◌, nat_lt, List, [], ◌∷◌, ◌++◌, map, Bool, false}
 use Rattle.std.specs.Prelude.{Option, Some, None, if◌then◌else◌, option_map, option_and_then, option_to_list, unwrap_or}
 use Rattle.std.specs.Prelude.{codes}
 use Rattle.std.specs.List.{range_with_len}
@@ -12,6 +12,7 @@ use Rattle.water_text.specs.Months.{read_month}
 use Rattle.water_text.specs.Names.{is_name}
 use Rattle.water_text.specs.declared.day.Day.{Day}
 use Rattle.water_text.specs.declared.month.Month.{Month}
+use Rattle.basin_tree.specs.Ranges.{most_amount, most_stored}
 use Rattle.water_model.specs.declared.types.AreaPoint.{AreaPoint}
 use Rattle.water_model.specs.declared.types.Basin.{Basin}
 use Rattle.water_model.specs.declared.types.Carry.{Carry}
@@ -69,7 +70,7 @@ date_of text = unwrap_or (read_day text) (record { year = 0; month = 0; day = 0 
 
 -- a text stands for a gauge
 abbrev pub inflow_of : Option Data → Inflow
-inflow_of value = option_map_or (λ text. Gauged) (option_and_then as_str value) (Monthly (monthly_of (10 ^ 9) value))
+inflow_of value = option_map_or (λ text. Gauged) (option_and_then as_str value) (Monthly (monthly_of most_amount value))
 
 abbrev pub items_any : (Data → Bool) → Items → Bool
 items_any test no_items = false
@@ -85,12 +86,12 @@ shut_of closed = map (λ i. option_map_or (lists_month (i + 1)) closed false) (r
 
 -- a link that gives no amount a day is a river
 abbrev pub carry_of : Option Data → Option Data → Carry
-carry_of per_day closed = option_map_or (λ d. Canal (whole_of 0 (10 ^ 9) 0 (Some d)) (shut_of closed)) per_day River
+carry_of per_day closed = option_map_or (λ d. Canal (whole_of 0 most_amount 0 (Some d)) (shut_of closed)) per_day River
 
 abbrev pub point_in : Items → AreaPoint
 point_in pair = record {
-  storage = whole_of 0 (16 * 10 ^ 9) 0 (get_item 0 pair);
-  area = whole_of 0 (10 ^ 9) 0 (get_item 1 pair);
+  storage = whole_of 0 most_stored 0 (get_item 0 pair);
+  area = whole_of 0 most_amount 0 (get_item 1 pair);
 }
 
 abbrev pub points_in : Items → List AreaPoint
@@ -122,14 +123,14 @@ link_of tree row = record {
 abbrev pub reservoir_of : Members → Members → reservoir.Reservoir
 reservoir_of tree row = record {
   node = number_at tree Nodes (codes "node") row;
-  opening = whole_at (codes "opening") 0 (16 * 10 ^ 9) 0 row;
+  opening = whole_at (codes "opening") 0 most_stored 0 row;
   area = area_of (get_member (codes "area") row);
   rate = monthly_of 10000 (get_member (codes "rate") row);
 }
 
 -- a diversion that gives no volume has none
 abbrev pub volume_of : Option Data → Option ℕ
-volume_of value = option_map (λ d. whole_of 0 (16 * 10 ^ 9) 0 (Some d)) value
+volume_of value = option_map (λ d. whole_of 0 most_stored 0 (Some d)) value
 
 -- a text stands for wants in the series
 abbrev pub is_series : Option Data → Bool
@@ -141,7 +142,7 @@ right_of kind volume row = record {
   date = date_of (text_or_empty (codes "date") row);
   order = whole_at (codes "order") 0 1000000 0 row;
   kind = kind;
-  want = monthly_of (10 ^ 9) (get_member (codes "want") row);
+  want = monthly_of most_amount (get_member (codes "want") row);
   volume = volume;
   series = is_series (get_member (codes "want") row);
 }

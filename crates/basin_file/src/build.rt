@@ -11,7 +11,7 @@ use crate::parts::{
     diversion_of, first_of, instream_of, link_of, node_of, number_at, point_in, return_of, zone_of,
 };
 use basin_tree::document::Document;
-use basin_tree::tables::{BasinTable, Space};
+use basin_tree::tables::{BasinTable, MOST_STORED, Space};
 use std::alloc::{AllocError, Global};
 use toml::{Table, Value};
 use toml_tree::values::{items_of, member, monthly_at, text_or_empty, whole_at};
@@ -67,7 +67,7 @@ fn reservoir_of(alloc: Global, document: &Document, row: &Table) -> Result<Reser
     let area = area_at(alloc, row)?;
     Ok(Reservoir {
         node: number_at(document, Space::Nodes, row, "node"),
-        opening: whole_at(row, "opening", 0, 16_000_000_000, 0),
+        opening: whole_at(row, "opening", 0, MOST_STORED, 0),
         area: Rows::from_vec(area),
         rate: monthly_at(row, "rate", 10_000),
     })

@@ -11,7 +11,7 @@ ghost use Rattle.basin_file.specs.Spelled.{is_series, number_at, point_in, date_
 ghost use Rattle.basin_file.specs.Spelled.{volume_of, right_of, diversion_of, instream_of, zone_of, return_of};
 
 use basin_tree::document::Document;
-use basin_tree::tables::Space;
+use basin_tree::tables::{MOST_AMOUNT, MOST_STORED, Space};
 use toml::{Table, Value};
 use toml_tree::values::{item_at, items_of, member, monthly_at, text_or_empty, whole_at, whole_of};
 use water_model::types::{AreaPoint, Carry, Inflow, Link, Node, ReturnRow, Right, RightKind};
@@ -49,9 +49,9 @@ fn inflow_at(row: &Table) -> Inflow
     match member(row, "inflow") {
         Some(value) => match value.as_str() {
             Some(_) => Inflow::Gauged,
-            None => Inflow::Monthly(monthly_at(row, "inflow", 1_000_000_000)),
+            None => Inflow::Monthly(monthly_at(row, "inflow", MOST_AMOUNT)),
         },
-        None => Inflow::Monthly(monthly_at(row, "inflow", 1_000_000_000)),
+        None => Inflow::Monthly(monthly_at(row, "inflow", MOST_AMOUNT)),
     }
 }
 
@@ -99,7 +99,7 @@ fn carry_at(row: &Table) -> Carry
 {
     match member(row, "per_day") {
         Some(value) => Carry::Canal {
-            per_day: whole_of(Some(value), 0, 1_000_000_000, 0),
+            per_day: whole_of(Some(value), 0, MOST_AMOUNT, 0),
             shut: shut_at(row),
         },
         None => Carry::River,
@@ -121,8 +121,8 @@ pub fn point_in(pair: &[Value]) -> AreaPoint
     ensures { result ≡ point_in (items_view pair.now) }
 {
     AreaPoint {
-        storage: whole_of(item_at(pair, 0), 0, 16_000_000_000, 0),
-        area: whole_of(item_at(pair, 1), 0, 1_000_000_000, 0),
+        storage: whole_of(item_at(pair, 0), 0, MOST_STORED, 0),
+        area: whole_of(item_at(pair, 1), 0, MOST_AMOUNT, 0),
     }
 }
 
@@ -179,7 +179,7 @@ fn volume_at(row: &Table) -> Option<u64>
     ensures { result ≡ volume_of (get_member (codes "volume") (table_view row.now)) }
 {
     match member(row, "volume") {
-        Some(value) => Some(whole_of(Some(value), 0, 16_000_000_000, 0)),
+        Some(value) => Some(whole_of(Some(value), 0, MOST_STORED, 0)),
         None => None,
     }
 }
@@ -202,7 +202,7 @@ fn right_of(kind: RightKind, volume: Option<u64>, row: &Table) -> Right
         date: date_of(text_or_empty(row, "date").as_bytes()),
         order: whole_at(row, "order", 0, 1_000_000, 0) as u32,
         kind,
-        want: monthly_at(row, "want", 1_000_000_000),
+        want: monthly_at(row, "want", MOST_AMOUNT),
         volume,
         series: series_at(row),
     }

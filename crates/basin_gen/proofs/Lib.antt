@@ -7,4 +7,5 @@ pub mod Lists
 pub mod NetworkLaws
 pub mod Validity
 pub mod RightsLaws
+pub mod RightsValid
 pub mod CountLaws

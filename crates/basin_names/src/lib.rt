@@ -7,4 +7,5 @@ mod places;
 mod rights;
 
 pub use nodes::NodeNames;
+pub use places::add_place;
 pub use rights::RightNames;

@@ -6,7 +6,7 @@ use indexmap::IndexMap;
 use std::alloc::AllocError;
 
 /// Adds the place of a name, unless the name has one.
-pub(crate) fn add_place<'b>(
+pub fn add_place<'b>(
     places: &mut IndexMap<&'b [u8], u32>,
     name: &'b [u8],
     place: u32,

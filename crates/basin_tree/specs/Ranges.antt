@@ -9,6 +9,14 @@ use Rattle.basin_tree.specs.declared.tables.Kind.TheVariants.{Points}
 use Rattle.toml_tree.specs.Items.{items_all}
 use Rattle.toml_tree.specs.Values.{is_between, whole_at, text_or_empty}
 
+-- the greatest inflow, want, capacity of a day, and area
+abbrev pub most_amount : ℕ
+most_amount = 10 ^ 9
+
+-- the greatest storage and volume
+abbrev pub most_stored : ℕ
+most_stored = 16 * 10 ^ 9
+
 abbrev pub number_in : ℕ → ℕ → Data → Bool
 number_in least most d = option_map_or (is_between least most) (as_integer d) true
 
@@ -22,7 +30,7 @@ numbers_in most d = number_in 0 most d && listed_in 0 most d
 
 -- a storage and an area
 abbrev pub pair_in : Items → Bool
-pair_in (item storage (item area ds)) = number_in 0 (16 * 10 ^ 9) storage && number_in 0 (10 ^ 9) area
+pair_in (item storage (item area ds)) = number_in 0 most_stored storage && number_in 0 most_amount area
 pair_in _ = true
 
 abbrev pub points_in : Data → Bool
@@ -31,9 +39,9 @@ points_in d = option_map_or (items_all (λ x. option_map_or pair_in (as_array x)
 abbrev pub in_range : Kind → Data → Bool
 in_range (Whole least most) d = number_in least most d
 in_range (Monthly most) d = numbers_in most d
-in_range Want d = numbers_in (10 ^ 9) d
+in_range Want d = numbers_in most_amount d
 in_range CalendarMonths d = listed_in 1 12 d
-in_range Inflow d = numbers_in (10 ^ 9) d
+in_range Inflow d = numbers_in most_amount d
 in_range MonthText d = option_map_or (λ text. is_some (read_month text)) (as_str d) true
 in_range Points d = points_in d
 in_range _ d = true

@@ -1,5 +1,5 @@
 -- The tables of a basin file and the keys of each.
-use Rattle.std.specs.Prelude.{ℕ, ◌^◌, ◌*◌, List, [], ◌∷◌, Bool, true, false, codes}
+use Rattle.std.specs.Prelude.{ℕ, List, [], ◌∷◌, Bool, true, false, codes}
 use Rattle.basin_tree.specs.declared.tables.BasinTable.{BasinTable}
 use Rattle.basin_tree.specs.declared.tables.BasinTable.TheVariants.{Top, Node, Link, Reservoir, Diversion, Instream}
 use Rattle.basin_tree.specs.declared.tables.BasinTable.TheVariants.{Zone, Return}
@@ -7,6 +7,7 @@ use Rattle.basin_tree.specs.declared.tables.Key.{Key}
 use Rattle.basin_tree.specs.declared.tables.Kind.{Kind}
 use Rattle.basin_tree.specs.declared.tables.Kind.TheVariants.{Tables, Whole, Truth, Name, Refers, MonthText, DateText}
 use Rattle.basin_tree.specs.declared.tables.Kind.TheVariants.{Monthly, Want, CalendarMonths, Inflow, Points}
+use Rattle.basin_tree.specs.Ranges.{most_amount, most_stored}
 use Rattle.basin_tree.specs.declared.tables.Space.TheVariants.{Nodes, Links, Reservoirs, Diversions}
 
 -- the word for a table. The entries of each but the top are listed at this key of the top table
@@ -56,14 +57,14 @@ keys_of Node =
     required (codes "name") Name ∷ optional (codes "outlet") Truth ∷ optional (codes "inflow") Inflow ∷ []
 keys_of Link =
     required (codes "name") Name ∷ required (codes "from") (Refers Nodes) ∷ required (codes "to") (Refers Nodes)
-    ∷ optional (codes "per_day") (Whole 0 (10 ^ 9)) ∷ second (codes "closed") CalendarMonths ∷ []
+    ∷ optional (codes "per_day") (Whole 0 most_amount) ∷ second (codes "closed") CalendarMonths ∷ []
 keys_of Reservoir =
-    required (codes "node") (Refers Nodes) ∷ required (codes "opening") (Whole 0 (16 * 10 ^ 9))
+    required (codes "node") (Refers Nodes) ∷ required (codes "opening") (Whole 0 most_stored)
     ∷ optional (codes "area") Points ∷ optional (codes "rate") (Monthly 10000) ∷ []
 keys_of Diversion =
     required (codes "name") Name ∷ required (codes "node") (Refers Nodes) ∷ required (codes "date") DateText
     ∷ required (codes "want") Want ∷ optional (codes "order") (Whole 0 1000000)
-    ∷ second (codes "volume") (Whole 0 (16 * 10 ^ 9)) ∷ []
+    ∷ second (codes "volume") (Whole 0 most_stored) ∷ []
 keys_of Instream =
     required (codes "name") Name ∷ required (codes "link") (Refers Links) ∷ required (codes "date") DateText
     ∷ required (codes "want") Want ∷ optional (codes "order") (Whole 0 1000000) ∷ []

@@ -11,7 +11,7 @@ ghost use Rattle.basin_tree.specs.KeyFaults.{out_of_range, runs_late};
 
 use crate::document::Document;
 use crate::keys::{ValueTest, any_value};
-use crate::tables::{BasinTable, Kind};
+use crate::tables::{BasinTable, Kind, MOST_AMOUNT, MOST_STORED};
 use crate::walk::EntryTest;
 use toml::{Table, Value};
 use toml_tree::values::{is_between, items_of, text_or_empty, whole_at};
@@ -101,7 +101,7 @@ fn pair_in(values: &[Value]) -> bool
 {
     match values {
         [storage, area, ..] => {
-            number_in(storage, 0, 16_000_000_000) && number_in(area, 0, 1_000_000_000)
+            number_in(storage, 0, MOST_STORED) && number_in(area, 0, MOST_AMOUNT)
         }
         _ => true,
     }
@@ -137,9 +137,9 @@ fn in_range(kind: Kind, value: &Value) -> bool
     match kind {
         Kind::Whole(least, most) => number_in(value, least, most),
         Kind::Monthly(most) => numbers_in(value, most),
-        Kind::Want => numbers_in(value, 1_000_000_000),
+        Kind::Want => numbers_in(value, MOST_AMOUNT),
         Kind::CalendarMonths => items_in(value, 1, 12),
-        Kind::Inflow => numbers_in(value, 1_000_000_000),
+        Kind::Inflow => numbers_in(value, MOST_AMOUNT),
         Kind::MonthText => month_in(value),
         Kind::Points => points_in(value),
         _ => true,

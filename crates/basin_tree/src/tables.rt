@@ -2,6 +2,12 @@
 ghost use Rattle.std.specs.Prelude.{◌≡◌, map};
 ghost use Rattle.basin_tree.specs.Tables.{row_of, keys_of, table_name};
 
+/// The greatest inflow, want, capacity of a day, and area of a file.
+pub const MOST_AMOUNT: u64 = 1_000_000_000;
+
+/// The greatest storage and volume of a file.
+pub const MOST_STORED: u64 = 16_000_000_000;
+
 /// The tables of a basin file, in their order. The top table lists the entries of the others.
 #[derive(Clone, Copy, Debug, PartialEq, Eq)]
 pub enum BasinTable {
@@ -124,12 +130,12 @@ pub fn keys(table: BasinTable) -> &'static [Key]
             required!("name", Kind::Name),
             required!("from", Kind::Refers(Space::Nodes)),
             required!("to", Kind::Refers(Space::Nodes)),
-            optional!("per_day", Kind::Whole(0, 1_000_000_000)),
+            optional!("per_day", Kind::Whole(0, MOST_AMOUNT)),
             second!("closed", Kind::CalendarMonths),
         ],
         BasinTable::Reservoir => &[
             required!("node", Kind::Refers(Space::Nodes)),
-            required!("opening", Kind::Whole(0, 16_000_000_000)),
+            required!("opening", Kind::Whole(0, MOST_STORED)),
             optional!("area", Kind::Points),
             optional!("rate", Kind::Monthly(10_000)),
         ],
@@ -139,7 +145,7 @@ pub fn keys(table: BasinTable) -> &'static [Key]
             required!("date", Kind::DateText),
             required!("want", Kind::Want),
             optional!("order", Kind::Whole(0, 1_000_000)),
-            second!("volume", Kind::Whole(0, 16_000_000_000)),
+            second!("volume", Kind::Whole(0, MOST_STORED)),
         ],
         BasinTable::Instream => &[
             required!("name", Kind::Name),

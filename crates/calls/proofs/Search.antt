@@ -16,7 +16,7 @@ use Rattle.water_model.specs.declared.types.MonthRecord.{MonthRecord}
 use Rattle.water_model.specs.declared.types.Right.{Right}
 use Rattle.water_model.proofs.Order.{Has, seniors_below, seniors_ordered, find-passes, find-first, find-none}
 use Rattle.water_model.proofs.Seniority.{senior_trans}
-use Rattle.calls.specs.Callers.{is_short_at, first_caller}
+use Rattle.calls.specs.Callers.{is_short, is_short_at, first_caller}
 
 has_at : (xs : List ℕ) (i : ℕ) → i < length xs → Has xs (get_or xs i 0)
 has_at [] i l = absurd (omega arith)
@@ -36,7 +36,7 @@ tested : (b : Basin) (m : MonthRecord) (right node caller : ℕ) → nat_lt 0 (s
 unfolding calls
 tested b m right node caller wanted at =
     rw (wanted, at)
-    (turned (nat_lt (slice_index m.delivered caller) (slice_index m.want caller)) (is_senior b caller right)
+    (turned (is_short m caller) (is_senior b caller right)
     (option_map_or (λ cut. has cut node) (cut_of m caller) false))
   where
     turned : (p q r : Bool) → p && q && true && r ≡ (p && r) && q

@@ -9,11 +9,13 @@ use Rattle.water_model.specs.Places.{seniors_first}
 use Rattle.water_model.specs.declared.types.Basin.{Basin}
 use Rattle.water_model.specs.declared.types.MonthRecord.{MonthRecord}
 
+-- whether a right was delivered less than its want
+abbrev pub is_short : MonthRecord → ℕ → Bool
+is_short m right = nat_lt (slice_index m.delivered right) (slice_index m.want right)
+
 -- whether a right is short and has a set that holds the node
 abbrev pub is_short_at : MonthRecord → ℕ → ℕ → Bool
-is_short_at m caller node =
-    nat_lt (slice_index m.delivered caller) (slice_index m.want caller) && option_map_or (λ set. has set node)
-    (cut_of m caller) false
+is_short_at m caller node = is_short m caller && option_map_or (λ set. has set node) (cut_of m caller) false
 
 -- the most senior right that is short and has a set that holds the node, or none
 abbrev pub first_caller : Basin → MonthRecord → ℕ → Option ℕ

@@ -10,7 +10,7 @@ ghost use Rattle.water_model.specs.History.{FitsBasin, IsCallingRight};
 ghost use Rattle.water_model.specs.Text.{calling_right};
 ghost use Rattle.water_model.specs.Valid.{IsValidBasin};
 ghost use Rattle.rights_roll.specs.Rolls.{IsRollOf};
-ghost use Rattle.calls.specs.Callers.{AreCallers, AreFree, caller_at, is_short_at};
+ghost use Rattle.calls.specs.Callers.{AreCallers, AreFree, caller_at, is_short, is_short_at};
 
 use bit_words::{next_marked_in_both, unmark};
 use rights_roll::priority::is_senior;
@@ -25,10 +25,10 @@ pub const MOST_NODES: usize = 2000;
 const MOST_WORDS: usize = 32;
 
 /// Whether a right was delivered less than its want.
-fn is_short(month: &MonthRecord, right: u32) -> bool
+pub fn is_short(month: &MonthRecord, right: u32) -> bool
     requires delivered { right < length month.now.delivered }
     requires want { right < length month.now.want }
-    ensures { result ≡ nat_lt (slice_index month.now.delivered right) (slice_index month.now.want right) }
+    ensures { result ≡ is_short month.now right }
 {
     month.delivered[right as usize] < month.want[right as usize]
 }

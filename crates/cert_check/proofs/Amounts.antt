@@ -24,42 +24,12 @@ use Rattle.water_model.specs.declared.types.Inflows.{Inflows}
 use Rattle.water_model.specs.declared.types.MonthRecord.{MonthRecord}
 use Rattle.water_model.specs.declared.types.Reservoir as reservoir
 use Rattle.water_model.proofs.Balance.{entry_holds, entry_at, plan_balance}
+use Rattle.water_model.proofs.Lists.{front_partial}
 use Rattle.result_reader.specs.Records.{AreTextAmounts, HasTextAmounts, AreTextMonths}
 use Rattle.result_reader.proofs.Histories.{IsTextMonth-Follows}
 
 all_small : (xs : List ℕ) (n : ℕ) → length xs ≡ n → ((k : ℕ) → k < n → slice_index xs k ≤ 10 ^ 15) → AreTextAmounts xs
 all_small xs n len h = All-from_get_or (λ x. x ≤ 10 ^ 15) xs 0 (λ k l. h k (omega arith))
-
--- the front of a partial history is one
-
-get_front : {X : Type 0} (xs : List X) (i j : ℕ) (x : X) → slice_get (take i xs) j ≡ Some x → (j < i) ×
-    (slice_get xs j ≡ Some x)
-get_front [] zero j x h = cc
-get_front [] (suc i) j x h = cc
-get_front (y ∷ ys) zero j x h = cc
-get_front (y ∷ ys) (suc i) zero x h = (omega arith, h)
-get_front (y ∷ ys) (suc i) (suc j) x h = let r = get_front ys i j x h in (omega (arith, r.0), r.1)
-
-take_front : {X : Type 0} (xs : List X) (i j : ℕ) → j < i → take j (take i xs) ≡ take j xs
-take_front xs zero j l = absurd (omega arith)
-take_front [] (suc i) zero l = refl
-take_front [] (suc i) (suc j) l = refl
-take_front (y ∷ ys) (suc i) zero l = refl
-take_front (y ∷ ys) (suc i) (suc j) l = ap (λ zs. y ∷ zs) (take_front ys i j (omega arith))
-
-take_fewer : {X : Type 0} (xs : List X) (i : ℕ) → length (take i xs) ≤ length xs
-take_fewer [] zero = omega arith
-take_fewer [] (suc i) = omega arith
-take_fewer (x ∷ xs) zero = omega arith
-take_fewer (x ∷ xs) (suc i) = omega (arith, take_fewer xs i)
-
-front_partial : (b : Basin) (series : Inflows) (records : List MonthRecord) (i : ℕ) →
-    IsPartialHistory b series records → IsPartialHistory b series (take i records)
-front_partial b series records i h = record {
-  within = omega (arith, take_fewer records i, h.within);
-  each = λ j m e. (let r = get_front records i j m e in
-      subst (λ (xs : List MonthRecord). Follows b series xs m) (sym (take_front records i j r.0)) (h.each j m r.1));
-}
 
 -- Reservoirs.
 

@@ -1,6 +1,6 @@
 -- What a checker begins with.
-use Rattle.std.proofs.Common.{◌≡◌, ℕ, zero, suc, ◌+◌, ◌≤◌, Bool, true, false, refl, sym, ap, ◌∙◌, arith, List, [], ◌∷◌}
-use Rattle.std.proofs.Common.{◌++◌, length, map, replicate, filter, add-one, zero-add}
+use Rattle.std.proofs.Common.{◌≡◌, ℕ, ◌+◌, ◌≤◌, Bool, true, false, refl, sym, ap, ◌∙◌, arith, List, [], ◌∷◌}
+use Rattle.std.proofs.Common.{length, map, replicate, filter, add-one, zero-add}
 use Rattle.std.specs.Prelude.{Option, Some, None, ◌&&◌, nat_le, if◌then◌else◌}
 use Rattle.std.specs.List.{list_all}
 use Rattle.std.proofs.lemmas.Bool.Decides.{nat_tests}
@@ -11,6 +11,7 @@ use Rattle.lag_returns.specs.Lags as lag
 use Rattle.month_terms.specs.Blank.{blank_record}
 use Rattle.month_terms.specs.Terms.{HasReturned, HasUsed}
 use Rattle.month_terms.proofs.BlankRecords.{blank_fits}
+use Rattle.water_model.proofs.Lists.{numbers_more}
 use Rattle.water_model.specs.CutSets.{CutSets}
 use Rattle.water_model.specs.Places.{numbers_from}
 use Rattle.water_model.specs.Valid.{IsValidBasin}
@@ -25,13 +26,6 @@ use Rattle.cert_check.specs.declared.account.Account.{Account}
 use Rattle.cert_check.specs.declared.book.Book.{Book}
 
 -- One outlet more.
-
-numbers_more : (from count : ℕ) → numbers_from from (suc count) ≡ numbers_from from count ++ (from + count) ∷ []
-unfolding numbers_from
-numbers_more from zero = let same : from ≡ from + zero = omega arith in ap (λ n. n ∷ []) same
-numbers_more from (suc count) =
-    let last : suc from + count ≡ from + suc count = omega arith in
-    ap (λ ns. from ∷ ns) (numbers_more (suc from) count ∙ ap (λ n. numbers_from (suc from) count ++ n ∷ []) last)
 
 pub no_outlet : (p : ℕ → Bool) (n : ℕ) → list_all (λ other. nat_le other n) (filter p (numbers_from 0 0)) ≡ nat_le 0 n
 unfolding numbers_from

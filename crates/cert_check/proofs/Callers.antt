@@ -4,6 +4,7 @@ use Rattle.std.proofs.Common.{length, map, fold, append_assoc, append-nil, lengt
 use Rattle.std.specs.Prelude.{Option, Some, None, ◌&&◌, ◌==◌, not, nat_lt, slice_get, slice_index}
 use Rattle.std.specs.List.{flat_map}
 use Rattle.std.proofs.lemmas.Bool.Decides.{nat_tests}
+use Rattle.std.proofs.lemmas.Bool.{eqb-true}
 use Rattle.place_sums.specs.Sums.{total_where}
 use Rattle.water_model.specs.History.{cut_of, is_zone_of}
 use Rattle.water_model.specs.History.{calls}
@@ -15,7 +16,8 @@ use Rattle.water_model.specs.declared.types.Basin.{Basin}
 use Rattle.water_model.specs.declared.types.Inflows.{Inflows}
 use Rattle.water_model.specs.declared.types.MonthRecord.{MonthRecord}
 use Rattle.result_reader.specs.Telling.{Told, tell}
-use Rattle.cert_check.specs.Checking.{rows, is_short, caller_due, callers_due, is_due}
+use Rattle.calls.specs.Callers.{is_short}
+use Rattle.cert_check.specs.Checking.{rows, caller_due, callers_due, is_due}
 use Rattle.cert_check.proofs.Rows.{NoneHolds, AreGood, Section, is_same, same_is}
 use Rattle.cert_check.proofs.Calls.{IsSettled, loose_fails, settled, missing_fails, none_missing}
 
@@ -182,11 +184,8 @@ due_at [] (x ∷ rest) r c h = (rest, ap (λ y. y ∷ rest) (pair x (both (x.0 =
     both true false k = clash k
     both false q k = clash k
 
-    equal : (x y : ℕ) → x == y ≡ true → x ≡ y
-    equal x y h = grind (arith, nat_tests)
-
     pair : (x : ℕ × ℕ) → (x.0 == r ≡ true) × (x.1 == c ≡ true) → x ≡ (r, c)
-    pair (i, j) k = rw (equal i r k.0, equal j c k.1) refl
+    pair (i, j) k = rw (eqb-true i r k.0, eqb-true j c k.1) refl
 due_at (x ∷ before) rest r c h = due_at before rest r c h
 
 pub called_told : (b : Basin) (series : Inflows) (others rest before : List (ℕ × ℕ)) (t : Told) →

@@ -4,7 +4,7 @@ use Rattle.std.proofs.Common.{inr, List, [], ◌∷◌, ◌++◌, length, fold}
 use Rattle.std.specs.Prelude.{Option, Some, None, ◌&&◌, ◌||◌, not, is_none, slice_set}
 use Rattle.std.specs.List.{list_any, flat_map}
 use Rattle.std.specs.Option.{option_map_or}
-use Rattle.std.proofs.lemmas.Bool.{cases_eq}
+use Rattle.std.proofs.lemmas.Bool.{cases_eq, not-false}
 use Rattle.std.proofs.Math.ListN.{length-set}
 use Rattle.water_model.specs.Basin.{is_senior}
 use Rattle.water_model.specs.CutSets.{CutSets, set_of, with_set}
@@ -23,7 +23,8 @@ use Rattle.water_model.proofs.Seniority.{senior_trans}
 use Rattle.result_reader.specs.Due.{is_member}
 use Rattle.result_reader.specs.Telling.{Told, tell, with_supply}
 use Rattle.result_reader.proofs.Telling.{Sets, entry_set, tell_call, put_cut, fold-both}
-use Rattle.cert_check.specs.Checking.{rows, is_short, has_tight, is_tight, passes, cut_missing}
+use Rattle.calls.specs.Callers.{is_short}
+use Rattle.cert_check.specs.Checking.{rows, has_tight, is_tight, passes, cut_missing}
 use Rattle.cert_check.proofs.Rows.{NoneHolds, AreGood, members_good, good_both, good_rest}
 
 clash : {X : Type 0} → true ≡ false → X
@@ -351,16 +352,12 @@ calls_told b series m sized (x ∷ xs) below t s g h r set k e =
         sees : Sees b series m (put_cut t x own).now
         sees = sees_more b series m t x own s
 
-        not_met : (p : Bool) → not p ≡ false → p ≡ true
-        not_met true q = refl
-        not_met false q = clash q
-
         by_place : Has (x ∷ xs) r → Answer
         by_place (inl is) =
             let same : Some own ≡ Some set = sym held ∙ (ap (cut_of m) (sym is) ∙ e) in
             let eq : own ≡ set = cc in
             let settled_now = settled_before b series (λ r. cut_of m r) xs (behind_call t x own) rest ended x refl in
-            let short : is_short t.now x ≡ true = not_met (is_short t.now x) (a.0.1.1.0) in
+            let short : is_short t.now x ≡ true = not-false (is_short t.now x) (a.0.1.1.0) in
             let tight =
             sym (told_tight b series m (put_cut t x own).now x own sees
             (set_here t.now.cuts x (Some own) (omega (arith, below x (inl refl), s.sets)))) ∙ settled_now in

@@ -6,10 +6,7 @@ use Rattle.water_model.specs.declared.types.Basin.{Basin}
 use Rattle.water_model.specs.declared.types.Inflows.{Inflows}
 use Rattle.result_reader.specs.Telling.{Told}
 use Rattle.cert_check.specs.Checking.{Row, rows, first_row}
-use Rattle.cert_check.specs.Coming.{Awaits}
 use Rattle.cert_check.specs.FirstRows.{first_of}
-use Rattle.cert_check.specs.Keeping.{Keeps}
-use Rattle.cert_check.specs.declared.account.Account.{Account}
 use Rattle.cert_check.specs.declared.refuted.RefutedKind.{RefutedKind}
 
 found : (xs : List Row) → option_map (λ (row : Row). row.0) (find (λ (row : Row). row.1) xs) ≡ first_of xs
@@ -39,7 +36,3 @@ none_first ((k, true) ∷ xs) ys h = cc
 none_first ((k, false) ∷ xs) ys h = none_first xs ys h
 
 -- What is known stays while what is told stays.
-
-pub still_awaits : (b : Basin) (series : Inflows) (a c : Account) (i : Item) → Awaits b series a i →
-    ((t : Told) → Keeps b series a t → Keeps b series c t) → Awaits b series c i
-still_awaits b series a c i h k = record { told = h.told; keeps = k h.told h.keeps; comes = h.comes }

@@ -1,7 +1,7 @@
 -- A month that follows others is good.
-use Rattle.std.proofs.Common.{◌≡◌, ℕ, ◌+◌, ◌<◌, ◌≤◌, Bool, true, false, refl, ap, arith, List, length}
-use Rattle.std.specs.Prelude.{Option, Some, None, ◌&&◌, ◌==◌, min, nat_lt, slice_index}
-use Rattle.std.proofs.lemmas.Bool.Decides.{nat_tests}
+use Rattle.std.proofs.Common.{◌≡◌, ℕ, ◌+◌, ◌≤◌, Bool, true, false, refl, ap, arith, List, length}
+use Rattle.std.specs.Prelude.{Option, Some, None, ◌&&◌, ◌==◌, min, slice_index}
+use Rattle.std.proofs.lemmas.Bool.{eq-eqb, eqb-true, le-ltb, ltb-false, ltb-true}
 use Rattle.water_model.specs.Basin.{taking_node, instream_link}
 use Rattle.water_model.specs.Cuts.{separates, IsTight, cut_capacity, cut_kept}
 use Rattle.water_model.specs.History.{Follows}
@@ -19,21 +19,6 @@ use Rattle.cert_check.proofs.Calls.{HasRightSets}
 use Rattle.cert_check.proofs.Month.{IsGoodMonth}
 use Rattle.cert_check.proofs.Rows.{same_is}
 
-not_more : (x y : ℕ) → y ≤ x → nat_lt x y ≡ false
-not_more x y h = grind (arith, nat_tests)
-
-equal_is : (x y : ℕ) → x ≡ y → x == y ≡ true
-equal_is x y h = grind (arith, nat_tests)
-
-is_less : (x y : ℕ) → nat_lt x y ≡ true → x < y
-is_less x y h = grind (arith, nat_tests)
-
-less_is : (x y : ℕ) → x < y → nat_lt x y ≡ true
-less_is x y h = grind (arith, nat_tests)
-
-is_most : (x y : ℕ) → nat_lt x y ≡ false → y ≤ x
-is_most x y h = grind (arith, nat_tests)
-
 -- Tight cuts, as a test and as a fact.
 
 pub tight_is : (b : Basin) (m : MonthRecord) (r : ℕ) (cut : List Bool) → IsTight b m.month m.supply m.delivered r cut →
@@ -41,8 +26,8 @@ pub tight_is : (b : Basin) (m : MonthRecord) (r : ℕ) (cut : List Bool) → IsT
 tight_is b m r cut h =
     all (length cut == length b.nodes) (separates b (taking_node b r) (instream_link b r) cut)
     (cut_capacity b m.month m.supply cut == slice_index m.delivered r + cut_kept b m.delivered r cut)
-    (equal_is (length cut) (length b.nodes) h.is_cut.one_each)
-    h.is_cut.separates (equal_is _ _ h.tight)
+    (eq-eqb (length cut) (length b.nodes) h.is_cut.one_each)
+    h.is_cut.separates (eq-eqb _ _ h.tight)
   where
     all : (p q s : Bool) → p ≡ true → q ≡ true → s ≡ true → p && q && s ≡ true
     all p q s e f g = rw (e, f, g) refl
@@ -55,16 +40,13 @@ is_tight_is b m r cut h =
     (cut_capacity b m.month m.supply cut == slice_index m.delivered r + cut_kept b m.delivered r cut) h in
     record {
       is_cut = record {
-        one_each = equal (length cut) (length b.nodes) three.0;
+        one_each = eqb-true (length cut) (length b.nodes) three.0;
         separates = three.1;
       };
-      tight = equal (cut_capacity b m.month m.supply cut) (slice_index m.delivered r + cut_kept b m.delivered r cut)
+      tight = eqb-true (cut_capacity b m.month m.supply cut) (slice_index m.delivered r + cut_kept b m.delivered r cut)
           three.2;
     }
   where
-    equal : (x y : ℕ) → x == y ≡ true → x ≡ y
-    equal x y e = grind (arith, nat_tests)
-
     parts : (p q s : Bool) → p && q && s ≡ true → (p ≡ true) × (q ≡ true) × (s ≡ true)
     parts true true true e = (refl, refl, refl)
     parts true true false e = cc
@@ -75,16 +57,16 @@ right_sets : (b : Basin) (series : Inflows) (before : List MonthRecord) (m : Mon
     IsTextMonth b series before m → HasRightSets b m
 right_sets b series before m f t = record {
   sized = λ r set e. (has_set b series before m t r set e).1;
-  short = λ r l short. (let s = f.short r l (is_less (slice_index m.delivered r) (slice_index m.want r) short) in
+  short = λ r l short. (let s = f.short r l (ltb-true (slice_index m.delivered r) (slice_index m.want r) short) in
       (s.0, s.1, tight_is b m r s.0 s.2));
-  met = λ r l met. f.met r l (is_most (slice_index m.delivered r) (slice_index m.want r) met);
+  met = λ r l met. f.met r l (ltb-false (slice_index m.delivered r) (slice_index m.want r) met);
 }
 
 amount_right : (b : Basin) (m : MonthRecord) (r : ℕ) (link : Option ℕ) →
     slice_index m.plan.take r ≤ slice_index m.want r →
     slice_index m.delivered r ≡ delivery_by_link link (slice_index m.want r) m.plan r →
     amount_wrong link m.plan.flow (slice_index m.delivered r) (slice_index m.want r) ≡ false
-amount_right b m r None most e = not_more (slice_index m.want r) (slice_index m.delivered r) (omega (arith, e))
+amount_right b m r None most e = le-ltb (slice_index m.want r) (slice_index m.delivered r) (omega (arith, e))
 amount_right b m r (Some link) most e =
     same_is (slice_index m.delivered r) (min (slice_index m.want r) (slice_index m.plan.flow link)) e
 
@@ -95,13 +77,13 @@ follows_good b series before m f t = record {
   evaporated = λ x h. f.evaporated x (has-with_line b quantity.Evaporated x h).0;
   returned = λ x h. f.returned x (has-with_line b quantity.Returned x h).0;
   used = λ x h. f.used x (has-with_line b quantity.Used x h).0;
-  flow = λ x h. not_more (carry_of b m.month x) (slice_index m.plan.flow x)
+  flow = λ x h. le-ltb (carry_of b m.month x) (slice_index m.plan.flow x)
       (f.plan.carries x (has-with_line b quantity.Flow x h).0);
   deliver =
       λ x h. (let l = seniors_below b.rights x h in
       (f.want x l, amount_right b m x (instream_link b x) (f.plan.wants x l) (f.delivered x l)));
   balance =
-      λ n l. equal_is (slice_index m.supply n + inflow_to b m.plan.flow n)
+      λ n l. eq-eqb (slice_index m.supply n + inflow_to b m.plan.flow n)
       (outflow_from b m.plan.flow n + taken_at b m.plan.take n + slice_index m.plan.out n) (f.plan.balance n l);
   sets = right_sets b series before m f t;
   closing = λ x h. f.closing x (has-with_line b quantity.Closing x h).0;

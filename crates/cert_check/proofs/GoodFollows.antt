@@ -1,19 +1,15 @@
 -- A good month follows those before it.
 use Rattle.std.proofs.Common.{◌≡◌, ℕ, zero, suc, ◌+◌, ◌<◌, ◌≤◌, Bool, true, false, refl, sym, ap, ◌∙◌, arith, inl, inr}
-use Rattle.std.proofs.Common.{List, [], ◌∷◌, length, map, replicate}
-use Rattle.std.specs.Prelude.{Option, Some, None, ◌||◌, ◌==◌, ◌⊎◌, min, is_some, nat_lt, slice_get, slice_index, filter}
+use Rattle.std.proofs.Common.{List, length, map, replicate}
+use Rattle.std.specs.Prelude.{Option, Some, None, ◌⊎◌, min, is_some, slice_index, filter}
 use Rattle.std.specs.Prelude.{if◌then◌else◌}
-use Rattle.std.specs.List.{list_any}
-use Rattle.std.proofs.lemmas.Bool.{cases_Bool}
-use Rattle.std.proofs.lemmas.Bool.Decides.{nat_tests}
+use Rattle.std.proofs.lemmas.Bool.{cases_Bool, eqb-true, le-ltb, lt-ltb, ltb-false}
 use Rattle.std.proofs.lemmas.Grind.{same_number_lists}
 use Rattle.std.proofs.lemmas.List.{length-replicate, length-map}
-use Rattle.place_sums.proofs.Totals.{total_zero}
-use Rattle.result_reader.proofs.AllTold.{nothing_used}
+use Rattle.result_reader.proofs.AllTold.{nothing_returns, nothing_used}
 use Rattle.water_model.specs.Basin.{taking_node, taking_node_of_kind, instream_link, link_of_kind}
 use Rattle.water_model.specs.History.{Follows, cut_of, opening_after}
-use Rattle.water_model.specs.Hydrology.{run_month, inflow_at, stored_at, returned_at, returned_by, used_of}
-use Rattle.water_model.specs.Lookups.{of_entry}
+use Rattle.water_model.specs.Hydrology.{run_month, inflow_at, stored_at, returned_at, used_of}
 use Rattle.water_model.specs.Entries.{count_in, in_order}
 use Rattle.water_model.specs.Places.{numbers_from, places_of, seniors_first}
 use Rattle.water_model.specs.Quantities.{amounts_of, entries_with_line, has_line, space_of}
@@ -24,7 +20,6 @@ use Rattle.water_model.specs.declared.quantity.Quantity.TheVariants as quantity
 use Rattle.water_model.specs.declared.types.Basin.{Basin}
 use Rattle.water_model.specs.declared.types.Inflows.{Inflows}
 use Rattle.water_model.specs.declared.types.MonthRecord.{MonthRecord}
-use Rattle.water_model.specs.declared.types.ReturnRow.{ReturnRow}
 use Rattle.water_model.specs.declared.types.RightKind.{RightKind}
 use Rattle.water_model.specs.declared.types.RightKind.TheVariants as kind
 use Rattle.water_model.proofs.Balance.{entry_at, kind_is}
@@ -38,19 +33,7 @@ use Rattle.cert_check.specs.Checking.{amount_wrong}
 use Rattle.cert_check.proofs.Follows.{is_tight_is}
 use Rattle.cert_check.proofs.Month.{IsGoodMonth}
 use Rattle.cert_check.proofs.Rows.{is_same}
-use Rattle.cert_check.proofs.Sets.{length-put_sets}
-
-is_most : (x y : ℕ) → nat_lt x y ≡ false → y ≤ x
-is_most x y h = grind (arith, nat_tests)
-
-less_is : (x y : ℕ) → x < y → nat_lt x y ≡ true
-less_is x y h = grind (arith, nat_tests)
-
-not_less : (x y : ℕ) → y ≤ x → nat_lt x y ≡ false
-not_less x y h = grind (arith, nat_tests)
-
-equal : (x y : ℕ) → x == y ≡ true → x ≡ y
-equal x y h = grind (arith, nat_tests)
+use Rattle.result_reader.proofs.Sets.{length-put_sets}
 
 -- Lists that are told.
 
@@ -89,34 +72,6 @@ by_filter p xs k x y has told none zero_there = elim (cases_Bool (p k)) [
       ∙ sym (zero_there fails)
 ]
 
--- Returns that no row brings.
-
-none_passes : {X : Type 0} (p : X → Bool) (xs : List X) (k : ℕ) (x : X) → list_any p xs ≡ false →
-    slice_get xs k ≡ Some x → p x ≡ false
-none_passes p [] k x h e = cc
-none_passes p (y ∷ ys) zero x h e = let same : Some y ≡ Some x = e in let is : y ≡ x = cc in
-    rw (← is) (first (p y) (list_any p ys) h)
-  where
-    first : (q r : Bool) → q || r ≡ false → q ≡ false
-    first true r g = cc
-    first false r g = refl
-none_passes p (y ∷ ys) (suc k) x h e = none_passes p ys k x (second (p y) (list_any p ys) h) e
-  where
-    second : (q r : Bool) → q || r ≡ false → r ≡ false
-    second true r g = cc
-    second false r g = g
-
-nothing_returns : (b : Basin) (deliveries : List (List ℕ)) (n i : ℕ) →
-    list_any (λ row. row.node == n) b.returns ≡ false → returned_at b deliveries n i ≡ 0
-nothing_returns b deliveries n i h =
-    total_zero (length b.returns)
-    (λ k. of_entry b.returns k (λ row. if row.node == n then returned_by row deliveries i else 0) 0)
-    (λ k l. at_row k (entry_at b.returns k l))
-  where
-    at_row : (k : ℕ) → (row : ReturnRow) × (slice_get b.returns k ≡ Some row) →
-        of_entry b.returns k (λ row. if row.node == n then returned_by row deliveries i else 0) 0 ≡ 0
-    at_row k (row, is) = rw (is, none_passes (λ row. row.node == n) b.returns k row h is) refl
-
 -- A right takes at a node, or is on a link.
 
 TakesOrStays : Option ℕ → Option ℕ → Type 0
@@ -149,7 +104,7 @@ served : (b : Basin) (m : MonthRecord) (r : ℕ) (taking link : Option ℕ) → 
     IsServed b m r
 unfolding TakesOrStays
 served b m r (Some node) None t l s take right = record {
-  most = omega (arith, take, is_most (slice_index m.want r) (slice_index m.delivered r) right);
+  most = omega (arith, take, ltb-false (slice_index m.want r) (slice_index m.delivered r) right);
   instream = λ e. (let never : Some node ≡ None = sym t ∙ e in cc);
   delivered = rw l (sym take);
 }
@@ -204,20 +159,20 @@ good_follows b series before m valid a g index month opens = record {
     flow_len = listed_len quantity.Flow;
     take_len = told_len (seniors_first b) _ (length b.rights) m.plan.take a.take;
     out_len = listed_len quantity.Outflow;
-    carries = λ e l. is_most (carry_of b m.month e) (slice_index m.plan.flow e)
+    carries = λ e l. ltb-false (carry_of b m.month e) (slice_index m.plan.flow e)
         (g.flow e (with_line-has b quantity.Flow e l refl));
     wants = λ r l. (right r l).most;
     instream = λ r l e. (right r l).instream e;
     outlets = λ n l e. unlisted quantity.Outflow n
         (λ h. (let both : false ≡ true = sym e ∙ (has-with_line b quantity.Outflow n h).1 in cc));
     balance =
-        λ n l. equal (slice_index m.supply n + inflow_to b m.plan.flow n)
+        λ n l. eqb-true (slice_index m.supply n + inflow_to b m.plan.flow n)
         (outflow_from b m.plan.flow n + taken_at b m.plan.take n + slice_index m.plan.out n) (g.balance n l);
   };
   delivered = λ r l. (right r l).delivered;
-  short = λ r l short. (let s = g.sets.short r l (less_is (slice_index m.delivered r) (slice_index m.want r) short) in
+  short = λ r l short. (let s = g.sets.short r l (lt-ltb (slice_index m.delivered r) (slice_index m.want r) short) in
       (s.0, s.1, is_tight_is b m r s.0 s.2));
-  met = λ r l met. g.sets.met r l (not_less (slice_index m.delivered r) (slice_index m.want r) met);
+  met = λ r l met. g.sets.met r l (le-ltb (slice_index m.delivered r) (slice_index m.want r) met);
   closing = λ v l. g.closing v (with_line-has b quantity.Closing v l refl);
 }
   where

@@ -13,7 +13,8 @@ use Rattle.water_model.specs.declared.types.MonthRecord.{MonthRecord}
 use Rattle.water_model.proofs.Order.{seniors_have, seniors_below}
 use Rattle.result_reader.specs.Telling.{Told, tell}
 use Rattle.result_reader.proofs.WholeMonth.{IsAllTold}
-use Rattle.cert_check.specs.Checking.{is_short, is_tight, balances, callers_due}
+use Rattle.calls.specs.Callers.{is_short}
+use Rattle.cert_check.specs.Checking.{is_tight, balances, callers_due}
 use Rattle.cert_check.proofs.Rows.{AreGood, good_section, good_first, good_rest}
 use Rattle.cert_check.proofs.Sections as section
 use Rattle.cert_check.proofs.Outflows.{IsInBalance, outflows_told}

@@ -3,7 +3,7 @@ use Rattle.std.proofs.Common.{◌≡◌, ℕ, Bool, true, false, refl, sym, ap, 
 use Rattle.std.proofs.Common.{◌++◌, length, map, append_assoc}
 use Rattle.std.specs.Prelude.{Option, Some, None, ◌==◌, if◌then◌else◌}
 use Rattle.std.specs.List.{flat_map}
-use Rattle.std.proofs.lemmas.Bool.{cases_eq}
+use Rattle.std.proofs.lemmas.Bool.{cases_eq, eqb-true}
 use Rattle.std.proofs.lemmas.Bool.Decides.{nat_tests}
 use Rattle.water_text.specs.declared.month.Month.{Month}
 use Rattle.water_model.specs.Places.{members_from}
@@ -15,7 +15,7 @@ use Rattle.water_model.proofs.Order.{Has}
 use Rattle.result_reader.specs.Form.{shape_of, is_optional, fits, IsFollowedBy, Fills}
 use Rattle.result_reader.specs.declared.shape.Shape.{Shape}
 use Rattle.result_reader.specs.declared.shape.Shape.TheVariants as shape
-use Rattle.result_reader.proofs.Grammar.{fits_shape}
+use Rattle.result_reader.proofs.Steps.{fits_shape}
 use Rattle.cert_check.proofs.Callers.{called_line}
 
 -- what a line says beside its word and its first name
@@ -106,11 +106,8 @@ here f x y = rw (itself x) refl
 elsewhere : {Y : Type 0} (f : ℕ → Y) (x : ℕ) (y : Y) (k : ℕ) → (k ≡ x → ⊥) → with_place f x y k ≡ f k
 elsewhere f x y k h = by_test (k == x) refl
   where
-    equal : (k x : ℕ) → k == x ≡ true → k ≡ x
-    equal k x e = grind (arith, nat_tests)
-
     by_test : (t : Bool) → k == x ≡ t → with_place f x y k ≡ f k
-    by_test true e = absurd (h (equal k x e))
+    by_test true e = absurd (h (eqb-true k x e))
     by_test false e = rw e refl
 
 -- the lines of a section that has one for each place

@@ -16,7 +16,6 @@ pub mod Feeding
 pub mod RunGood
 pub mod Amounts
 pub mod HistoriesGiveYes
-pub mod Sets
 pub mod GoodFollows
 pub mod Inverts
 pub mod SomeOutlet

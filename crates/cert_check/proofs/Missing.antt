@@ -1,9 +1,9 @@
 -- Which rights a line passes over, by the order of seniority.
 use Rattle.std.proofs.Common.{◌≡◌, ℕ, zero, suc, ◌<◌, Bool, true, false, refl, sym, ap, ◌∙◌, arith, inl, inr, List, []}
 use Rattle.std.proofs.Common.{◌∷◌, length, take, drop}
-use Rattle.std.specs.Prelude.{None, ◌⊎◌, ◌&&◌, ◌||◌, is_none, slice_index}
+use Rattle.std.specs.Prelude.{None, ◌⊎◌, ◌||◌, is_none, slice_index}
 use Rattle.std.specs.List.{list_any}
-use Rattle.std.proofs.lemmas.Bool.{cases_Bool}
+use Rattle.std.proofs.lemmas.Bool.{cases_Bool, and_parts, or_parts}
 use Rattle.water_model.specs.Basin.{is_senior}
 use Rattle.water_model.specs.History.{cut_of}
 use Rattle.water_model.specs.Places.{seniors_first}
@@ -15,7 +15,8 @@ use Rattle.water_model.specs.declared.types.Inflows.{Inflows}
 use Rattle.water_model.proofs.Order.{Has, IsOrdered, seniors_have, seniors_below, seniors_ordered}
 use Rattle.water_model.proofs.Seniority.{senior_trans}
 use Rattle.result_reader.specs.Telling.{Told}
-use Rattle.cert_check.specs.Checking.{is_short, passes, cut_missing}
+use Rattle.calls.specs.Callers.{is_short}
+use Rattle.cert_check.specs.Checking.{passes, cut_missing}
 use Rattle.cert_check.specs.Keeping.{Keeps, lacks_call}
 use Rattle.cert_check.specs.Walks.{ArePassed, IsMissed}
 use Rattle.cert_check.specs.declared.account.Account.{Account}
@@ -34,16 +35,8 @@ by_place (x ∷ xs) (suc k) y (inr h) = elim (by_place xs k y h) [ inl front ↦
 -- nothing in a list passes a test that nothing in it passes
 none_in : (p : ℕ → Bool) (xs : List ℕ) (y : ℕ) → list_any p xs ≡ false → Has xs y → p y ≡ false
 none_in p [] y h m = absurd m
-none_in p (x ∷ xs) y h (inl e) = ap p e ∙ (parts (p x) (list_any p xs) h).0
-  where
-    parts : (q r : Bool) → q || r ≡ false → (q ≡ false) × (r ≡ false)
-    parts true r k = cc
-    parts false r k = (refl, k)
-none_in p (x ∷ xs) y h (inr m) = none_in p xs y (parts (p x) (list_any p xs) h).1 m
-  where
-    parts : (q r : Bool) → q || r ≡ false → (q ≡ false) × (r ≡ false)
-    parts true r k = cc
-    parts false r k = (refl, k)
+none_in p (x ∷ xs) y h (inl e) = ap p e ∙ (or_parts (p x) (list_any p xs) h).0
+none_in p (x ∷ xs) y h (inr m) = none_in p xs y (or_parts (p x) (list_any p xs) h).1 m
 
 -- behind a place each right is the one there, or junior to it
 behind_place : (b : Basin) (xs : List ℕ) (k y : ℕ) → IsOrdered b.rights xs → Has (drop k xs) y →
@@ -125,13 +118,9 @@ some_missed b series a t item k m = elim (cases_Bool (cut_missing b t item)) [
         one : (p q : ℕ → Bool) → list_any p (r ∷ []) ≡ list_any q (r ∷ []) → p r ≡ q r
         one p q e = either (p r) (q r) e
 
-    parts : (p q : Bool) → p && q ≡ true → (p ≡ true) × (q ≡ true)
-    parts true q e = (refl, e)
-    parts false q e = cc
-
     never : cut_missing b t item ≡ false → ⊥
     never none =
-        let two = parts (is_short t.now r) (is_none (cut_of t.now r)) told in
+        let two = and_parts (is_short t.now r) (is_none (cut_of t.now r)) told in
         let set =
         none_missing b t item none r (seniors_below b.rights r (has_at (seniors_first b) m.place m.within)) two.0
         m.passed in

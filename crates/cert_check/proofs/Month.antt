@@ -27,7 +27,8 @@ use Rattle.water_model.specs.declared.types.MonthRecord.{MonthRecord}
 use Rattle.water_model.proofs.Order.{Has, seniors_below}
 use Rattle.water_model.proofs.Quantities.{amount_lines, flat_map_one}
 use Rattle.result_reader.specs.Telling.{Told, tell, blank_month, with_supply}
-use Rattle.result_reader.proofs.MonthTold.{Makes, makes_amounts, makes_deliveries, tells_calls, put_sets, with_sets}
+use Rattle.result_reader.proofs.MonthTold.{Makes, makes_amounts, makes_deliveries, tells_calls, with_sets}
+use Rattle.result_reader.proofs.Sets.{put_sets}
 use Rattle.result_reader.proofs.Telling.{set_all, tell_call, fold-both}
 use Rattle.result_reader.proofs.WholeMonth.{IsAllTold}
 use Rattle.cert_check.specs.Checking.{balances, callers_due, caller_due, amount_wrong}

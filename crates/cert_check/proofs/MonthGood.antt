@@ -15,7 +15,8 @@ use Rattle.water_model.specs.declared.types.MonthRecord.{MonthRecord}
 use Rattle.water_model.proofs.Order.{seniors_have, seniors_below, seniors_ordered}
 use Rattle.result_reader.specs.Telling.{Told, tell}
 use Rattle.result_reader.proofs.WholeMonth.{IsAllTold}
-use Rattle.cert_check.specs.Checking.{is_short, balances, callers_due}
+use Rattle.calls.specs.Callers.{is_short}
+use Rattle.cert_check.specs.Checking.{balances, callers_due}
 use Rattle.cert_check.proofs.Rows.{AreGood, section_good, section_keeps, good_both}
 use Rattle.cert_check.proofs.Sections as section
 use Rattle.cert_check.proofs.Outflows.{IsInBalance, outlets_rise, outflows_good}

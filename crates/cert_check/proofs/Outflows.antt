@@ -3,7 +3,7 @@ use Rattle.std.proofs.Common.{◌≡◌, ℕ, zero, suc, ◌<◌, ◌≤◌, Boo
 use Rattle.std.proofs.Common.{[], ◌∷◌, ◌++◌, length, map, fold, filter, append_assoc}
 use Rattle.std.specs.Prelude.{None, ◌&&◌, ◌||◌, not, nat_le}
 use Rattle.std.specs.List.{list_all, list_any}
-use Rattle.std.proofs.lemmas.Bool.Decides.{nat_tests}
+use Rattle.std.proofs.lemmas.Bool.{le-leb, lt-leb}
 use Rattle.water_model.specs.Basin.{is_outlet}
 use Rattle.water_model.specs.Places.{numbers_from, places_of, outlets}
 use Rattle.water_model.specs.declared.item.Item.TheVariants as line
@@ -52,10 +52,7 @@ last_greatest (z ∷ xs) x y h (inr m) = last_greatest xs x y h.1 m
 
 greater_fails : (xs : List ℕ) (x y : ℕ) → Has xs y → x < y → list_all (λ other. nat_le other x) xs ≡ false
 greater_fails [] x y h l = absurd h
-greater_fails (z ∷ xs) x y (inl is) l = rw (fails z x (omega arith)) refl
-  where
-    fails : (z x : ℕ) → x < z → nat_le z x ≡ false
-    fails z x h = grind (arith, nat_tests)
+greater_fails (z ∷ xs) x y (inl is) l = rw (lt-leb z x (omega arith)) refl
 greater_fails (z ∷ xs) x y (inr m) l = rw (greater_fails xs x y m l) (never (nat_le z x))
   where
     never : (p : Bool) → p && false ≡ false
@@ -64,10 +61,7 @@ greater_fails (z ∷ xs) x y (inr m) l = rw (greater_fails xs x y m l) (never (n
 
 all_at_most : (xs : List ℕ) (x : ℕ) → ((y : ℕ) → Has xs y → y ≤ x) → list_all (λ other. nat_le other x) xs ≡ true
 all_at_most [] x h = refl
-all_at_most (z ∷ xs) x h = rw (passes z x (h z (inl refl)), all_at_most xs x (λ y m. h y (inr m))) refl
-  where
-    passes : (z x : ℕ) → z ≤ x → nat_le z x ≡ true
-    passes z x k = grind (arith, nat_tests)
+all_at_most (z ∷ xs) x h = rw (le-leb z x (h z (inl refl)), all_at_most xs x (λ y m. h y (inr m))) refl
 
 -- every node is in balance, by what is told
 unfoldable pub IsInBalance : Basin → Inflows → MonthRecord → Type 0

@@ -1,7 +1,8 @@
 -- Where a line stands in a list of lines, and lists of lines that all pass a test.
-use Rattle.std.proofs.Common.{◌≡◌, ℕ, Bool, true, false, refl, sym, ap, inl, inr, List, [], ◌∷◌, ◌++◌, map}
-use Rattle.std.specs.Prelude.{Option, Some, None, ◌⊎◌, ◌&&◌}
+use Rattle.std.proofs.Common.{◌≡◌, ℕ, Bool, true, refl, sym, ap, inl, inr, List, [], ◌∷◌, ◌++◌, map}
+use Rattle.std.specs.Prelude.{Option, Some, None, ◌⊎◌}
 use Rattle.std.specs.List.{list_all, flat_map}
+use Rattle.std.proofs.lemmas.Bool.{and_parts}
 use Rattle.water_model.specs.Places.{members_from}
 use Rattle.water_model.specs.Text.{call_items}
 use Rattle.water_model.specs.declared.item.Item.{Item}
@@ -31,24 +32,20 @@ stands_in (x ∷ first) second (y ∷ xs) i ys e =
 
 -- Lines that all pass a test.
 
-parts : (p q : Bool) → p && q ≡ true → (p ≡ true) × (q ≡ true)
-parts true q h = (refl, h)
-parts false q h = cc
-
 pub all_both : (p : Item → Bool) (xs ys : List Item) → list_all p xs ≡ true → list_all p ys ≡ true →
     list_all p (xs ++ ys) ≡ true
 all_both p [] ys h k = k
-all_both p (x ∷ xs) ys h k = (let two = parts (p x) (list_all p xs) h in rw (two.0, all_both p xs ys two.1 k) refl)
+all_both p (x ∷ xs) ys h k = (let two = and_parts (p x) (list_all p xs) h in rw (two.0, all_both p xs ys two.1 k) refl)
 
 pub all_first : (p : Item → Bool) (xs ys : List Item) → list_all p (xs ++ ys) ≡ true → list_all p xs ≡ true
 all_first p [] ys h = refl
 all_first p (x ∷ xs) ys h =
-    (let two = parts (p x) (list_all p (xs ++ ys)) h in rw (two.0, all_first p xs ys two.1) refl)
+    (let two = and_parts (p x) (list_all p (xs ++ ys)) h in rw (two.0, all_first p xs ys two.1) refl)
 
 pub all_at : (p : Item → Bool) (xs : List Item) (i : Item) (ys : List Item) → list_all p (xs ++ i ∷ ys) ≡ true →
     p i ≡ true
-all_at p [] i ys h = (parts (p i) (list_all p ys) h).0
-all_at p (x ∷ xs) i ys h = all_at p xs i ys (parts (p x) (list_all p (xs ++ i ∷ ys)) h).1
+all_at p [] i ys h = (and_parts (p i) (list_all p ys) h).0
+all_at p (x ∷ xs) i ys h = all_at p xs i ys (and_parts (p x) (list_all p (xs ++ i ∷ ys)) h).1
 
 pub all_each : {X : Type 0} (p : Item → Bool) (item : X → Item) → ((x : X) → p (item x) ≡ true) → (xs : List X) →
     list_all p (map item xs) ≡ true
@@ -71,4 +68,4 @@ pub all_weaker : (p q : Item → Bool) → ((i : Item) → p i ≡ true → q i 
     list_all p xs ≡ true → list_all q xs ≡ true
 all_weaker p q h [] k = refl
 all_weaker p q h (x ∷ xs) k =
-    (let two = parts (p x) (list_all p xs) k in rw (h x two.0, all_weaker p q h xs two.1) refl)
+    (let two = and_parts (p x) (list_all p xs) k in rw (h x two.0, all_weaker p q h xs two.1) refl)

@@ -11,7 +11,8 @@ use Rattle.water_model.specs.declared.types.Basin.{Basin}
 use Rattle.water_model.specs.declared.types.Inflows.{Inflows}
 use Rattle.water_model.proofs.Order.{Has}
 use Rattle.result_reader.specs.Telling.{Told, tell}
-use Rattle.cert_check.specs.Checking.{Row, rows, first_row, is_short, passes}
+use Rattle.calls.specs.Callers.{is_short}
+use Rattle.cert_check.specs.Checking.{Row, rows, first_row, passes}
 
 -- no row of the list holds
 abbrev pub NoneHolds : List Row → Type 0

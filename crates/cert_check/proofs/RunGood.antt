@@ -4,6 +4,9 @@ use Rattle.std.proofs.Common.{fold, take, append_assoc, length-append}
 use Rattle.std.specs.Prelude.{Option, Some, None, Ok, ◌||◌, slice_get, slice_index}
 use Rattle.std.specs.List.{flat_map}
 use Rattle.std.proofs.lemmas.List.Folds.{list_any-append}
+use Rattle.std.proofs.Math.Seq.{take-append_seam}
+use Rattle.std.proofs.lemmas.Bool.{or_from, or_parts}
+use Rattle.water_model.proofs.Lists.{get_behind}
 use Rattle.water_model.specs.History.{IsPartialHistory, IsHistory, Follows, cut_of}
 use Rattle.water_model.specs.Places.{members_from, seniors_first}
 use Rattle.water_model.specs.Quantities.{amounts_of, entries_with_line}
@@ -62,20 +65,12 @@ calm b series items t h = h t
 
 -- The months of a history.
 
-get_behind : (before ms : List MonthRecord) (m : MonthRecord) → slice_get (before ++ m ∷ ms) (length before) ≡ Some m
-get_behind [] ms m = refl
-get_behind (x ∷ before) ms m = get_behind before ms m
-
-take_before : (before ms : List MonthRecord) → take (length before) (before ++ ms) ≡ before
-take_before [] ms = refl
-take_before (x ∷ before) ms = ap (λ xs. x ∷ xs) (take_before before ms)
-
 pub follows_of : (b : Basin) (series : Inflows) (records before ms : List MonthRecord) (m : MonthRecord) →
     IsPartialHistory b series records → records ≡ before ++ m ∷ ms →
     Follows b series before m
 follows_of b series records before ms m h is =
     subst (λ (xs : List MonthRecord). Follows b series xs m)
-    (ap (take (length before)) is ∙ take_before before (m ∷ ms))
+    (ap (take (length before)) is ∙ take-append_seam before (m ∷ ms))
     (h.each (length before) m (ap (λ xs. slice_get xs (length before)) is ∙ get_behind before ms m))
 
 pub items_are : (b : Basin) (m : MonthRecord) →
@@ -139,10 +134,7 @@ run_items_good b series records valid history texts =
 -- Only the last line of a text is `done`.
 
 pub open_both : (xs ys : List Item) → is_whole xs ≡ false → is_whole ys ≡ false → is_whole (xs ++ ys) ≡ false
-open_both xs ys h k = list_any-append is_done xs ys ∙ either (is_whole xs) (is_whole ys) h k
-  where
-    either : (p q : Bool) → p ≡ false → q ≡ false → p || q ≡ false
-    either p q e f = rw (e, f) refl
+open_both xs ys h k = list_any-append is_done xs ys ∙ or_from (is_whole xs) (is_whole ys) h k
 
 open_each : {X : Type 0} (item : X → Item) → ((x : X) → is_done (item x) ≡ false) → (xs : List X) →
     is_whole (map item xs) ≡ false
@@ -192,12 +184,8 @@ front_open [] (z ∷ w ∷ x) y d i e h = cc
 front_open (v ∷ xs) (z ∷ x) y d i e h =
     let head : v ≡ z = cc in
     let tail : xs ++ d ∷ [] ≡ x ++ i ∷ y = cc in
-    let two = both (is_done v) (is_whole xs) h in
+    let two = or_parts (is_done v) (is_whole xs) h in
     rw (← head, two.0) (front_open xs x y d i tail two.1)
-  where
-    both : (p q : Bool) → p || q ≡ false → (p ≡ false) × (q ≡ false)
-    both true q k = cc
-    both false q k = (refl, k)
 
 ends_whole : (xs : List Item) (n : ℕ) → is_whole (xs ++ line.Done n ∷ []) ≡ true
 ends_whole xs n = list_any-append is_done xs (line.Done n ∷ []) ∙ or_true (is_whole xs)

@@ -4,6 +4,7 @@ use Rattle.std.proofs.Common.{inl, inr, List, [], ◌∷◌, ◌++◌, length, m
 use Rattle.std.specs.Prelude.{Some, None, ◌||◌, ◌⊎◌, slice_get}
 use Rattle.std.specs.List.{flat_map}
 use Rattle.std.proofs.lemmas.List.{length-map}
+use Rattle.std.proofs.lemmas.Bool.{or_parts}
 use Rattle.water_model.specs.History.{IsPartialHistory, IsHistory, Follows, opening_after}
 use Rattle.water_model.specs.Hydrology.{run_month}
 use Rattle.water_model.specs.Lookups.{of_entry}
@@ -114,13 +115,9 @@ nothing_behind [] (i ∷ j ∷ items) rest d e none some = cc
 nothing_behind (x ∷ xs) (i ∷ items) rest d e none some =
     let head : i ≡ x = cc in
     let tail : items ++ rest ≡ xs ++ d ∷ [] = cc in
-    let two = both (is_done x) (is_whole xs) none in
+    let two = or_parts (is_done x) (is_whole xs) none in
     nothing_behind xs items rest d tail two.1 (other (is_done i) (is_whole items) (ap is_done head ∙ two.0) some)
   where
-    both : (p q : Bool) → p || q ≡ false → (p ≡ false) × (q ≡ false)
-    both true q k = cc
-    both false q k = (refl, k)
-
     other : (p q : Bool) → p ≡ false → p || q ≡ true → q ≡ true
     other true q e k = cc
     other false q e k = k

@@ -1,7 +1,8 @@
 -- What the rows say of the lines of a month before its `out` lines.
 use Rattle.std.proofs.Common.{◌≡◌, ℕ, Bool, true, false, refl, sym, ap, ◌∙◌, arith, List, map}
-use Rattle.std.specs.Prelude.{None, ◌||◌, ◌&&◌, not, ◌==◌, nat_lt, slice_index}
+use Rattle.std.specs.Prelude.{None, ◌&&◌, not, ◌==◌, nat_lt, slice_index}
 use Rattle.std.proofs.lemmas.Bool.Decides.{nat_tests}
+use Rattle.std.proofs.lemmas.Bool.{eqb-true, or_from, or_parts}
 use Rattle.water_text.specs.declared.month.Month.{Month}
 use Rattle.water_model.specs.Basin.{instream_link}
 use Rattle.water_model.specs.History.{opening_after}
@@ -17,13 +18,6 @@ use Rattle.water_model.specs.declared.types.MonthRecord.{MonthRecord}
 use Rattle.result_reader.specs.Telling.{Told}
 use Rattle.cert_check.specs.Checking.{rows, amount_wrong, is_same_month}
 use Rattle.cert_check.proofs.Rows.{NoneHolds, Section, nothing_passed, is_same, same_is}
-
-both_fail : (p q : Bool) → p || q ≡ false → (p ≡ false) × (q ≡ false)
-both_fail true q h = cc
-both_fail false q h = (refl, h)
-
-either_fails : (p q : Bool) → p ≡ false → q ≡ false → p || q ≡ false
-either_fails p q h k = rw (h, k) refl
 
 -- what the rows of a section need of what is told
 abbrev pub Behind : List MonthRecord → Told → Type 0
@@ -189,7 +183,7 @@ deliveries b series index used flow a w = record {
         (
           refl,
           (
-            either_fails (not (w x == want_of b series x t.now.index (slice_index t.now.used x)))
+            or_from (not (w x == want_of b series x t.now.index (slice_index t.now.used x)))
                 (amount_wrong (instream_link b x) t.now.plan.flow (a x) (w x))
                 (same_is (w x) (want_of b series x t.now.index (slice_index t.now.used x)) (rw (p.1, p.2) g.0))
                 (ap (λ f. amount_wrong (instream_link b x) f (a x) (w x)) p.3 ∙ g.1),
@@ -199,7 +193,7 @@ deliveries b series index used flow a w = record {
       ),
     ),
   );
-  tells = λ x t p n. (let h = both_fail (not (w x == want_of b series x t.now.index (slice_index t.now.used x)))
+  tells = λ x t p n. (let h = or_parts (not (w x == want_of b series x t.now.index (slice_index t.now.used x)))
       (amount_wrong (instream_link b x) t.now.plan.flow (a x) (w x)) n.1.1.1.1.0 in (
         is_same (w x) (want_of b series x t.now.index (slice_index t.now.used x)) h.0
             ∙ rw (p.1, p.2) refl,
@@ -245,13 +239,10 @@ head_is b series t first months n = by_parts first b.first n.1.1.1.1.0
     three true false r h = cc
     three false q r h = cc
 
-    equal : (x y : ℕ) → x == y ≡ true → x ≡ y
-    equal x y h = grind (arith, nat_tests)
-
     by_parts : (x y : Month) → not (is_same_month x y && months == b.months) ≡ false → (x ≡ y) × (months ≡ b.months)
     by_parts x y h =
         let parts = three (x.year == y.year) (x.month == y.month) (months == b.months) h in
-        (same_month x y (equal x.year y.year parts.0) (equal x.month y.month parts.1), equal months b.months parts.2)
+        (same_month x y (eqb-true x.year y.year parts.0) (eqb-true x.month y.month parts.1), eqb-true months b.months parts.2)
       where
         same_month : (x y : Month) → x.year ≡ y.year → x.month ≡ y.month → x ≡ y
         same_month x y e f = let made : Month = record { year = x.year; month = x.month } in rw (← e, ← f) refl

@@ -1,9 +1,9 @@
 -- An account keeps the sets that are told, with one line more.
 use Rattle.std.proofs.Common.{◌≡◌, ℕ, ◌<◌, Bool, true, false, refl, sym, ap, ◌∙◌, arith, inl, inr, List, [], ◌∷◌}
 use Rattle.std.proofs.Common.{length, replicate, take}
-use Rattle.std.specs.Prelude.{Option, Some, None, IsSome, ◌&&◌, ◌||◌, is_none, slice_set, option_map}
+use Rattle.std.specs.Prelude.{Option, Some, None, IsSome, ◌&&◌, is_none, slice_set, option_map}
 use Rattle.std.specs.List.{list_any}
-use Rattle.std.proofs.lemmas.Bool.{cases_eq}
+use Rattle.std.proofs.lemmas.Bool.{cases_eq, or_parts}
 use Rattle.std.proofs.Math.ListN.{length-set}
 use Rattle.water_model.specs.CutSets.{CutSets, set_of, with_set}
 use Rattle.water_model.specs.History.{cut_of}
@@ -13,7 +13,7 @@ use Rattle.water_model.specs.declared.types.Basin.{Basin}
 use Rattle.water_model.specs.declared.types.Inflows.{Inflows}
 use Rattle.water_model.specs.declared.types.MonthRecord.{MonthRecord}
 use Rattle.result_reader.specs.Telling.{Told, tell, with_member}
-use Rattle.cert_check.specs.Checking.{is_short}
+use Rattle.calls.specs.Callers.{is_short}
 use Rattle.cert_check.specs.Keeping.{Keeps, lacks_call}
 use Rattle.cert_check.specs.declared.account.Account.{Account}
 use Rattle.cert_check.proofs.Calls.{set_here, set_apart}
@@ -31,13 +31,9 @@ settled_with : (b : Basin) (m : MonthRecord) (r : ℕ) (set : List Bool) → r <
     list_any (lacks_call (record m { cuts = with_set m.cuts r (Some set) })) xs ≡ false
 settled_with b m r set l [] h = refl
 settled_with b m r set l (x ∷ xs) h =
-    let two = parts (is_short m x && is_none (cut_of m x)) (list_any (lacks_call m) xs) h in
+    let two = or_parts (is_short m x && is_none (cut_of m x)) (list_any (lacks_call m) xs) h in
     rw (here (is_short m x) two.0) (settled_with b m r set l xs two.1)
   where
-    parts : (p q : Bool) → p || q ≡ false → (p ≡ false) × (q ≡ false)
-    parts true q e = cc
-    parts false q e = (refl, e)
-
     never : (p : Bool) → p && false ≡ false
     never true = refl
     never false = refl

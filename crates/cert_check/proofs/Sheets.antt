@@ -29,7 +29,7 @@ use Rattle.water_model.specs.declared.types.MonthRecord.{MonthRecord}
 use Rattle.water_model.proofs.Order.{Has, IsOrdered, filter-has, numbers_from-below, seniors_have, seniors_below}
 use Rattle.water_model.proofs.Order.{seniors_ordered}
 use Rattle.water_model.proofs.Quantities.{has-with_line}
-use Rattle.result_reader.proofs.MonthTold.{put_sets, take_of}
+use Rattle.result_reader.proofs.MonthTold.{take_of}
 use Rattle.result_reader.proofs.Telling.{set_all, set_all-has}
 use Rattle.result_reader.proofs.WholeMonth.{IsAllTold}
 use Rattle.cert_check.proofs.Callers.{called_line}
@@ -37,7 +37,7 @@ use Rattle.cert_check.proofs.Calls.{once_in_order}
 use Rattle.cert_check.proofs.Inverts.{AreApart, map_same, flat_same}
 use Rattle.cert_check.proofs.Month.{inner_lines, section_lines}
 use Rattle.cert_check.proofs.Spread.{onto, onto_same}
-use Rattle.cert_check.proofs.Sets.{set_in, length-put_sets, put_sets-has, put_sets-same, no_sets}
+use Rattle.result_reader.proofs.Sets.{put_sets, set_in, length-put_sets, put_sets-has, put_sets-same, no_sets}
 
 -- No place comes twice in the lists that sections go over.
 

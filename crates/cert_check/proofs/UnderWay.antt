@@ -1,10 +1,10 @@
 -- What the lines of a month tell stays within bounds.
 use Rattle.std.proofs.Common.{◌≡◌, ℕ, zero, suc, ◌^◌, ◌<◌, ◌≤◌, Bool, true, false, refl, sym, ap, ◌∙◌, arith, inl, inr}
 use Rattle.std.proofs.Common.{List, [], ◌∷◌, length, map, fold, replicate}
-use Rattle.std.specs.Prelude.{Option, Some, None, ◌&&◌, ◌||◌, ◌==◌, not, min, nat_lt, is_some, slice_index, slice_get}
+use Rattle.std.specs.Prelude.{Option, Some, None, ◌||◌, ◌==◌, not, min, is_some, slice_index, slice_get}
 use Rattle.std.specs.Prelude.{slice_set, unwrap_or, option_map, if◌then◌else◌}
 use Rattle.std.specs.List.{list_all}
-use Rattle.std.proofs.lemmas.Bool.{cases_lt}
+use Rattle.std.proofs.lemmas.Bool.{cases_lt, and_parts, eqb-true, ltb-false}
 use Rattle.std.proofs.lemmas.Bool.Decides.{nat_tests}
 use Rattle.std.proofs.lemmas.Option.{slice_get_past}
 use Rattle.water_model.specs.Basin.{instream_link, taking_node}
@@ -76,9 +76,6 @@ set_above (x ∷ xs) zero v least h l (suc k) = h (suc k)
 set_above (x ∷ xs) (suc i) v least h l zero = h zero
 set_above (x ∷ xs) (suc i) v least h l (suc k) = set_above xs i v (λ j. least (suc j)) (λ j. h (suc j)) l k
 
-at_most : (x y : ℕ) → nat_lt x y ≡ false → y ≤ x
-at_most x y h = grind (arith, nat_tests)
-
 -- Bounds on what the rows allow.
 
 evaporated_most : (b : Basin) (v storage place : ℕ) →
@@ -105,7 +102,7 @@ wanted_most b valid series fits i r used = elim (cases_lt r (length b.rights)) [
 
 amount_most : (link : Option ℕ) (flow : List ℕ) (amount want : ℕ) → amount_wrong link flow amount want ≡ false →
     amount ≤ want
-amount_most None flow amount want h = at_most want amount h
+amount_most None flow amount want h = ltb-false want amount h
 amount_most (Some link) flow amount want h =
     (let e = is_same amount (min want (slice_index flow link)) h in omega arith)
 
@@ -201,7 +198,7 @@ in_month_more b valid series fits before i at l t (line.Amount quantity.Used r a
       };
 }
 in_month_more b valid series fits before i at l t (line.Amount quantity.Flow e amount) h n m =
-    let most = at_most (carry_of b t.now.month e) amount n.1.1.1.1.0 in
+    let most = ltb-false (carry_of b t.now.month e) amount n.1.1.1.1.0 in
     let same : carry_of b t.now.month e ≡ carry_of b (run_month b i) e = ap (λ k. carry_of b k e) m.month in
     record {
       months = m.months;
@@ -220,7 +217,7 @@ in_month_more b valid series fits before i at l t (line.Amount quantity.Flow e a
 in_month_more b valid series fits before i at l t (line.Deliver r amount want) h n m =
     let two = both_fail (want == want_of b series r t.now.index (slice_index t.now.used r))
     (amount_wrong (instream_link b r) t.now.plan.flow amount want) n.1.1.1.1.0 in
-    let is = equal want (want_of b series r t.now.index (slice_index t.now.used r)) two.0 in
+    let is = eqb-true want (want_of b series r t.now.index (slice_index t.now.used r)) two.0 in
     let small : amount ≤ 10 ^ 9 =
     omega (
       arith,
@@ -242,9 +239,6 @@ in_month_more b valid series fits before i at l t (line.Deliver r amount want) h
         delivered = set_below t.now.delivered r amount (λ k. 10 ^ 9) m.bounded.delivered small;
       };
     }
-  where
-    equal : (x y : ℕ) → x == y ≡ true → x ≡ y
-    equal x y e = grind (arith, nat_tests)
 in_month_more b valid series fits before i at l t (line.Amount quantity.Outflow k amount) h n m = record {
   months = m.months;
   index = m.index;
@@ -321,13 +315,9 @@ pub in_month : (b : Basin) → IsValidBasin b → (series : Inflows) → IsSerie
     InMonth b before i (fold (tell b series) t xs)
 in_month b valid series fits before i at l [] t h g m = m
 in_month b valid series fits before i at l (x ∷ xs) t h g m =
-    let two = parts (is_amid x) (list_all is_amid xs) h in
+    let two = and_parts (is_amid x) (list_all is_amid xs) h in
     in_month b valid series fits before i at l xs (tell b series t x) two.1 g.1
     (in_month_more b valid series fits before i at l t x two.0 g.0 m)
-  where
-    parts : (p q : Bool) → p && q ≡ true → (p ≡ true) × (q ≡ true)
-    parts true q e = (refl, e)
-    parts false q e = cc
 
 -- a month begins
 pub month_begins : (b : Basin) (series : Inflows) (before : List MonthRecord) (i : ℕ) (t : Told) → i ≡ length before →
@@ -370,12 +360,8 @@ pub uncalled : (b : Basin) (series : Inflows) (xs : List Item) (t : Told) → li
     (fold (tell b series) t xs).called ≡ t.called
 uncalled b series [] t h = refl
 uncalled b series (x ∷ xs) t h =
-    let two = parts (is_before_called x) (list_all is_before_called xs) h in
+    let two = and_parts (is_before_called x) (list_all is_before_called xs) h in
     uncalled b series xs (tell b series t x) two.1 ∙ uncalled_more b series t x two.0
-  where
-    parts : (p q : Bool) → p && q ≡ true → (p ≡ true) × (q ≡ true)
-    parts true q e = (refl, e)
-    parts false q e = cc
 
 -- A right that has no `call` so far has no set.
 
@@ -429,9 +415,5 @@ pub free : (b : Basin) (series : Inflows) (r : ℕ) (xs : List Item) (t : Told) 
     IsFree r t → IsFree r (fold (tell b series) t xs)
 free b series r [] t h f = f
 free b series r (x ∷ xs) t h f =
-    let two = parts (no_call r x) (list_all (no_call r) xs) h in
+    let two = and_parts (no_call r x) (list_all (no_call r) xs) h in
     free b series r xs (tell b series t x) two.1 (free_more b series r t x two.0 f)
-  where
-    parts : (p q : Bool) → p && q ≡ true → (p ≡ true) × (q ≡ true)
-    parts true q e = (refl, e)
-    parts false q e = cc

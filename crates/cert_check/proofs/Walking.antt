@@ -1,34 +1,20 @@
 -- Walks over the rights in the order of seniority, one place further.
-use Rattle.std.proofs.Common.{◌≡◌, ℕ, ◌+◌, ◌<◌, Bool, false, refl, sym, ap, ◌∙◌, arith, List, [], ◌∷◌, ◌++◌, length}
+use Rattle.std.proofs.Common.{◌≡◌, ℕ, ◌+◌, ◌<◌, sym, ap, ◌∙◌, arith, List, [], ◌∷◌, ◌++◌, length}
 use Rattle.std.proofs.Common.{take, append-nil, add-one}
-use Rattle.std.specs.Prelude.{Option, Some, None, ◌||◌, slice_index, if◌then◌else◌}
+use Rattle.std.specs.Prelude.{Option, None, slice_index, if◌then◌else◌}
 use Rattle.place_sums.specs.Sums.{total_where}
 use Rattle.place_sums.proofs.Totals.{total_more}
 use Rattle.water_model.specs.Basin.{is_at}
-use Rattle.std.specs.List.{list_any}
 use Rattle.std.proofs.Math.Seq.{take-suc}
 use Rattle.std.proofs.lemmas.Grind.{flat_map-append}
-use Rattle.std.proofs.lemmas.List.Folds.{list_any-append}
 use Rattle.water_model.specs.Text.{calling_right}
 use Rattle.water_model.specs.declared.types.Basin.{Basin}
 use Rattle.water_model.specs.declared.types.MonthRecord.{MonthRecord}
 use Rattle.cert_check.specs.Checking.{caller_due}
-use Rattle.cert_check.specs.Keeping.{lacks_call, callers_of}
+use Rattle.cert_check.specs.Keeping.{callers_of}
 
 pub one_more : (xs : List ℕ) (k : ℕ) → k < length xs → take (k + 1) xs ≡ take k xs ++ slice_index xs k ∷ []
 one_more xs k l = rw add-one (take-suc xs k 0 l)
-
--- one right more that has its call
-pub settled_more : (m : MonthRecord) (xs : List ℕ) (k : ℕ) → k < length xs →
-    list_any (lacks_call m) (take k xs) ≡ false → lacks_call m (slice_index xs k) ≡ false →
-    list_any (lacks_call m) (take (k + 1) xs) ≡ false
-settled_more m xs k l h e =
-    ap (list_any (lacks_call m)) (one_more xs k l)
-    ∙ (list_any-append (lacks_call m) (take k xs) (slice_index xs k ∷ [])
-    ∙ both (list_any (lacks_call m) (take k xs)) (lacks_call m (slice_index xs k)) h e)
-  where
-    both : (p q : Bool) → p ≡ false → q ≡ false → p || (q || false) ≡ false
-    both p q e f = rw (e, f) refl
 
 -- one right more, and its caller
 pub callers_more : (b : Basin) (m : MonthRecord) (xs : List ℕ) (k : ℕ) → k < length xs →
@@ -47,12 +33,6 @@ callers_same b m xs k o l e none =
     callers_more b m xs k l
     ∙ (ap (λ p. callers_of b m (take k xs) ++ caller_due (slice_index xs k) p) (sym e ∙ none)
     ∙ append-nil (callers_of b m (take k xs)))
-
-pub callers_one : (b : Basin) (m : MonthRecord) (xs : List ℕ) (k caller : ℕ) (o : Option ℕ) → k < length xs →
-    o ≡ calling_right b m (slice_index xs k) → o ≡ Some caller →
-    callers_of b m (take (k + 1) xs) ≡ callers_of b m (take k xs) ++ (slice_index xs k, caller) ∷ []
-callers_one b m xs k caller o l e some =
-    callers_more b m xs k l ∙ ap (λ p. callers_of b m (take k xs) ++ caller_due (slice_index xs k) p) (sym e ∙ some)
 
 -- a sum over one place more, whose key is no place
 pub none_more : (n k : ℕ) (key : ℕ → Option ℕ) (f : ℕ → ℕ) (sum base : ℕ) → key n ≡ None →

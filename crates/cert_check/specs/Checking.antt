@@ -21,6 +21,7 @@ use Rattle.water_model.specs.declared.quantity.Quantity.TheVariants as quantity
 use Rattle.water_model.specs.declared.types.Basin.{Basin}
 use Rattle.water_model.specs.declared.types.Inflows.{Inflows}
 use Rattle.water_model.specs.declared.types.MonthRecord.{MonthRecord}
+use Rattle.calls.specs.Callers.{is_short}
 use Rattle.result_reader.specs.Due.{is_member}
 use Rattle.result_reader.specs.Reading.{read_line}
 use Rattle.result_reader.specs.Telling.{Told, tell, told_by, with_supply}
@@ -29,9 +30,6 @@ use Rattle.cert_check.specs.declared.refuted.RefutedKind.TheVariants as kind
 use Rattle.cert_check.specs.declared.refuted.Refuted.{Refuted}
 
 -- The rows. Each is of what the lines before tell, what is told with this line, and this line.
-
-abbrev pub is_short : MonthRecord → ℕ → Bool
-is_short m r = nat_lt (slice_index m.delivered r) (slice_index m.want r)
 
 -- whether a set is a tight cut of a right
 abbrev pub is_tight : Basin → MonthRecord → ℕ → List Bool → Bool

@@ -14,11 +14,11 @@ use Rattle.water_model.specs.declared.quantity.Quantity.TheVariants as quantity
 use Rattle.water_model.specs.declared.types.Basin.{Basin}
 use Rattle.water_model.specs.declared.types.Inflows.{Inflows}
 use Rattle.water_model.specs.declared.types.MonthRecord.{MonthRecord}
-use Rattle.calls.specs.Callers.{AreCallers}
+use Rattle.calls.specs.Callers.{AreCallers, is_short}
 use Rattle.lag_returns.specs.Lags as lag
 use Rattle.month_terms.specs.Terms.{FitsRecord, HasUsed}
 use Rattle.result_reader.specs.Telling.{Told, with_supply}
-use Rattle.cert_check.specs.Checking.{is_short, caller_due}
+use Rattle.cert_check.specs.Checking.{caller_due}
 use Rattle.cert_check.specs.Shows.{Shows}
 use Rattle.cert_check.specs.declared.account.Account.{Account}
 

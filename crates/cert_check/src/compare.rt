@@ -15,6 +15,7 @@ ghost use Rattle.water_model.specs.Valid.{IsValidBasin, IsSeriesOf};
 ghost use Rattle.cert_check.specs.Checking as checking;
 ghost use Rattle.cert_check.specs.Shows.{Shows};
 
+use calls::is_short;
 use reservoirs::AreaTable;
 use water_model::calls::{carry_of, want_of};
 use water_model::item::Item;
@@ -73,15 +74,6 @@ pub fn head_wrong(basin: &Basin, first: Month, months: u32) -> bool
     ensures { result ≡ checking.head_wrong basin.now first months }
 {
     !(is_same_month(first, basin.first) && months == basin.months)
-}
-
-/// Whether a right was delivered less than its want.
-pub fn is_short(month: &MonthRecord, right: u32) -> bool
-    requires delivered { right < length month.now.delivered }
-    requires want { right < length month.now.want }
-    ensures { result ≡ checking.is_short month.now right }
-{
-    month.delivered[right as usize] < month.want[right as usize]
 }
 
 /// Whether a line is the `call` of a right that isn't short.

@@ -9,19 +9,11 @@ ghost use Rattle.cert_check.specs.Checking as checking;
 ghost use Rattle.cert_check.specs.Keeping.{lacks_call};
 ghost use Rattle.cert_check.specs.Walks.{IsPassed};
 
-use crate::compare::{is_behind_calls, is_short};
+use crate::compare::is_behind_calls;
+use calls::is_short;
 use rights_roll::priority::is_senior;
 use water_model::item::Item;
 use water_model::types::{Basin, MonthRecord};
-
-/// Whether a right has a set in the record.
-fn has_set(month: &MonthRecord, right: u32) -> bool
-    requires right { right < length month.now.cuts.sets }
-    requires nodes { 0 < month.now.cuts.nodes }
-    ensures { not result ≡ is_none (cut_of month.now right) }
-{
-    month.cuts.holds(right, 0).is_some()
-}
 
 /// Whether a right is short and has no set.
 fn lacks_call(basin: &Basin, month: &MonthRecord, right: u32) -> bool
@@ -30,7 +22,7 @@ fn lacks_call(basin: &Basin, month: &MonthRecord, right: u32) -> bool
     requires right { right < length basin.now.rights }
     ensures { result ≡ lacks_call month.now right }
 {
-    is_short(month, right) && !has_set(month, right)
+    is_short(month, right) && month.cuts.words(right).is_none()
 }
 
 /// Whether a line stands behind the place of a right's `call` line.

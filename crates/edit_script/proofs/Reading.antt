@@ -20,10 +20,6 @@ abbrev pub behind : List Edit → Reading → Reading
 behind edits (Ok more) = Ok (edits ++ more)
 behind edits (Err why) = Err why
 
-pub nothing_before : (r : Reading) → r ≡ behind [] r
-nothing_before (Ok more) = refl
-nothing_before (Err why) = refl
-
 behind_more : (edits : List Edit) (e : Edit) (r : Reading) →
     behind edits (in_front (Ok e) r) ≡ behind (edits ++ e ∷ []) r
 behind_more edits e (Ok more) = ap (λ (es : List Edit). Ok es) (sym (append_assoc edits (e ∷ []) more))

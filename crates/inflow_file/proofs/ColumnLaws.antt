@@ -3,23 +3,16 @@ use Rattle.std.proofs.Common.{◌≡◌, ℕ, zero, suc, ◌+◌, ◌-◌, ◌<�
 use Rattle.std.proofs.Common.{[], ◌∷◌, ◌++◌, length, get_or, slice_index, filter, if◌then◌else◌, inl, inr, add-one}
 use Rattle.std.proofs.Common.{zero-add}
 use Rattle.std.specs.Prelude.{◌==◌, nat_lt}
-use Rattle.std.proofs.lemmas.Bool.{cases_lt}
+use Rattle.std.proofs.lemmas.Bool.{cases_lt, eq-eqb, lt-ltb}
 use Rattle.std.proofs.lemmas.Bool.Decides.{nat_tests}
 use Rattle.std.proofs.lemmas.List.{get_or_append_left, get_or_push, length-append}
 use Rattle.std.proofs.lemmas.List.Elements.{filter-append}
+use Rattle.water_model.proofs.Lists.{numbers_more}
 use Rattle.water_model.specs.Hydrology.{place_in}
 use Rattle.water_model.specs.Places.{numbers_from}
 use Rattle.water_model.specs.Valid.{is_gauged, gauged_nodes, is_in_series, rights_in_series}
 use Rattle.water_model.specs.declared.types.Basin.{Basin}
 use Rattle.inflow_file.specs.Columns.{IsColumn, column_numbers, count_of_both, is_column, right_number}
-
--- one number more
-pub numbers_more : (from count : ℕ) → numbers_from from (suc count) ≡ numbers_from from count ++ (from + count) ∷ []
-unfolding numbers_from
-numbers_more from zero = let same : from ≡ from + zero = omega arith in ap (λ n. n ∷ []) same
-numbers_more from (suc count) =
-    let last : suc from + count ≡ from + suc count = omega arith in
-    ap (λ ns. from ∷ ns) (numbers_more (suc from) count ∙ ap (λ n. numbers_from (suc from) count ++ n ∷ []) last)
 
 -- how many of the numbers below another pass a test
 abbrev pub passed_below : (ℕ → Bool) → ℕ → ℕ
@@ -44,9 +37,6 @@ passed_most p (suc n) =
     by_test true h = omega arith
     by_test false h = omega arith
 
-same_test : (a c : ℕ) → a ≡ c → a == c ≡ true
-same_test a c h = grind (arith, nat_tests)
-
 other_test : (a c : ℕ) → a < c → a == c ≡ false
 other_test a c h = grind (arith, nat_tests)
 
@@ -58,7 +48,7 @@ place_from p from zero k x l e h = absurd (omega arith)
 place_from p from (suc count) zero x l e h =
     let same : from ≡ x = omega arith in
     let passes : p from ≡ true = ap p same ∙ h in
-    let here : from == x ≡ true = same_test from x same in
+    let here : from == x ≡ true = eq-eqb from x same in
     rw (passes, here) refl
 place_from p from (suc count) (suc k) x l e h =
     by_test (p from) (other_test from x (omega arith)) (place_from p (suc from) count k x (omega arith) (omega arith) h)
@@ -80,7 +70,7 @@ place_holds p from zero k x l e h = absurd (omega arith)
 place_holds p from (suc count) zero x l e h =
     let same : from ≡ x = omega arith in
     let passes : p from ≡ true = ap p same ∙ h in
-    let here : from == x ≡ true = same_test from x same in
+    let here : from == x ≡ true = eq-eqb from x same in
     rw (passes, here) (omega arith, same)
 place_holds p from (suc count) (suc k) x l e h =
     by_test (p from) (other_test from x (omega arith))
@@ -143,7 +133,7 @@ place_of_passing p from (suc count) g l =
         (numbers_from (suc from) count))
         (get_or (if t then from ∷ filter p (numbers_from (suc from) count) else filter p
         (numbers_from (suc from) count)) g 0) ≡ g
-    by_test true zero l further least = rw (same_test from from refl) refl
+    by_test true zero l further least = rw (eq-eqb from from refl) refl
     by_test true (suc g) l further least =
         let h = least g (omega arith) in
         rw (other_test from (get_or (filter p (numbers_from (suc from) count)) g 0) h, further g (omega arith))
@@ -173,11 +163,8 @@ place_added p places passing n k count is each l =
 -- Gauges come first among the columns, and wants behind them.
 
 pub gauge_column : (b : Basin) (node : ℕ) → node < length b.nodes → is_column b node ≡ is_gauged b node
-gauge_column b node l = let below : nat_lt node (length b.nodes) ≡ true = is_below node (length b.nodes) l in
+gauge_column b node l = let below : nat_lt node (length b.nodes) ≡ true = lt-ltb node (length b.nodes) l in
     rw below refl
-  where
-    is_below : (m n : ℕ) → m < n → nat_lt m n ≡ true
-    is_below m n h = grind (arith, nat_tests)
 
 pub want_column : (b : Basin) (right : ℕ) → is_column b (right_number b right) ≡ is_in_series b right
 want_column b right =

@@ -5,7 +5,7 @@ use Rattle.std.proofs.Common.{Option, Some, None, if◌then◌else◌, is_some, 
 use Rattle.std.specs.Prelude.{◌==◌, ◌&&◌}
 use Rattle.std.specs.List.{find, flat_map}
 use Rattle.std.specs.Option.{option_or}
-use Rattle.std.proofs.lemmas.Bool.{cases_Bool, cases_eq, false≢true}
+use Rattle.std.proofs.lemmas.Bool.{cases_Bool, cases_eq, false≢true, eqb-true, and_parts}
 use Rattle.std.proofs.lemmas.List.{ext_get_or, length-map, length-append, length-set, get_or_append_left}
 use Rattle.std.proofs.lemmas.List.{get_or-append-add, get_or-map, get_or-set_same, get_or-set_other}
 use Rattle.std.proofs.lemmas.Nat.{div-add-mod', div_below, mod_below, mul-le}
@@ -21,7 +21,7 @@ use Rattle.inflow_file.specs.Given.{given}
 use Rattle.inflow_file.specs.SeriesFaults.{amount_for, due, is_same_month, months_of, repeats, is_in_run}
 use Rattle.inflow_file.specs.declared.entry.Entry.{Entry}
 use Rattle.inflow_file.proofs.ColumnLaws.{passed_most, place_holds, place_of_passing}
-use Rattle.inflow_file.proofs.RunLaws.{both, same_number, same_itself, length-months, month_there, month_in_run}
+use Rattle.inflow_file.proofs.RunLaws.{same_itself, length-months, month_there, month_in_run}
 use Rattle.inflow_file.proofs.RunLaws.{same_index, same_month_is, same_month_itself}
 
 or_none : {X : Type 0} (r : Option X) → option_or r None ≡ r
@@ -170,10 +170,10 @@ same_place : (b : Basin) (e : Entry) (i k g : ℕ) → IsMonth b.first → k < b
     e.month ≡ run_month b i →
     is_for (run_month b k) (get_or (column_numbers b) g 0) e ≡ true → k * width b + g ≡ place_for b i e.column
 same_place b e i k g first l m month h =
-    let tests = both (is_same_month (run_month b k) e.month) (e.column == get_or (column_numbers b) g 0) h in
+    let tests = and_parts (is_same_month (run_month b k) e.month) (e.column == get_or (column_numbers b) g 0) h in
     let index : k ≡ i = same_index b k i first (same_month_is (run_month b k) e.month tests.0 ∙ month) in
     let gauge : place_in (column_numbers b) e.column ≡ g =
-    own_gauge b g e.column m (sym (same_number e.column (get_or (column_numbers b) g 0) tests.1)) in
+    own_gauge b g e.column m (sym (eqb-true e.column (get_or (column_numbers b) g 0) tests.1)) in
     rw (index, gauge) refl
 
 -- an entry for a month of the run adds its amount, where there was none
@@ -244,7 +244,8 @@ passes_by b earlier e outside =
     never n g row = elim (cases_Bool (is_for (run_month b n) g e)) [
       | inl here ↦
           (let same : run_month b n ≡ e.month =
-          same_month_is (run_month b n) e.month (both (is_same_month (run_month b n) e.month) (e.column == g) here).0 in
+          same_month_is (run_month b n) e.month
+          (and_parts (is_same_month (run_month b n) e.month) (e.column == g) here).0 in
           let inside : is_in_run b e.month ≡ true = ap (is_in_run b) (sym same) ∙ month_in_run b n row in
           absurd (false≢true (sym outside ∙ inside)))
       | inr off ↦ off

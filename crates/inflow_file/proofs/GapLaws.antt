@@ -1,6 +1,6 @@
 -- The first amount that is missing, and the series where none is.
 use Rattle.std.proofs.Common.{◌≡◌, ℕ, zero, suc, ◌+◌, ◌*◌, ◌/◌, ◌%◌, ◌^◌, ◌<◌, ◌≤◌, Bool, true, false, refl, sym, ap}
-use Rattle.std.proofs.Common.{◌∙◌, arith, List, [], ◌∷◌, ◌++◌, length, get_or, map, Option, Some, None, if◌then◌else◌}
+use Rattle.std.proofs.Common.{◌∙◌, arith, List, [], ◌∷◌, ◌++◌, length, get_or, Option, Some, None, if◌then◌else◌}
 use Rattle.std.proofs.Common.{is_some, option_map, unwrap_or, slice_get, All, Ok, Err, Result, inl, inr, subst}
 use Rattle.std.specs.Prelude.{◌==◌, ◌&&◌, not, IfOk, IfErr, OnOk}
 use Rattle.std.specs.List.{find, cons_option}

@@ -1,9 +1,9 @@
 -- The months of a run.
 use Rattle.std.proofs.Common.{◌≡◌, ℕ, zero, suc, ◌+◌, ◌*◌, ◌<◌, ◌≤◌, Bool, true, false, refl, sym, ap, ◌∙◌, arith}
 use Rattle.std.proofs.Common.{length, get_or, map, inl, inr}
-use Rattle.std.specs.Prelude.{◌==◌, ◌&&◌, ◌||◌}
+use Rattle.std.specs.Prelude.{◌==◌, ◌||◌}
 use Rattle.std.specs.List.{list_any, range_with_len}
-use Rattle.std.proofs.lemmas.Bool.{cases_Bool}
+use Rattle.std.proofs.lemmas.Bool.{cases_Bool, and_parts, eqb-true}
 use Rattle.std.proofs.lemmas.Bool.Decides.{nat_tests}
 use Rattle.std.proofs.lemmas.List.{length-map}
 use Rattle.water_text.specs.Months.{IsMonth, month_after}
@@ -12,15 +12,8 @@ use Rattle.water_model.specs.Hydrology.{run_month}
 use Rattle.water_model.specs.declared.types.Basin.{Basin}
 use Rattle.inflow_file.specs.SeriesFaults.{is_same_month, is_in_run, months_of}
 
-pub same_number : (m n : ℕ) → m == n ≡ true → m ≡ n
-same_number m n h = grind (arith, nat_tests)
-
 pub same_itself : (n : ℕ) → n == n ≡ true
 same_itself n = grind (arith, nat_tests)
-
-pub both : (a b : Bool) → a && b ≡ true → (a ≡ true) × (b ≡ true)
-both true b h = (refl, h)
-both false b h = cc
 
 same_parts : (m n : Month) → m.year ≡ n.year → m.month ≡ n.month → m ≡ n
 same_parts m n years months = λ i. record { year = years i; month = months i }
@@ -28,8 +21,8 @@ same_parts m n years months = λ i. record { year = years i; month = months i }
 -- months are told apart by year and month
 pub same_month_is : (m n : Month) → is_same_month m n ≡ true → m ≡ n
 same_month_is m n h =
-    let tests = both (m.year == n.year) (m.month == n.month) h in
-    same_parts m n (same_number m.year n.year tests.0) (same_number m.month n.month tests.1)
+    let tests = and_parts (m.year == n.year) (m.month == n.month) h in
+    same_parts m n (eqb-true m.year n.year tests.0) (eqb-true m.month n.month tests.1)
 
 pub same_month_itself : (m : Month) → is_same_month m m ≡ true
 same_month_itself m = rw (same_itself m.year, same_itself m.month) refl

@@ -1,13 +1,14 @@
 -- A text's lines tell all numbers of its records.
-use Rattle.std.proofs.Common.{◌≡◌, ◌≢◌, ℕ, zero, suc, ◌+◌, ◌<◌, ◌≤◌, Bool, true, false, refl, sym, ap, subst, ◌∙◌}
+use Rattle.std.proofs.Common.{◌≡◌, ℕ, zero, suc, ◌+◌, ◌<◌, ◌≤◌, Bool, true, false, refl, sym, ap, subst, ◌∙◌}
 use Rattle.std.proofs.Common.{arith, inl, inr, List, [], ◌∷◌, ◌++◌, length, map, replicate, take, append_assoc}
 use Rattle.std.proofs.Common.{zero-add, length-append}
 use Rattle.std.specs.Prelude.{Option, Some, None, option_map, ◌⊎◌, is_some, slice_index, slice_get, slice_set, filter}
 use Rattle.std.specs.Prelude.{unwrap_or, ◌==◌, ◌||◌, if◌then◌else◌}
 use Rattle.std.specs.List.{list_any}
-use Rattle.std.proofs.lemmas.Bool.{cases_eq, cases_lt, cases_Bool}
+use Rattle.std.proofs.lemmas.Bool.{cases_lt, cases_Bool}
 use Rattle.std.proofs.lemmas.Option.{slice_get_past}
 use Rattle.std.proofs.lemmas.List.{length-replicate}
+use Rattle.std.proofs.Math.Seq.{take-append_seam}
 use Rattle.place_sums.proofs.Totals.{total_zero}
 use Rattle.water_model.proofs.Entries.{in_order-has}
 use Rattle.water_model.proofs.Order.{Has, filter-has, has-filter, seniors_have, seniors_below}
@@ -30,9 +31,11 @@ use Rattle.water_model.specs.declared.types.Right.{Right}
 use Rattle.water_model.specs.declared.types.RightKind.{RightKind}
 use Rattle.water_model.specs.declared.types.RightKind.TheVariants as kind
 use Rattle.result_reader.specs.Records.{IsMonthBehind, IsTextMonth, AreTextMonths}
-use Rattle.result_reader.proofs.MonthTold.{put_sets, put_one, length-put_one, put_sets-step, length-put_sets, take_of}
-use Rattle.result_reader.proofs.NameLaws.{get_there}
-use Rattle.result_reader.proofs.Telling.{set_all, set_all-whole, Sets, entry_set}
+use Rattle.result_reader.proofs.MonthTold.{take_of}
+use Rattle.water_model.proofs.Balance.{entry_at}
+use Rattle.water_model.proofs.Lists.{get_behind}
+use Rattle.result_reader.proofs.Sets.{all_sets}
+use Rattle.result_reader.proofs.Telling.{set_all, set_all-whole}
 use Rattle.result_reader.proofs.WholeMonth.{IsAllTold, AreAllTold}
 
 zeros : (n k : ℕ) → slice_index (replicate n 0) k ≡ 0
@@ -89,100 +92,6 @@ map-numbers f from (suc n) (y ∷ ys) e h =
     shift : (from k : ℕ) → from + suc k ≡ suc from + k
     shift from k = omega arith
 
--- Sets.
-
-abbrev set_in : Sets → ℕ → Option (List Bool)
-set_in xs k = of_entry xs k (λ s. s) None
-
-set_other : (xs : Sets) (r k : ℕ) (v : Option (List Bool)) → k ≢ r → set_in (slice_set xs r v) k ≡ set_in xs k
-set_other [] r k v h = refl
-set_other (x ∷ xs) zero zero v h = absurd (h refl)
-set_other (x ∷ xs) zero (suc k) v h = refl
-set_other (x ∷ xs) (suc r) zero v h = refl
-set_other (x ∷ xs) (suc r) (suc k) v h = set_other xs r k v (λ e. h (ap suc e))
-
-put_one-keeps : (r k : ℕ) (cut : ℕ → Option (List Bool)) (ys : Sets) → k < length ys → set_in ys k ≡ cut k →
-    set_in (put_one r (cut r) ys) k ≡ cut k
-unfolding put_one
-put_one-keeps r k cut ys l h = by_set (cut r) refl
-  where
-    by_set : (o : Option (List Bool)) → cut r ≡ o → set_in (put_one r (cut r) ys) k ≡ cut k
-    by_set None e = rw e h
-    by_set (Some set) e = elim (cases_eq k r) [
-      | inl same ↦
-          rw e (ap (λ j. set_in (slice_set ys r (Some set)) j) same
-          ∙ (entry_set ys r (Some set) (omega arith) ∙ (sym e ∙ ap cut (sym same))))
-      | inr other ↦ rw e (set_other ys r k (Some set) other ∙ h)
-    ]
-
-put_sets-keeps : (rs : List ℕ) (k : ℕ) (cut : ℕ → Option (List Bool)) (ys : Sets) → k < length ys →
-    set_in ys k ≡ cut k → set_in (put_sets rs cut ys) k ≡ cut k
-put_sets-keeps [] k cut ys l h = h
-put_sets-keeps (r ∷ rs) k cut ys l h =
-    ap (λ xs. set_in xs k) (put_sets-step r rs cut ys)
-    ∙ put_sets-keeps rs k cut (put_one r (cut r) ys) (omega (arith, length-put_one r (cut r) ys))
-    (put_one-keeps r k cut ys l h)
-
-put_one-here : (r k : ℕ) (cut : ℕ → Option (List Bool)) (ys : Sets) → k ≡ r → k < length ys → set_in ys k ≡ None →
-    set_in (put_one r (cut r) ys) k ≡ cut k
-unfolding put_one
-put_one-here r k cut ys same l h = by_set (cut r) refl
-  where
-    by_set : (o : Option (List Bool)) → cut r ≡ o → set_in (put_one r (cut r) ys) k ≡ cut k
-    by_set None e = rw e (h ∙ (sym e ∙ ap cut (sym same)))
-    by_set (Some set) e =
-        rw e (ap (λ j. set_in (slice_set ys r (Some set)) j) same
-        ∙ (entry_set ys r (Some set) (omega arith) ∙ (sym e ∙ ap cut (sym same))))
-
-put_one-other : (r k : ℕ) (o : Option (List Bool)) (ys : Sets) → k ≢ r → set_in (put_one r o ys) k ≡ set_in ys k
-unfolding put_one
-put_one-other r k None ys h = refl
-put_one-other r k (Some set) ys h = set_other ys r k (Some set) h
-
--- a right whose set is put has it
-put_sets-has : (rs : List ℕ) (k : ℕ) (cut : ℕ → Option (List Bool)) (ys : Sets) → k < length ys → set_in ys k ≡ None →
-    Has rs k → set_in (put_sets rs cut ys) k ≡ cut k
-put_sets-has [] k cut ys l h m = absurd m
-put_sets-has (r ∷ rs) k cut ys l h m =
-    ap (λ xs. set_in xs k) (put_sets-step r rs cut ys)
-    ∙ elim (cases_eq k r) [
-      | inl same ↦
-          put_sets-keeps rs k cut (put_one r (cut r) ys) (omega (arith, length-put_one r (cut r) ys))
-          (put_one-here r k cut ys same l h)
-      | inr other ↦
-          put_sets-has rs k cut (put_one r (cut r) ys) (omega (arith, length-put_one r (cut r) ys))
-          (put_one-other r k (cut r) ys other ∙ h) (behind m other)
-    ]
-  where
-    behind : Has (r ∷ rs) k → k ≢ r → Has rs k
-    behind (inl is) other = absurd (other is)
-    behind (inr there) other = there
-
-no_sets : (n k : ℕ) → (let xs : Sets = replicate n None in set_in xs k) ≡ None
-no_sets zero k = refl
-no_sets (suc n) zero = refl
-no_sets (suc n) (suc k) = no_sets n k
-
-same_sets : (xs ys : Sets) → length xs ≡ length ys → ((k : ℕ) → k < length xs → set_in xs k ≡ set_in ys k) → xs ≡ ys
-same_sets [] [] e h = refl
-same_sets [] (y ∷ ys) e h = absurd (omega arith)
-same_sets (x ∷ xs) [] e h = absurd (omega arith)
-same_sets (x ∷ xs) (y ∷ ys) e h =
-    ap (λ z. z ∷ xs) (h 0 (omega arith))
-    ∙ ap (λ zs. y ∷ zs) (same_sets xs ys (omega arith) (λ k l. h (suc k) (omega arith)))
-
--- the sets of all rights
-all_sets : (rs : List ℕ) (n : ℕ) (ys : Sets) → length ys ≡ n → ((k : ℕ) → k < n → Has rs k) →
-    put_sets rs (λ r. set_in ys r) (replicate n None) ≡ ys
-all_sets rs n ys e has =
-    same_sets (put_sets rs (λ r. set_in ys r) (replicate n None)) ys (len ∙ sym e)
-    (λ k l. put_sets-has rs k (λ r. set_in ys r) (replicate n None)
-    (omega (arith, len, length-replicate {A = Option (List Bool)} n None)) (no_sets n k)
-    (has k (omega (arith, len))))
-  where
-    len : length (put_sets rs (λ r. set_in ys r) (replicate n None)) ≡ n
-    len = length-put_sets rs (λ r. set_in ys r) (replicate n None) ∙ length-replicate n None
-
 -- Returns, use and takes that no line tells.
 
 none_passes : {X : Type 0} (p : X → Bool) (xs : List X) (k : ℕ) (x : X) → list_any p xs ≡ false →
@@ -200,12 +109,12 @@ none_passes p (y ∷ ys) (suc k) x h e = none_passes p ys k x (second (p y) (lis
     second true r g = cc
     second false r g = g
 
-nothing_returns : (b : Basin) (deliveries : List (List ℕ)) (n i : ℕ) →
+pub nothing_returns : (b : Basin) (deliveries : List (List ℕ)) (n i : ℕ) →
     list_any (λ row. row.node == n) b.returns ≡ false → returned_at b deliveries n i ≡ 0
 nothing_returns b deliveries n i h =
     total_zero (length b.returns)
     (λ k. of_entry b.returns k (λ row. if row.node == n then returned_by row deliveries i else 0) 0)
-    (λ k l. at_row k (get_there b.returns k l))
+    (λ k l. at_row k (entry_at b.returns k l))
   where
     at_row : (k : ℕ) → (row : ReturnRow) × (slice_get b.returns k ≡ Some row) →
         of_entry b.returns k (λ row. if row.node == n then returned_by row deliveries i else 0) 0 ≡ 0
@@ -329,20 +238,12 @@ all_told b series before m t = record {
 
 -- Records one behind another.
 
-get_behind : (before ms : List MonthRecord) (m : MonthRecord) → slice_get (before ++ m ∷ ms) (length before) ≡ Some m
-get_behind [] ms m = refl
-get_behind (x ∷ before) ms m = get_behind before ms m
-
-take_before : (before ms : List MonthRecord) → take (length before) (before ++ ms) ≡ before
-take_before [] ms = refl
-take_before (x ∷ before) ms = ap (λ xs. x ∷ xs) (take_before before ms)
-
 pub month_of : (b : Basin) (series : Inflows) (records before ms : List MonthRecord) (m : MonthRecord) →
     AreTextMonths b series records → records ≡ before ++ m ∷ ms →
     IsTextMonth b series before m
 month_of b series records before ms m are is =
     subst (λ (xs : List MonthRecord). IsTextMonth b series xs m)
-    (ap (take (length before)) is ∙ take_before before (m ∷ ms))
+    (ap (take (length before)) is ∙ take-append_seam before (m ∷ ms))
     (are.each (length before) m (ap (λ xs. slice_get xs (length before)) is ∙ get_behind before ms m))
 
 all_from : (b : Basin) (series : Inflows) (records before ms : List MonthRecord) → AreTextMonths b series records →

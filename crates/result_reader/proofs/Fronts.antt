@@ -22,9 +22,11 @@ use Rattle.water_model.specs.declared.item.Section.TheVariants as section
 use Rattle.water_model.specs.declared.item.TheConstants.{SECTIONS}
 use Rattle.result_reader.specs.declared.shape.Shape.{Shape}
 use Rattle.result_reader.specs.declared.shape.Shape.TheVariants as shape
-use Rattle.result_reader.proofs.Grammar.{accepts, accepts_step, steps_to, StepsTo, accepts_within, within_itself}
-use Rattle.result_reader.proofs.Grammar.{fits_itself, take_fits, step_open, step_shut, has_no_members, fills_accepted}
-use Rattle.result_reader.proofs.Grammar.{accepted_fills, plain, IsPlain, call, other, take_skips, take_stops}
+use Rattle.result_reader.proofs.Steps.{accepts, accepts_step, steps_to, StepsTo, accepts_within, within_itself}
+use Rattle.result_reader.proofs.Grammar.{has_no_members, fills_accepted}
+use Rattle.result_reader.proofs.Steps.{fits_itself, take_fits, step_open, step_shut}
+use Rattle.result_reader.proofs.Grammar.{accepted_fills, plain, IsPlain, call, other}
+use Rattle.result_reader.proofs.Steps.{take_skips, take_stops}
 
 -- No `in` line is due at first.
 

@@ -1,3 +1,4 @@
+pub mod Steps
 pub mod Grammar
 pub mod Fronts
 pub mod Placing
@@ -12,6 +13,7 @@ pub mod LinesLeft
 pub mod Spelled
 pub mod Accepting
 pub mod Telling
+pub mod Sets
 pub mod MonthTold
 pub mod WholeMonth
 pub mod AllTold

@@ -25,7 +25,8 @@ use Rattle.result_reader.specs.Form.{due_for_month, due_from}
 use Rattle.result_reader.specs.Standing.{most_for, most_lines}
 use Rattle.result_reader.specs.declared.shape.Shape.{Shape}
 use Rattle.result_reader.specs.declared.shape.Shape.TheVariants as shape
-use Rattle.result_reader.proofs.Grammar.{fits_shape, take_fits, take_skips, take_stops, step_open, step_shut, plain}
+use Rattle.result_reader.proofs.Grammar.{plain}
+use Rattle.result_reader.proofs.Steps.{fits_shape, take_fits, take_skips, take_stops, step_open, step_shut}
 use Rattle.result_reader.proofs.Grammar.{IsPlain, call, other}
 
 -- each line that is due is at least one line

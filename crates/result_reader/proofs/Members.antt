@@ -15,7 +15,8 @@ use Rattle.result_reader.specs.declared.shape.Shape.{Shape}
 use Rattle.result_reader.specs.declared.shape.Shape.TheVariants as shape
 use Rattle.result_reader.specs.declared.place.Place.{Place}
 use Rattle.result_reader.specs.declared.place.Place.TheVariants as place
-use Rattle.result_reader.proofs.Grammar.{member_only, fits_itself, take_fits, take_skips, step_open, has_no_members}
+use Rattle.result_reader.proofs.Grammar.{member_only, has_no_members}
+use Rattle.result_reader.proofs.Steps.{fits_itself, take_fits, take_skips, step_open}
 use Rattle.result_reader.proofs.Grammar.{no_member_due, plain, IsPlain, call, other}
 use Rattle.result_reader.proofs.Fronts.{from_no_members, in_month_no_members, append_no_members}
 

@@ -19,7 +19,8 @@ use Rattle.water_model.specs.declared.types.Inflows.{Inflows}
 use Rattle.water_model.specs.declared.types.MonthRecord.{MonthRecord}
 use Rattle.water_model.proofs.Quantities.{amount_lines, amounts_with, cuts_with, flat_map_one, with_own, with_twice}
 use Rattle.result_reader.specs.Telling.{Told, tell, with_now}
-use Rattle.result_reader.proofs.Telling.{Sets, set_all, fold-both, tell_call, put_cut}
+use Rattle.result_reader.proofs.Sets.{put_sets, length-put_sets}
+use Rattle.result_reader.proofs.Telling.{set_all, fold-both, tell_call, put_cut}
 
 -- what lines make of the month under way. They end no month
 pub record Tells (b : Basin) (series : Inflows) (t : Told) (items : List Item) (now : MonthRecord) : Type 0 where
@@ -29,16 +30,6 @@ pub record Tells (b : Basin) (series : Inflows) (t : Told) (items : List Item) (
 -- lines that make the same of each month
 abbrev pub Makes : Basin → Inflows → List Item → (MonthRecord → MonthRecord) → Type 0
 Makes b series items f = (t : Told) → Tells b series t items (f t.now)
-
-pub makes_both : (b : Basin) (series : Inflows) (xs ys : List Item) (f g : MonthRecord → MonthRecord) →
-    Makes b series xs f → Makes b series ys g → Makes b series (xs ++ ys) (λ m. g (f m))
-makes_both b series xs ys f g h k t =
-    let first = h t in
-    let second = k (fold (tell b series) t xs) in
-    record {
-      now_is = ap (λ u. u.now) (fold-both (tell b series) t xs ys) ∙ (second.now_is ∙ ap g first.now_is);
-      months_are = ap (λ u. u.months) (fold-both (tell b series) t xs ys) ∙ (second.months_are ∙ first.months_are);
-    }
 
 -- lines that set one list each
 makes_each : (b : Basin) (series : Inflows) (item : ℕ → Item) (f : ℕ → MonthRecord → MonthRecord) →
@@ -69,40 +60,6 @@ makes_amounts b series q a xs t =
     let h = makes_each b series (λ x. line.Amount q x (a x))
     (λ x m. with_amounts q m (slice_set (amounts_of q m) x (a x))) (λ x t. refl) xs t in
     record { now_is = h.now_is ∙ told_list q a xs t.now; months_are = h.months_are }
-
--- the sets of the rights that have one
-abbrev pub put_sets : List ℕ → (ℕ → Option (List Bool)) → List (Option (List Bool)) → List (Option (List Bool))
-put_sets [] cut ys = ys
-put_sets (r ∷ rs) cut ys = put_sets rs cut (put_set (cut r))
-  where
-    put_set : Option (List Bool) → List (Option (List Bool))
-    put_set None = ys
-    put_set (Some set) = slice_set ys r (Some set)
-
--- the sets of one right more
-unfoldable pub put_one : (r : ℕ) (o : Option (List Bool)) → Sets → Sets
-put_one r None ys = ys
-put_one r (Some set) ys = slice_set ys r (Some set)
-
-pub length-put_one : (r : ℕ) (o : Option (List Bool)) (ys : Sets) → length (put_one r o ys) ≡ length ys
-unfolding put_one
-length-put_one r None ys = refl
-length-put_one r (Some set) ys = length-set ys r (Some set)
-
-pub put_sets-step : (r : ℕ) (rs : List ℕ) (cut : ℕ → Option (List Bool)) (ys : Sets) →
-    put_sets (r ∷ rs) cut ys ≡ put_sets rs cut (put_one r (cut r) ys)
-unfolding put_one
-put_sets-step r rs cut ys = by_set (cut r) refl
-  where
-    by_set : (o : Option (List Bool)) → cut r ≡ o → put_sets (r ∷ rs) cut ys ≡ put_sets rs cut (put_one r (cut r) ys)
-    by_set None e = rw e refl
-    by_set (Some set) e = rw e refl
-
-pub length-put_sets : (rs : List ℕ) (cut : ℕ → Option (List Bool)) (ys : Sets) → length (put_sets rs cut ys) ≡ length ys
-length-put_sets [] cut ys = refl
-length-put_sets (r ∷ rs) cut ys =
-    ap length (put_sets-step r rs cut ys)
-    ∙ (length-put_sets rs cut (put_one r (cut r) ys) ∙ length-put_one r (cut r) ys)
 
 abbrev pub with_sets : MonthRecord → List (Option (List Bool)) → MonthRecord
 with_sets m sets = record m { cuts = record m.cuts { sets = sets } }

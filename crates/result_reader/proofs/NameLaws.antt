@@ -1,18 +1,18 @@
 -- Names and their places.
 use Rattle.std.proofs.Common.{◌≡◌, ◌≢◌, ℕ, zero, suc, ◌+◌, ◌<◌, ◌≤◌, List, [], ◌∷◌, ◌++◌, length, Bool, true, false}
-use Rattle.std.proofs.Common.{Option, Some, None, is_some, if◌then◌else◌, refl, sym, ap, subst, ◌∙◌, inl, inr, arith}
+use Rattle.std.proofs.Common.{Option, Some, None, if◌then◌else◌, refl, sym, ap, ◌∙◌, inl, inr, arith}
 use Rattle.std.proofs.Common.{add-one}
-use Rattle.std.specs.Prelude.{find, slice_get, All}
-use Rattle.std.proofs.lemmas.Bool.{cases_Bool, cases_lt, cases_order, false≢true}
+use Rattle.std.specs.Prelude.{find, slice_get}
+use Rattle.std.proofs.lemmas.Bool.{cases_Bool, cases_lt, cases_order}
 use Rattle.std.proofs.lemmas.List.Folds.{find-append}
 use Rattle.std.proofs.lemmas.Slice.Eq.{bytes_eq-Decides}
-use Rattle.std.proofs.lemmas.Map.Text.{hash_map_updates_str}
 use Rattle.std.specs.Borrow.{Bor}
 use Rattle.std.specs.Str.{bytes_eq}
 use Rattle.std.specs.Option.{option_or}
-use Rattle.indexmap.specs.IndexMap.{IndexMap, get_by, UpdatesBy}
-use Rattle.std.proofs.lemmas.Option.{get_or_from_slice_get, slice_get_within}
+use Rattle.indexmap.specs.IndexMap.{IndexMap}
 use Rattle.water_text.specs.Names.{is_name}
+use Rattle.water_model.proofs.Balance.{entry_at}
+use Rattle.water_model.proofs.Lists.{all_at, numbers_more}
 use Rattle.water_model.specs.Basin.{node_name, reservoir_name}
 use Rattle.water_model.specs.Places.{numbers_from}
 use Rattle.water_model.specs.Valid.{IsValidBasin, IsValidNode, IsValidLink, IsValidReservoir, IsValidRight}
@@ -22,49 +22,7 @@ use Rattle.water_model.specs.Entries.{count_in, name_in}
 use Rattle.water_model.specs.declared.space.Space.{Space}
 use Rattle.water_model.specs.declared.space.Space.TheVariants as space
 use Rattle.result_reader.specs.Names.{named}
-use Rattle.result_reader.specs.NamePlaces.{kept_at}
-
-bytes_eq-sym : (xs ys : List ℕ) → bytes_eq xs ys ≡ bytes_eq ys xs
-bytes_eq-sym xs ys =
-    elim (cases_Bool (bytes_eq xs ys)) [
-      | inl same ↦ same ∙ sym ((bytes_eq-Decides ys xs).1 (sym ((bytes_eq-Decides xs ys).0 same)))
-      | inr other ↦ elim (cases_Bool (bytes_eq ys xs)) [
-        | inl same ↦
-            absurd (false≢true (sym other ∙ (bytes_eq-Decides xs ys).1 (sym ((bytes_eq-Decides ys xs).0 same))))
-        | inr same ↦ other ∙ sym same
-      ]
-    ]
-
-none_there : (r : Option ℕ) → is_some r ≡ false → r ≡ None
-none_there None h = refl
-none_there (Some n) h = cc
-
--- a name that was not kept is kept from now on
-pub added : {S : Type 0} (t : Bor (List ℕ)) (old new : IndexMap (Bor (List ℕ)) ℕ S) (place : ℕ) →
-    UpdatesBy (λ x y. bytes_eq x.now y.now) (λ k. bytes_eq t.now k.now) old new (Some place) →
-    is_some (get_by (λ k. bytes_eq t.now k.now) old) ≡ false →
-    (q : List ℕ) → kept_at new q ≡ option_or (kept_at old q) (if bytes_eq q t.now then Some place else None)
-added t old new place updates absent q =
-    let there = hash_map_updates_str t.now old new (Some place) updates q in
-    elim (cases_Bool (bytes_eq t.now q)) [
-      | inl same ↦ (let here : kept_at new q ≡ Some place = rw same at there in
-          let eq : t.now ≡ q = (bytes_eq-Decides t.now q).0 same in
-          let before : kept_at old q ≡ None = rw (← eq) (none_there _ absent) in
-          rw before (rw (bytes_eq-sym q t.now) (rw same here)))
-      | inr other ↦ (let here : kept_at new q ≡ kept_at old q = rw other at there in
-          rw (bytes_eq-sym q t.now) (rw other (here ∙ sym (or_none (kept_at old q)))))
-    ]
-  where
-    or_none : (r : Option ℕ) → option_or r None ≡ r
-    or_none None = refl
-    or_none (Some n) = refl
-
--- one number more
-numbers_more : (from n : ℕ) → numbers_from from (suc n) ≡ numbers_from from n ++ (from + n) ∷ []
-unfolding numbers_from
-numbers_more from zero = ap (λ k. k ∷ []) (omega arith)
-numbers_more from (suc n) =
-    ap (λ xs. from ∷ xs) (numbers_more (suc from) n ∙ ap (λ k. numbers_from (suc from) n ++ k ∷ []) (omega arith))
+use Rattle.basin_names.specs.Places.{place_at}
 
 -- the first of some places that passes a test, and of one place more
 pub found-more : (p : ℕ → Bool) (i : ℕ) (before after : Option ℕ) → before ≡ find p (numbers_from 0 i) →
@@ -79,35 +37,26 @@ found-more p i before after h k =
 
 -- an empty map keeps no name
 pub kept-none : {S : Type 0} (places : IndexMap (Bor (List ℕ)) ℕ S) (q : List ℕ) → places.entries ≡ [] →
-    kept_at places q ≡ None
+    place_at places q ≡ None
 kept-none places q e = rw e refl
 
 -- Names of a valid basin.
 
--- an entry below the length is there
-pub get_there : {X : Type 0} (xs : List X) (k : ℕ) → k < length xs → (x : X) × (slice_get xs k ≡ Some x)
-get_there [] k l = absurd (omega arith)
-get_there (x ∷ xs) zero l = (x, refl)
-get_there (x ∷ xs) (suc k) l = get_there xs k (omega arith)
-
-all_at : {X : Type 0} (P : X → Type 0) (xs : List X) (k : ℕ) (x : X) → All P xs → slice_get xs k ≡ Some x → P x
-all_at P xs k x h e = subst P (get_or_from_slice_get xs k x x e) (h k x (slice_get_within xs k x e))
-
 -- each name is one
 pub name_is : (b : Basin) → IsValidBasin b → (s : Space) (at : ℕ) → at < count_in s b → is_name (name_in s b at) ≡ true
 name_is b valid space.Nodes at l =
-    let n = get_there b.nodes at l in
+    let n = entry_at b.nodes at l in
     rw n.1 (all_at IsValidNode b.nodes at n.0 valid.nodes n.1).name
 name_is b valid space.Links at l =
-    let n = get_there b.links at l in
+    let n = entry_at b.links at l in
     rw n.1 (all_at (λ l. IsValidLink b l) b.links at n.0 valid.links n.1).name
 name_is b valid space.Reservoirs at l =
-    let v = get_there b.reservoirs at l in
-    let n = get_there b.nodes v.0.node
+    let v = entry_at b.reservoirs at l in
+    let n = entry_at b.nodes v.0.node
     (all_at (λ v. IsValidReservoir b v) b.reservoirs at v.0 valid.reservoirs v.1).node in
     rw (v.1, n.1) (all_at IsValidNode b.nodes v.0.node n.0 valid.nodes n.1).name
 name_is b valid space.Rights at l =
-    let n = get_there b.rights at l in
+    let n = entry_at b.rights at l in
     rw n.1 (all_at (λ r. IsValidRight b r) b.rights at n.0 valid.rights n.1).name
 
 -- no two reservoirs have one name, since each stands at a node of its own
@@ -117,10 +66,10 @@ reservoirs_differ b valid i j l h same =
     valid.names.reservoirs i j l h (rw (v.1, w.1) (ap (λ n. Some n) (one_node v.0.node w.0.node first second names)))
   where
     v : (x : Reservoir) × (slice_get b.reservoirs i ≡ Some x)
-    v = get_there b.reservoirs i (omega arith)
+    v = entry_at b.reservoirs i (omega arith)
 
     w : (x : Reservoir) × (slice_get b.reservoirs j ≡ Some x)
-    w = get_there b.reservoirs j h
+    w = entry_at b.reservoirs j h
 
     first : v.0.node < length b.nodes
     first = (all_at (λ v. IsValidReservoir b v) b.reservoirs i v.0 valid.reservoirs v.1).node

@@ -12,7 +12,7 @@ use Rattle.result_reader.specs.Progress.{months_due}
 use Rattle.water_model.specs.declared.item.Item.{Item}
 use Rattle.result_reader.specs.declared.shape.Shape.{Shape}
 use Rattle.result_reader.specs.declared.shape.Shape.TheVariants as shape
-use Rattle.result_reader.proofs.Grammar.{same_shape_is, same_shape_itself, take_fits, take_stops}
+use Rattle.result_reader.proofs.Steps.{same_shape_is, same_shape_itself, take_fits, take_stops}
 
 pub same_result : (r : Bool) (a b : Shape) → (IsTrue r ↔ (a ≡ b)) → r ≡ is_same_shape a b
 same_result r a b h = by_both r refl (is_same_shape a b) refl

@@ -1,12 +1,13 @@
 -- What is spelled is read.
 use Rattle.std.proofs.Common.{◌≡◌, ℕ, ◌+◌, ◌/◌, ◌%◌, ◌^◌, ◌<◌, ◌≤◌, Bool, true, false, refl, sym, ap, ◌∙◌, arith, List}
 use Rattle.std.proofs.Common.{[], ◌∷◌, ◌++◌, length, length-append, cond}
-use Rattle.std.specs.Prelude.{Some, Ok, not, ◌&&◌, ◌==◌, nat_le, nat_lt, codes}
+use Rattle.std.specs.Prelude.{Some, Ok, not, ◌==◌, nat_le, nat_lt, codes}
 use Rattle.std.specs.Fmt.{decimal}
 use Rattle.std.specs.List.{list_all, join_with_byte, slice_split, onto_first}
 use Rattle.std.proofs.lemmas.Bool.Decides.{nat_tests}
 use Rattle.std.proofs.lemmas.Fmt.{decimal_by_steps}
 use Rattle.std.proofs.lemmas.List.Folds.{list_all-append}
+use Rattle.std.proofs.lemmas.Bool.{and_parts}
 use Rattle.water_text.proofs.AmountLaws.{read_plain-decimal, decimal_short}
 use Rattle.water_text.proofs.MonthLaws.{read_month-month_digits, length-month_digits}
 use Rattle.water_text.specs.Amounts.{read_plain}
@@ -34,17 +35,13 @@ use Rattle.result_reader.proofs.NameLaws.{name_is, named-at}
 abbrev pub lacks : ℕ → List ℕ → Bool
 lacks byte bytes = list_all (λ c. not (c == byte)) bytes
 
-both : (p q : Bool) → p && q ≡ true → (p ≡ true) × (q ≡ true)
-both true q h = (refl, h)
-both false q h = cc
-
 -- what stands between the bytes at which a list is cut
 abbrev pub cut_at : ℕ → List ℕ → List (List ℕ)
 cut_at byte bytes = slice_split (λ c. c == byte) bytes
 
 cut-one : (byte : ℕ) (x : List ℕ) → lacks byte x ≡ true → cut_at byte x ≡ x ∷ []
 cut-one byte [] h = refl
-cut-one byte (c ∷ cs) h = by_test (c == byte) refl (both (not (c == byte)) (lacks byte cs) h) (cut-one byte cs)
+cut-one byte (c ∷ cs) h = by_test (c == byte) refl (and_parts (not (c == byte)) (lacks byte cs) h) (cut-one byte cs)
   where
     by_test : (t : Bool) → (c == byte) ≡ t → (not (c == byte) ≡ true) × (lacks byte cs ≡ true) →
         (lacks byte cs ≡ true → cut_at byte cs ≡ cs ∷ []) →
@@ -59,7 +56,7 @@ cut-first byte [] rest h = let here : (byte == byte) ≡ true = same byte in rw 
     same : (n : ℕ) → (n == n) ≡ true
     same n = grind (arith, nat_tests)
 cut-first byte (c ∷ cs) rest h =
-    by_test (c == byte) refl (both (not (c == byte)) (lacks byte cs) h) (cut-first byte cs rest)
+    by_test (c == byte) refl (and_parts (not (c == byte)) (lacks byte cs) h) (cut-first byte cs rest)
   where
     by_test : (t : Bool) → (c == byte) ≡ t → (not (c == byte) ≡ true) × (lacks byte cs ≡ true) →
         (lacks byte cs ≡ true → cut_at byte (cs ++ (byte ∷ rest)) ≡ cs ∷ cut_at byte rest) →
@@ -71,9 +68,9 @@ cut-first byte (c ∷ cs) rest h =
 -- the pieces of joined fields are the fields
 pieces-join : (x : List ℕ) (xs : List (List ℕ)) → list_all (lacks 32) (x ∷ xs) ≡ true →
     pieces_of (join_with_byte 32 (x ∷ xs)) ≡ x ∷ xs
-pieces-join x [] h = cut-one 32 x (both (lacks 32 x) true h).0
+pieces-join x [] h = cut-one 32 x (and_parts (lacks 32 x) true h).0
 pieces-join x (y ∷ ys) h =
-    let two = both (lacks 32 x) (list_all (lacks 32) (y ∷ ys)) h in
+    let two = and_parts (lacks 32 x) (list_all (lacks 32) (y ∷ ys)) h in
     cut-first 32 x (join_with_byte 32 (y ∷ ys)) two.0 ∙ ap (λ t. x ∷ t) (pieces-join y ys two.1)
 
 -- No field has a byte below `-` (45), and so neither a space nor a line feed.
@@ -84,7 +81,7 @@ is_plain bytes = list_all (λ c. nat_le 45 c) bytes
 plain-lacks : (byte : ℕ) → byte < 45 → (bytes : List ℕ) → is_plain bytes ≡ true → lacks byte bytes ≡ true
 plain-lacks byte low [] h = refl
 plain-lacks byte low (c ∷ cs) h =
-    let two = both (nat_le 45 c) (is_plain cs) h in
+    let two = and_parts (nat_le 45 c) (is_plain cs) h in
     rw (apart c two.0) (plain-lacks byte low cs two.1)
   where
     apart : (c : ℕ) → nat_le 45 c ≡ true → not (c == byte) ≡ true
@@ -94,7 +91,7 @@ plain-all : (byte : ℕ) → byte < 45 → (xs : List (List ℕ)) → list_all i
     list_all (lacks byte) xs ≡ true
 plain-all byte low [] h = refl
 plain-all byte low (x ∷ xs) h =
-    let two = both (is_plain x) (list_all is_plain xs) h in
+    let two = and_parts (is_plain x) (list_all is_plain xs) h in
     rw (plain-lacks byte low x two.0) (plain-all byte low xs two.1)
 
 decimal_plain : (n : ℕ) → n < 2 ^ 64 → is_plain (decimal n) ≡ true
@@ -123,14 +120,14 @@ name_byte_plain c h = grind (arith, nat_tests)
 bytes_plain : (bytes : List ℕ) → list_all is_name_byte bytes ≡ true → is_plain bytes ≡ true
 bytes_plain [] h = refl
 bytes_plain (c ∷ cs) h =
-    let two = both (is_name_byte c) (list_all is_name_byte cs) h in
+    let two = and_parts (is_name_byte c) (list_all is_name_byte cs) h in
     rw (name_byte_plain c two.0) (bytes_plain cs two.1)
 
 name_plain : (bytes : List ℕ) → is_name bytes ≡ true → is_plain bytes ≡ true
 unfolding is_name
 name_plain bytes h =
-    let two = both (nat_le 1 (length bytes)) _ h in
-    bytes_plain bytes (both (nat_le (length bytes) 32) (list_all is_name_byte bytes) two.1).1
+    let two = and_parts (nat_le 1 (length bytes)) _ h in
+    bytes_plain bytes (and_parts (nat_le (length bytes) 32) (list_all is_name_byte bytes) two.1).1
 
 entry_plain : (b : Basin) → IsValidBasin b → (s : Space) (at : ℕ) → at < count_in s b → is_plain (name_in s b at) ≡ true
 entry_plain b valid s at l = name_plain (name_in s b at) (name_is b valid s at l)
@@ -220,7 +217,7 @@ name_short : (bytes : List ℕ) → is_name bytes ≡ true → length bytes ≤ 
 unfolding is_name
 name_short bytes h =
     at_most (length bytes)
-    (both (nat_le (length bytes) 32) (list_all is_name_byte bytes) (both (nat_le 1 (length bytes)) _ h).1).0
+    (and_parts (nat_le (length bytes) 32) (list_all is_name_byte bytes) (and_parts (nat_le 1 (length bytes)) _ h).1).0
   where
     at_most : (n : ℕ) → nat_le n 32 ≡ true → n ≤ 32
     at_most n e = grind (arith, nat_tests)
@@ -344,8 +341,8 @@ line_lacks_feed b valid i o =
   where
     joined : (xs : List (List ℕ)) → list_all (lacks 10) xs ≡ true → lacks 10 (join_with_byte 32 xs) ≡ true
     joined [] h = refl
-    joined (x ∷ []) h = (both (lacks 10 x) true h).0
+    joined (x ∷ []) h = (and_parts (lacks 10 x) true h).0
     joined (x ∷ y ∷ ys) h =
-        let two = both (lacks 10 x) (list_all (lacks 10) (y ∷ ys)) h in
+        let two = and_parts (lacks 10 x) (list_all (lacks 10) (y ∷ ys)) h in
         list_all-append (λ c. not (c == 10)) x (32 ∷ join_with_byte 32 (y ∷ ys))
         ∙ rw (two.0, joined (y ∷ ys) two.1) refl

@@ -33,7 +33,7 @@ use Rattle.result_reader.specs.declared.shape.Shape.{Shape}
 use Rattle.result_reader.specs.declared.shape.Shape.TheVariants as shape
 use Rattle.result_reader.proofs.Accepting.{may_come}
 use Rattle.result_reader.proofs.AllTold.{has_set, month_of}
-use Rattle.result_reader.proofs.Grammar.{fits_itself}
+use Rattle.result_reader.proofs.Steps.{fits_itself}
 use Rattle.result_reader.proofs.OfTexts.{AreOfText, records_of_text}
 use Rattle.result_reader.proofs.Spelled.{item-line}
 

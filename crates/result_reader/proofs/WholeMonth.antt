@@ -18,7 +18,8 @@ use Rattle.water_model.specs.declared.types.Inflows.{Inflows}
 use Rattle.water_model.specs.declared.types.MonthRecord.{MonthRecord}
 use Rattle.result_reader.specs.Telling.{Told, tell, told_by, nothing_told, blank_month, with_supply}
 use Rattle.result_reader.proofs.Telling.{set_all, fold-both}
-use Rattle.result_reader.proofs.MonthTold.{Tells, sections_told, put_sets, take_of, with_section}
+use Rattle.result_reader.proofs.MonthTold.{Tells, sections_told, take_of, with_section}
+use Rattle.result_reader.proofs.Sets.{put_sets}
 
 -- the numbers of the record are all told, and what is not told is 0
 pub record IsAllTold (b : Basin) (series : Inflows) (m : MonthRecord) : Type 0 where

@@ -6,8 +6,9 @@ ghost use Rattle.water_model.specs.Valid.{IsValidBasin};
 ghost use Rattle.water_model.specs.Entries.{count_in, name_in};
 ghost use Rattle.water_model.specs.declared.space.Space.TheVariants.{Nodes, Links, Reservoirs, Rights};
 ghost use Rattle.result_reader.specs.Names.{named};
-ghost use Rattle.result_reader.specs.NamePlaces.{kept_at, KeepsNames};
+ghost use Rattle.result_reader.specs.NamePlaces.{KeepsNames};
 
+use basin_names::add_place;
 use indexmap::IndexMap;
 use std::alloc::{AllocError, Global};
 use water_model::space::{Space, count_in};
@@ -25,22 +26,6 @@ fn name_in<'b>(space: Space, basin: &'b Basin, at: usize) -> &'b [u8]
         Space::Reservoirs => basin.nodes[basin.reservoirs[at].node as usize].name.bytes(),
         Space::Rights => basin.rights[at].name.bytes(),
     }
-}
-
-/// Adds the place of a name. A name that has a place keeps it.
-fn add_place<'b>(
-    places: &mut IndexMap<&'b [u8], u32>,
-    name: &'b [u8],
-    place: u32,
-) -> Result<(), AllocError>
-    ensures { OnOk result ((q : List ℕ) →
-        kept_at places.new q ≡ option_or (kept_at places.old q)
-        (if bytes_eq q name.entry.now then Some place else None)) }
-{
-    if !places.contains_key(name) {
-        places.insert(name, place)?;
-    }
-    Ok(())
 }
 
 /// The place of each name of a space.

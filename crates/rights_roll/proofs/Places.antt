@@ -1,16 +1,15 @@
 -- The first place at which a list of keys has a key.
 use Rattle.std.proofs.Common.{◌≡◌, ℕ, zero, suc, ◌+◌, ◌<◌, ◌≤◌, Bool, true, false, cond, List, [], ◌∷◌, ◌++◌, length}
 use Rattle.std.proofs.Common.{take, get_or, Some, None, refl, sym, ap, ◌∙◌, arith, add-zero}
-use Rattle.std.proofs.lemmas.Bool.Decides.{nat_tests}
 use Rattle.std.proofs.lemmas.Iterator.Adapters.{position_from-zero}
 use Rattle.std.proofs.lemmas.List.{get_or-take, length-take-le}
 use Rattle.std.proofs.lemmas.List.Quantifiers.{position-Some}
 use Rattle.std.proofs.lemmas.List.Sums.{position_or_len_is}
 use Rattle.std.proofs.lemmas.Slice.Eq.{bytes_eq-Decides}
-use Rattle.std.specs.Prelude.{nat_lt}
 use Rattle.std.specs.List.{position, position_from, position_or_len}
 use Rattle.std.specs.Option.{option_or}
 use Rattle.std.specs.Str.{bytes_eq}
+use Rattle.std.proofs.lemmas.Bool.{lt-ltb}
 
 pub same_bytes : (xs ys : List ℕ) → xs ≡ ys → bytes_eq xs ys ≡ true
 same_bytes xs ys e = (bytes_eq-Decides xs ys).1 e
@@ -69,15 +68,12 @@ position-fails : {X : Type 0} (p : X → Bool) (xs : List X) (k : ℕ) (d : X) �
     p (get_or xs k d) ≡ false
 position-fails p xs k d none below = by_test (p (get_or xs k d)) refl
   where
-    within : (n m : ℕ) → n < m → nat_lt n m ≡ true
-    within n m h = grind (arith, nat_tests)
-
     by_test : (t : Bool) → p (get_or xs k d) ≡ t → p (get_or xs k d) ≡ false
     by_test false e = e
     by_test true e =
         let at_most = position_or_len-at_most p xs k d below e in
         let found : Some (position_or_len p xs) ≡ None =
-        rw (within (position_or_len p xs) (length xs) (omega (arith, at_most))) at none in cc
+        rw (lt-ltb (position_or_len p xs) (length xs) (omega (arith, at_most))) at none in cc
 
 -- what is found in a front is the first place of the whole
 pub position_or_len-found : {X : Type 0} (p : X → Bool) (xs : List X) (i first : ℕ) (d : X) → i ≤ length xs →

@@ -1,14 +1,12 @@
 -- The rights by priority, in a map.
 use Rattle.std.proofs.Common.{◌≡◌, ℕ, zero, suc, ◌+◌, ◌<◌, ◌≤◌, Bool, true, false, cond, List, [], ◌∷◌, length, map}
 use Rattle.std.proofs.Common.{take, get_or, Option, Some, None, Less, refl, sym, ap, ◌∙◌, inl, inr, arith, below_more}
-use Rattle.std.proofs.lemmas.Bool.Decides.{nat_tests}
 use Rattle.std.proofs.lemmas.List.{map_more, length-map, length-take-le, take-map, take_all}
 use Rattle.std.proofs.lemmas.List.Quantifiers.{position-Some}
 use Rattle.std.proofs.lemmas.List.Sums.{position_or_len_is}
 use Rattle.std.proofs.lemmas.Map.Keys.{sorted_head, sorted_tail}
 use Rattle.std.proofs.lemmas.Map.Views.{All-found}
-use Rattle.std.specs.Prelude.{nat_lt}
-use Rattle.std.specs.BTreeMap.{BTreeMap, IsOrdered, IsEmpty, Updates, values}
+use Rattle.std.specs.BTreeMap.{BTreeMap, IsOrdered, Updates, values}
 use Rattle.std.specs.BTreeMap as tree
 use Rattle.std.specs.List.{All, AllByRecursion, position, position_or_len}
 use Rattle.std.specs.List.Sorted.{IsStrictlySortedBy}
@@ -16,6 +14,7 @@ use Rattle.std.specs.Map.{lookup, keys_of, values_of}
 use Rattle.std.specs.Option.{option_or}
 use Rattle.std.specs.Ordering.{is_eq}
 use Rattle.std.specs.Str.{bytes_eq}
+use Rattle.std.proofs.lemmas.Bool.{lt-ltb}
 use Rattle.water_model.specs.Places.{by_seniority}
 use Rattle.water_model.specs.Rights.{priority, priority_in, is_senior_in, is_lower, AreStrict}
 use Rattle.water_model.specs.declared.types.Right.{Right}
@@ -134,13 +133,6 @@ ranks-more rights old new i r p below is parts absent updates fresh = record {
         ∙ (sym (position-append (bytes_eq (numbers_of q)) (map priority (take i rights)) (priority (get_or rights i r)))
         ∙ ap (position (bytes_eq (numbers_of q))) (sym (map_more priority rights i r below)))))
 
--- no rights yet
-pub ranks-start : (rights : List Right) (ranks : BTreeMap Priority ℕ) → IsEmpty ranks → AreFresh rights ranks 0
-ranks-start rights ranks empty = record {
-  ranked = λ p. ap (lookup (λ k. is_eq (priority_cmp p k))) empty;
-  fresh = λ k h. absurd (omega arith);
-}
-
 -- all rights
 pub ranks-all : (rights : List Right) (ranks : BTreeMap Priority ℕ) (i : ℕ) → length rights ≤ i →
     AreFresh rights ranks i → AreRanks rights ranks × (same_seniority rights ≡ None)
@@ -239,11 +231,8 @@ found_by_priority rights ranks r p strict all below key = all p ∙ found
         (omega (arith, length-map rights priority)) apart
         (λ l. same_bytes (numbers_of p) (get_or (map priority rights) r []) key)
 
-    within : (n m : ℕ) → n < m → nat_lt n m ≡ true
-    within n m h = grind (arith, nat_tests)
-
     found : position (bytes_eq (numbers_of p)) (map priority rights) ≡ Some r
-    found = rw place (rw (within r (length (map priority rights)) (omega (arith, length-map rights priority))) refl)
+    found = rw place (rw (lt-ltb r (length (map priority rights)) (omega (arith, length-map rights priority))) refl)
 
 has-right : (rights : List Right) (ranks : BTreeMap Priority ℕ) → AreStrict rights → AreRanks rights ranks → (r : ℕ) →
     r < length rights → Has (values ranks) r

@@ -1,8 +1,7 @@
 -- Rights of one priority.
 use Rattle.std.proofs.Common.{◌≡◌, ℕ, zero, suc, ◌+◌, ◌<◌, ◌≤◌, Bool, true, false, List, [], ◌∷◌, length, map, get_or}
 use Rattle.std.proofs.Common.{Some, None, refl, sym, ap, ◌∙◌, inl, inr, arith}
-use Rattle.std.proofs.lemmas.Bool.{cases_eq, cases_lt}
-use Rattle.std.proofs.lemmas.Bool.Decides.{nat_tests}
+use Rattle.std.proofs.lemmas.Bool.{cases_eq, cases_lt, le-ltb, lt-ltb}
 use Rattle.std.proofs.lemmas.List.{length-map}
 use Rattle.std.specs.Prelude.{nat_lt}
 use Rattle.std.specs.List.{position_or_len}
@@ -40,11 +39,8 @@ from-fresh : (keys : List (List ℕ)) (n : ℕ) (key : List ℕ) (rest : List (L
     IsFresh keys n → same_from keys n (key ∷ rest) ≡ same_from keys (n + 1) rest
 from-fresh keys n key rest is fresh =
     let test : nat_lt (position_or_len (bytes_eq key) keys) n ≡ false =
-    ap (λ q. nat_lt (position_or_len (bytes_eq q) keys) n) is ∙ not_lt (first_like keys n) n fresh in
+    ap (λ q. nat_lt (position_or_len (bytes_eq q) keys) n) is ∙ le-ltb (first_like keys n) n fresh in
     rw test refl
-  where
-    not_lt : (i j : ℕ) → j ≤ i → nat_lt i j ≡ false
-    not_lt i j l = grind (arith, nat_tests)
 
 -- at a key that an earlier place has it ends
 from-like : (keys : List (List ℕ)) (n : ℕ) (key : List ℕ) (rest : List (List ℕ)) → key ≡ get_or keys n [] →
@@ -53,11 +49,8 @@ from-like : (keys : List (List ℕ)) (n : ℕ) (key : List ℕ) (rest : List (Li
 from-like keys n key rest is like =
     let at : position_or_len (bytes_eq key) keys ≡ first_like keys n = ap (λ q. position_or_len (bytes_eq q) keys) is in
     let test : nat_lt (position_or_len (bytes_eq key) keys) n ≡ true =
-    ap (λ k. nat_lt k n) at ∙ lt (first_like keys n) n like in
+    ap (λ k. nat_lt k n) at ∙ lt-ltb (first_like keys n) n like in
     rw test (ap (λ k. Some (SameSeniority k n)) at)
-  where
-    lt : (i j : ℕ) → i < j → nat_lt i j ≡ true
-    lt i j l = grind (arith, nat_tests)
 
 from-found : (keys : List (List ℕ)) (n : ℕ) (rest : List (List ℕ)) (i : ℕ) → AreBehind keys n rest → n ≤ i →
     i < n + length rest →

@@ -1,10 +1,10 @@
 -- The list of the rights by seniority: it is the only one, and the place of each right in it.
 use Rattle.std.proofs.Common.{◌≡◌, ℕ, zero, suc, ◌<◌, ◌≤◌, Bool, true, false, List, [], ◌∷◌, length, get_or, refl, sym}
-use Rattle.std.proofs.Common.{ap, ◌∙◌, subst, inl, inr, arith}
+use Rattle.std.proofs.Common.{ap, ◌∙◌, inl, inr, arith}
 use Rattle.std.proofs.lemmas.Bool.{cases_eq, cases_order}
 use Rattle.std.proofs.lemmas.Bool.Decides.{nat_tests}
 use Rattle.std.specs.Prelude.{◌==◌, nat_lt, ◌≢◌, if◌then◌else◌}
-use Rattle.water_model.specs.Rights.{is_lower, is_senior_in, priority_in, AreStrict}
+use Rattle.water_model.specs.Rights.{is_senior_in, priority_in, AreStrict}
 use Rattle.water_model.specs.Places.{by_seniority}
 use Rattle.water_model.specs.declared.types.Right.{Right}
 use Rattle.water_model.proofs.Duality.{not_lower}
@@ -177,65 +177,7 @@ by_seniority_order rights strict = record {
 
 -- An order with places is the rights by seniority.
 
--- two rights that are equal have one place, so no two rights have one priority
-strict-from_order : (rights : List Right) (order : List ℕ) → IsSeniorityOrder rights order → AreStrict rights
-strict-from_order rights order o r s before below same =
-    let in_range : r < length rights = omega arith in
-    let first : nat_lt (o.place r) (o.place s) ≡ false =
-    sym (o.senior r s in_range below)
-    ∙ (ap (λ k. is_lower k (priority_in rights s)) same ∙ not_lower (priority_in rights s)) in
-    let second : nat_lt (o.place s) (o.place r) ≡ false =
-    sym (o.senior s r below in_range)
-    ∙ (ap (is_lower (priority_in rights s)) same ∙ not_lower (priority_in rights s)) in
-    let one : o.place r ≡ o.place s = equal (o.place r) (o.place s) first second in
-    let again : r ≡ s = sym (o.each r in_range) ∙ (ap (λ k. get_or order k 0) one ∙ o.each s below) in
-    omega arith
-  where
-    equal : (i j : ℕ) → nat_lt i j ≡ false → nat_lt j i ≡ false → i ≡ j
-    equal i j h k = grind (arith, nat_tests)
-
 has-at : (xs : List ℕ) (x : ℕ) → Has xs x → (i : ℕ) × ((i < length xs) × (get_or xs i 0 ≡ x))
 has-at [] x h = absurd h
 has-at (y ∷ ys) x (inl e) = (0, (omega arith, sym e))
 has-at (y ∷ ys) x (inr h) = let at = has-at ys x h in (suc at.0, (omega (arith, at.1.0), at.1.1))
-
-ordered-from : (rights : List Right) (xs : List ℕ) →
-    ((i j : ℕ) → i < j → j < length xs → is_senior_in rights (get_or xs i 0) (get_or xs j 0) ≡ true) →
-    IsOrdered rights xs
-ordered-from rights [] h = tt
-ordered-from rights (x ∷ xs) h = (
-  λ y k. (let at = has-at xs y k in
-      ap (is_senior_in rights x) (sym at.1.1) ∙ h 0 (suc at.0) (omega arith) (omega (arith, at.1.0))),
-  ordered-from rights xs (λ i j below within. h (suc i) (suc j) (omega arith) (omega arith)),
-)
-
--- a list that has each right once, at its place
-pub order_is_by_seniority : (rights : List Right) (order : List ℕ) → IsSeniorityOrder rights order →
-    order ≡ by_seniority rights
-order_is_by_seniority rights order o =
-    is_by_seniority rights order (strict-from_order rights order o) (ordered-from rights order ordered) all only
-  where
-    lt : (i j : ℕ) → i < j → nat_lt i j ≡ true
-    lt i j h = grind (arith, nat_tests)
-
-    ordered : (i j : ℕ) → i < j → j < length order → is_senior_in rights (get_or order i 0) (get_or order j 0) ≡ true
-    ordered i j before below =
-        let i_in : i < length rights = omega (arith, o.count) in
-        let j_in : j < length rights = omega (arith, o.count) in
-        o.senior (get_or order i 0) (get_or order j 0) (o.below i i_in) (o.below j j_in)
-        ∙ (ap (λ k. nat_lt k (o.place (get_or order j 0))) (o.placed i i_in)
-        ∙ (ap (nat_lt i) (o.placed j j_in) ∙ lt i j before))
-
-    all : (r : ℕ) → r < length rights → Has order r
-    all r below =
-        let P : ℕ → Type 0 = λ x. Has order x in
-        subst P (o.each r below)
-        (has-get_or order (o.place r) (let within : o.place r < length rights = o.in_range r below in
-        omega (arith, o.count)))
-
-    only : (r : ℕ) → Has order r → r < length rights
-    only r h =
-        let at = has-at order r h in
-        let within : at.0 < length rights = omega (arith, at.1.0, o.count) in
-        let P : ℕ → Type 0 = λ x. x < length rights in
-        subst P at.1.1 (o.below at.0 within)

@@ -1,7 +1,7 @@
 -- The links that leave one node are handled, from the first to the last.
 use Rattle.std.proofs.Common.{◌≡◌, ℕ, ◌+◌, ◌-◌, ◌<◌, ◌≤◌, Bool, true, false, refl, sym, ◌∙◌, ap, subst, arith, List, []}
 use Rattle.std.proofs.Common.{◌∷◌, ◌++◌, length, inl, inr}
-use Rattle.std.proofs.lemmas.Bool.{eq-eqb}
+use Rattle.std.proofs.lemmas.Bool.{eq-eqb, eqb-true}
 use Rattle.std.proofs.lemmas.Bool.Decides.{nat_tests}
 use Rattle.std.specs.Prelude.{◌==◌, ◌&&◌, ◌||◌, slice_index, slice_set, nat_lt, if◌then◌else◌, ◌⊎◌, Option, Some, None}
 use Rattle.std.specs.Prelude.{IfSome}
@@ -17,10 +17,7 @@ pub first_leaves : (g : GraphSeen) (node from : ℕ) (next : Option ℕ) →
     IsFirstFrom (leaves g.links node) from (length g.links) next →
     IfSome next (λ e. (e < length g.links) × (tail_in g.links e ≡ node))
 first_leaves g node from None first = tt
-first_leaves g node from (Some e) first = (first.1, eqb_is (tail_in g.links e) node first.2)
-  where
-    eqb_is : (x y : ℕ) → x == y ≡ true → x ≡ y
-    eqb_is x y h = grind (arith, nat_tests)
+first_leaves g node from (Some e) first = (first.1, eqb-true (tail_in g.links e) node first.2)
 
 -- of the links that leave the node, those from a place on are those from the next one on
 pub splits : (g : GraphSeen) (node from : ℕ) (next : Option ℕ) →
@@ -143,17 +140,3 @@ release_next g order waits order' waits' done node e next within now first waits
         (own_node g order now.place done (tail_in g.links f) now.sorting.placing inside now.within is ∙ now.at))
         ∙ sym (ap (λ t. t || (s.place' (tail_in g.links f) == done && is_before next f)) same.0
         ∙ ap (λ t. nat_lt (now.place (tail_in g.links f)) done || (t && is_before next f)) same.1)
-
--- behind the last link of the node
-pub release_end : (g : GraphSeen) (order waits : List ℕ) (done node : ℕ) → IsReleasing g order waits done node None →
-    IsReleased g order waits (done + 1)
-release_end g order waits done node now = record {
-  place = now.place;
-  handled = now.handled;
-  sorting = now.sorting;
-  within = (let b = now.within in omega arith);
-  which = λ e l. now.which e l ∙ up_to (now.place (tail_in g.links e)) done;
-}
-  where
-    up_to : (p d : ℕ) → (nat_lt p d || (p == d && true)) ≡ nat_lt p (d + 1)
-    up_to p d = grind (arith, nat_tests)

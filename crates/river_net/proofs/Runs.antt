@@ -213,9 +213,6 @@ run_sends nodes links supply order run flow out ends sound now e first =
     no_value true x h = h refl
     no_value false x h = refl
 
-    same : (x y : ℕ) → x == y ≡ true → x ≡ y
-    same x y h = grind (arith, nat_tests)
-
     -- no two links are the first river of one node
     unique : (f g : ℕ) → IsFirstRiver links f → IsFirstRiver links g → tail_in links f ≡ tail_in links g → f < g → ⊥
     unique f g p q at less = let no : is_river_in links f ≡ false = q.first f less at in let yes = p.river in cc
@@ -223,7 +220,7 @@ run_sends nodes links supply order run flow out ends sound now e first =
     other : (f : ℕ) → f < length links → f ≢ e → (if tail_in links f == tail_in links e then flow f else 0) ≡ 0
     other f k ne = no_value (tail_in links f == tail_in links e) (flow f) (λ t. elim (now.quiet f k) [
       | inl none ↦ none
-      | inr some ↦ (let at : tail_in links f ≡ tail_in links e = same (tail_in links f) (tail_in links e) t in
+      | inr some ↦ (let at : tail_in links f ≡ tail_in links e = eqb-true (tail_in links f) (tail_in links e) t in
           elim (cases_lt f e) [
             | inl less ↦ absurd (unique f e some.0 first at less)
             | inr more ↦ absurd (unique e f first some.0 (sym at) (omega arith))

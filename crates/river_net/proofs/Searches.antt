@@ -5,7 +5,7 @@ use Rattle.std.proofs.lemmas.Bool.{cases_eq, cases_lt, cases_Bool, false_from_ne
 use Rattle.std.proofs.lemmas.Bool.Decides.{nat_tests}
 use Rattle.std.proofs.lemmas.List.{get_or-set_same, get_or-set_other, get_or-replicate, length-set, length-replicate}
 use Rattle.std.proofs.lemmas.Grind.{common_steps}
-use Rattle.std.specs.Prelude.{◌==◌, ◌||◌, nat_lt, slice_index, slice_set, if◌then◌else◌, Option, Some, None}
+use Rattle.std.specs.Prelude.{◌==◌, ◌||◌, nat_lt, slice_index, slice_set, if◌then◌else◌, Option, Some}
 use Rattle.place_sums.proofs.Totals.{total_same, total_add, total_at, count_at_most}
 use Rattle.water_model.specs.Lookups.{has}
 use Rattle.water_model.specs.Network.{walks, tail_in, head_in}
@@ -76,34 +76,6 @@ search_start g start seen queue inside seen_is queue_is = record {
     first : (j : ℕ) → j < length queue → slice_index queue j ≡ start
     first j l = let n = ap length queue_is in let none : j ≡ 0 = omega arith in
         ap (slice_index queue) none ∙ ap (λ (xs : List ℕ). slice_index xs 0) queue_is
-
--- before the first link of the node at hand
-pub expand_start : (g : GraphSeen) (start : ℕ) (seen : List Bool) (queue : List ℕ) (done : ℕ) (next : Option ℕ) →
-    done < length queue →
-    IsFirstFrom (leaves g.links (slice_index queue done)) 0 (length g.links) next → IsExpanded g start seen queue done →
-    IsExpanding g start seen queue done (slice_index queue done) next
-expand_start g start seen queue done next within first now = record {
-  expanded = now;
-  within = within;
-  at = refl;
-  leaves = first_leaves g (slice_index queue done) 0 next first;
-  followed = λ e l at before. absurd (none e (sym (splits g (slice_index queue done) 0 next first e l at) ∙ before));
-}
-  where
-    none : (e : ℕ) → nat_lt e 0 ≡ true → ⊥
-    none e h = grind (arith, nat_tests)
-
--- behind the last link of the node at hand
-pub expand_end : (g : GraphSeen) (start : ℕ) (seen : List Bool) (queue : List ℕ) (done node : ℕ) →
-    IsExpanding g start seen queue done node None → IsExpanded g start seen queue (done + 1)
-expand_end g start seen queue done node now = record {
-  search = now.expanded.search;
-  closed = λ j e below l at. elim (cases_lt j done) [
-    | inl before ↦ now.expanded.closed j e before l at
-    | inr here ↦
-        (let same : j ≡ done = omega arith in now.followed e l (at ∙ (ap (slice_index queue) same ∙ now.at)) refl)
-  ];
-}
 
 -- a link to the start closes a walk
 pub expand_found : (g : GraphSeen) (start : ℕ) (seen : List Bool) (queue : List ℕ) (done node e : ℕ) →

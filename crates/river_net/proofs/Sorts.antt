@@ -1,7 +1,7 @@
 -- Nodes get their places while links are handled.
 use Rattle.std.proofs.Common.{◌≡◌, ◌≢◌, ℕ, ◌+◌, ◌-◌, ◌<◌, ◌≤◌, Bool, true, false, refl, sym, ◌∙◌, ap, subst, arith}
 use Rattle.std.proofs.Common.{List, [], ◌∷◌, ◌++◌, length, inl, inr}
-use Rattle.std.proofs.lemmas.Bool.{cases_eq, eqb-true, eq-eqb, ne_eqb, false≢true, or_cases, le-ltb}
+use Rattle.std.proofs.lemmas.Bool.{cases_eq, eqb-true, eq-eqb, ne_eqb, false≢true, or_cases}
 use Rattle.std.proofs.lemmas.Bool.Decides.{nat_tests}
 use Rattle.std.proofs.lemmas.List.{get_or-set_same, get_or-set_other, length-set}
 use Rattle.std.proofs.lemmas.Grind.{common_steps}
@@ -11,7 +11,7 @@ use Rattle.place_sums.proofs.Totals.{total_same, total_change}
 use Rattle.water_model.specs.Network.{tail_in, head_in}
 use Rattle.river_net.specs.Firsts.{IsWithin}
 use Rattle.river_net.specs.GraphSeen.{GraphSeen}
-use Rattle.river_net.specs.Sorting.{AreEntering, IsPlacing, IsSorting, HasSources, IsReleased}
+use Rattle.river_net.specs.Sorting.{AreEntering, IsPlacing, IsSorting, HasSources}
 use Rattle.river_net.proofs.Counts.{none_passes}
 use Rattle.river_net.proofs.Places.{with_place, at_place, off_place, placing_start, placing_next, room}
 
@@ -131,16 +131,6 @@ source_skip g order waits v some now = record {
     idle = λ u l placed. let i = now.sorting.idle u l placed in let b = i.0 in (omega arith, i.1);
     tails = now.sorting.tails;
   };
-}
-
--- where all nodes were looked at, no place of the order is done
-pub sources_end : (g : GraphSeen) (order waits : List ℕ) → HasSources g order waits g.nodes → IsReleased g order waits 0
-sources_end g order waits now = record {
-  place = now.place;
-  handled = λ e. false;
-  sorting = now.sorting;
-  within = omega arith;
-  which = λ e l. sym (le-ltb (now.place (tail_in g.links e)) 0 (omega arith));
 }
 
 -- one link more is handled

@@ -1,6 +1,6 @@
 -- The first places of texts, kept in a map.
 use Rattle.std.proofs.Common.{◌≡◌, ℕ, ◌+◌, ◌<◌, ◌≤◌, suc, List, [], ◌∷◌, ◌++◌, length, map, take, drop, get_or}
-use Rattle.std.proofs.Common.{slice_get, slice_index, Bool, true, false, Option, Some, None, is_some, if◌then◌else◌}
+use Rattle.std.proofs.Common.{slice_get, slice_index, Bool, false, Option, Some, None, is_some, if◌then◌else◌}
 use Rattle.std.proofs.Common.{refl, sym, ap, ◌∙◌, inl, inr, arith, add-zero, count_by, option_map, option_and_then}
 use Rattle.std.proofs.Common.{IfSome, MatchOption, zero, append_assoc}
 use Rattle.std.proofs.lemmas.List.{drop_all, append-nil, take_more, length-take}
@@ -18,9 +18,6 @@ use Rattle.toml.specs.declared.value.Value.{Value}
 use Rattle.toml.specs.View.{view, items_view}
 use Rattle.toml_tree.specs.Texts.{earlier_like, texts_behind, is_the_text, first_from}
 use Rattle.toml_tree.specs.FirstPlaces.{kept_at, counted, earlier_from, AddsPlaces, AddsFront}
-
-pub bytes_eq-self : (xs : List ℕ) → bytes_eq xs xs ≡ true
-bytes_eq-self xs = (bytes_eq-Decides xs xs).1 refl
 
 pub bytes_eq-sym : (xs ys : List ℕ) → bytes_eq xs ys ≡ bytes_eq ys xs
 bytes_eq-sym xs ys =
@@ -69,9 +66,6 @@ texts_view key (v ∷ vs) = ap (λ texts. option_and_then as_str (get key (view 
 pub texts_len : (key : List ℕ) (vs : List Value) → length (texts_behind key (items_view vs)) ≡ length vs
 texts_len key [] = refl
 texts_len key (v ∷ vs) = ap suc (texts_len key vs)
-
-pub add_assoc : (a b c : ℕ) → (a + b) + c ≡ a + (b + c)
-add_assoc a b c = omega arith
 
 -- the first place in one list and then another
 pub first_from-append : {X : Type 0} (p : X → Bool) (n : ℕ) (xs ys : List X) →
@@ -157,11 +151,6 @@ pub counts_all : {V : Type 0} (f : V → Option (List ℕ)) (seen : List (Option
     → earlier ++ earlier_from seen (map f (drop i rows)) ≡ earlier_from [] (map f rows) →
     earlier ≡ earlier_from [] (map f rows)
 counts_all f seen earlier rows i h e = sym (append-nil earlier) ∙ (rw (drop_all i rows h) at e)
-
-pub get_item_view : (n : ℕ) (vs : List Value) → get_item n (items_view vs) ≡ option_map view (slice_get vs n)
-get_item_view n [] = refl
-get_item_view zero (v ∷ vs) = refl
-get_item_view (suc n) (v ∷ vs) = get_item_view n vs
 
 pub earlier_get : (seen texts : List (Option (List ℕ))) (k : ℕ) → slice_index (earlier_from seen texts) k
     ≡ option_map_or (λ text. option_map_or (λ q. count_by (is_the_text q) (seen ++ take k texts)) text 0)

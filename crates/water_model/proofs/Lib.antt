@@ -13,6 +13,7 @@ pub mod Balance
 pub mod Gauges
 pub mod Wants
 pub mod Histories
+pub mod Lists
 pub mod Outcome
 pub mod Returns
 pub mod Examples

@@ -5,3 +5,4 @@ pub mod LineFeeds
 pub mod MonthLaws
 pub mod ShapeLaws
 pub mod Values
+pub mod Splits

@@ -1,6 +1,6 @@
 use Rattle.std.proofs.Common.{sym, ◌∙◌}
 use Rattle.std.specs.Prelude.{◌==◌}
-use Rattle.edit_script.proofs.Pieces.{split-cut, split-whole}
+use Rattle.water_text.proofs.Splits.{split-cut, split-whole}
 use Rattle.edit_script.proofs.fields.cut.Goals as goal
 
 pub returns-in-Some : goal.returns-in-Some

@@ -1,4 +1,4 @@
-use Rattle.std.proofs.Common.{◌≡◌, ◌∙◌, ◌+◌, ◌≤◌, ℕ, List, sym, arith, ap, length, rules, subst}
+use Rattle.std.proofs.Common.{◌≡◌, ◌∙◌, ℕ, List, sym, arith, ap, length, rules, subst}
 use Rattle.water_model.specs.Valid.{rights_in_series}
 use Rattle.inflow_file.specs.Cells.{IsPart}
 use Rattle.inflow_file.proofs.ColumnLaws.{count_of_columns}

@@ -1,4 +1,4 @@
-use Rattle.std.proofs.Common.{◌≡◌, ◌∷◌, ◌∙◌, ap, sym, arith, length, List, ℕ}
+use Rattle.std.proofs.Common.{◌≡◌, ◌∷◌, ◌∙◌, ap, sym, arith, length}
 use Rattle.csv.specs.Records.{fields_of}
 use Rattle.inflow_file.specs.CsvRecords.{records_of}
 use Rattle.inflow_file.specs.RecordsLeft.{records_left}

@@ -3,9 +3,9 @@ use Rattle.std.specs.Prelude.{find}
 use Rattle.std.specs.Str.{bytes_eq}
 use Rattle.water_model.specs.Places.{numbers_from}
 use Rattle.water_model.specs.Entries.{name_in}
-use Rattle.result_reader.specs.NamePlaces.{kept_at}
+use Rattle.basin_names.specs.Places.{place_at}
 use Rattle.result_reader.proofs.names.places_of.Given as goal
 
 abbrev pub invariant-loop-at : goal.invariant-loop-at
 invariant-loop-at l =
-    (q : List ℕ) → kept_at l.places q ≡ find (λ at. bytes_eq q (name_in l.space l.basin at)) (numbers_from 0 l.at)
+    (q : List ℕ) → place_at l.places q ≡ find (λ at. bytes_eq q (name_in l.space l.basin at)) (numbers_from 0 l.at)

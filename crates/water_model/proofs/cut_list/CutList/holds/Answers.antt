@@ -1,5 +1,4 @@
-use Rattle.std.proofs.Common.{◌≡◌, false, sym, ◌∙◌}
-use Rattle.bit_words.specs.Marks.{marks}
+use Rattle.std.proofs.Common.{false, sym, ◌∙◌}
 use Rattle.bit_words.proofs.Marks.{get_or-marks, length-marks}
 use Rattle.water_model.proofs.cut_list.CutList.holds.Goals as goal
 

@@ -1,7 +1,6 @@
-use Rattle.std.proofs.Common.{◌≡◌, false, refl, ap, sym, ◌∙◌, arith}
+use Rattle.std.proofs.Common.{◌≡◌, ap, sym, ◌∙◌, arith}
 use Rattle.std.specs.Prelude.{Some, None}
 use Rattle.bit_words.specs.Marks.{marks}
-use Rattle.bit_words.proofs.Marks.{get_or-marks, length-marks}
 use Rattle.word_region.specs.Words.{words_at}
 use Rattle.word_region.specs.declared.Place.{Place}
 use Rattle.water_model.specs.CutInside.{set_at}

@@ -4,20 +4,19 @@ use Rattle.std.proofs.Common.{length, replicate}
 use Rattle.std.specs.Prelude.{Option, Some, None, slice_set}
 use Rattle.std.proofs.Math.ListN.{length-set}
 use Rattle.std.proofs.lemmas.Bool.{cases_eq}
+use Rattle.std.proofs.lemmas.List.{length-replicate}
 use Rattle.water_model.specs.Lookups.{of_entry}
 use Rattle.water_model.proofs.Order.{Has}
-use Rattle.result_reader.proofs.MonthTold.{put_sets}
 use Rattle.result_reader.proofs.Telling.{Sets, entry_set}
 
-abbrev pub set_in : Sets → ℕ → Option (List Bool)
-set_in xs k = of_entry xs k (λ s. s) None
-
-set_other : (xs : Sets) (r k : ℕ) (v : Option (List Bool)) → k ≢ r → set_in (slice_set xs r v) k ≡ set_in xs k
-set_other [] r k v h = refl
-set_other (x ∷ xs) zero zero v h = absurd (h refl)
-set_other (x ∷ xs) zero (suc k) v h = refl
-set_other (x ∷ xs) (suc r) zero v h = refl
-set_other (x ∷ xs) (suc r) (suc k) v h = set_other xs r k v (λ e. h (ap suc e))
+-- the sets of the rights that have one
+abbrev pub put_sets : List ℕ → (ℕ → Option (List Bool)) → List (Option (List Bool)) → List (Option (List Bool))
+put_sets [] cut ys = ys
+put_sets (r ∷ rs) cut ys = put_sets rs cut (put_set (cut r))
+  where
+    put_set : Option (List Bool) → List (Option (List Bool))
+    put_set None = ys
+    put_set (Some set) = slice_set ys r (Some set)
 
 -- the sets of one right more
 put_one : (r : ℕ) (o : Option (List Bool)) → Sets → Sets
@@ -43,6 +42,16 @@ length-put_sets [] cut ys = refl
 length-put_sets (r ∷ rs) cut ys =
     ap length (put_sets-step r rs cut ys)
     ∙ (length-put_sets rs cut (put_one r (cut r) ys) ∙ length-put_one r (cut r) ys)
+
+abbrev pub set_in : Sets → ℕ → Option (List Bool)
+set_in xs k = of_entry xs k (λ s. s) None
+
+set_other : (xs : Sets) (r k : ℕ) (v : Option (List Bool)) → k ≢ r → set_in (slice_set xs r v) k ≡ set_in xs k
+set_other [] r k v h = refl
+set_other (x ∷ xs) zero zero v h = absurd (h refl)
+set_other (x ∷ xs) zero (suc k) v h = refl
+set_other (x ∷ xs) (suc r) zero v h = refl
+set_other (x ∷ xs) (suc r) (suc k) v h = set_other xs r k v (λ e. h (ap suc e))
 
 put_one-keeps : (r k : ℕ) (cut : ℕ → Option (List Bool)) (ys : Sets) → k < length ys → set_in ys k ≡ cut k →
     set_in (put_one r (cut r) ys) k ≡ cut k
@@ -105,6 +114,26 @@ pub no_sets : (n k : ℕ) → (let xs : Sets = replicate n None in set_in xs k) 
 no_sets zero k = refl
 no_sets (suc n) zero = refl
 no_sets (suc n) (suc k) = no_sets n k
+
+same_sets : (xs ys : Sets) → length xs ≡ length ys → ((k : ℕ) → k < length xs → set_in xs k ≡ set_in ys k) → xs ≡ ys
+same_sets [] [] e h = refl
+same_sets [] (y ∷ ys) e h = absurd (omega arith)
+same_sets (x ∷ xs) [] e h = absurd (omega arith)
+same_sets (x ∷ xs) (y ∷ ys) e h =
+    ap (λ z. z ∷ xs) (h 0 (omega arith))
+    ∙ ap (λ zs. y ∷ zs) (same_sets xs ys (omega arith) (λ k l. h (suc k) (omega arith)))
+
+-- the sets of all rights
+pub all_sets : (rs : List ℕ) (n : ℕ) (ys : Sets) → length ys ≡ n → ((k : ℕ) → k < n → Has rs k) →
+    put_sets rs (λ r. set_in ys r) (replicate n None) ≡ ys
+all_sets rs n ys e has =
+    same_sets (put_sets rs (λ r. set_in ys r) (replicate n None)) ys (len ∙ sym e)
+    (λ k l. put_sets-has rs k (λ r. set_in ys r) (replicate n None)
+    (omega (arith, len, length-replicate {A = Option (List Bool)} n None)) (no_sets n k)
+    (has k (omega (arith, len))))
+  where
+    len : length (put_sets rs (λ r. set_in ys r) (replicate n None)) ≡ n
+    len = length-put_sets rs (λ r. set_in ys r) (replicate n None) ∙ length-replicate n None
 
 -- sets that are the same at the rights that are gone over
 pub put_sets-same : (rs : List ℕ) (cut other : ℕ → Option (List Bool)) (ys : Sets) →

@@ -1,0 +1,162 @@
+-- The rights and return rows of a generated basin are valid, and stand with their wants.
+use Rattle.std.proofs.Common.{◌≡◌, ℕ, suc, ◌+◌, ◌-◌, ◌*◌, ◌/◌, ◌^◌, ◌<◌, ◌≤◌, false, refl, sym}
+use Rattle.std.proofs.Common.{ap, subst, ◌∙◌, arith, List, [], ◌∷◌, ◌++◌, append-nil}
+use Rattle.std.specs.Prelude.{None, All}
+use Rattle.std.proofs.lemmas.Bool.{false≢true}
+use Rattle.water_model.specs.Valid.{IsValidRight, IsValidReturn, AreRanked, rank_of_kind, is_diversion_kind}
+use Rattle.water_model.specs.declared.types.Basin.{Basin}
+use Rattle.water_model.specs.declared.types.Right.{Right}
+use Rattle.basin_gen.specs.Draws.{next, drawn, later}
+use Rattle.basin_gen.specs.Entries.{diversion_at, instream_at, return_at, zone_at}
+use Rattle.basin_gen.specs.Generator.{generated, diversions_of, instreams_of, zones_of, before_rights, before_zones}
+use Rattle.basin_gen.specs.Generator.{draws_of_turns, turn_of_diversion}
+use Rattle.basin_gen.proofs.DrawLaws.{drawn_below}
+use Rattle.basin_gen.proofs.NameLaws.{numbered_is_name, zone_is_name}
+use Rattle.basin_gen.proofs.NetworkLaws.{same_for_months}
+use Rattle.basin_gen.proofs.Places.{entry_is, all_of}
+use Rattle.basin_gen.proofs.Places.{listed}
+use Rattle.basin_gen.proofs.Lists.{IsMade, States, joined_each, diversion_count, instream_count}
+use Rattle.basin_gen.proofs.Lists.{zone_count, return_count, diversion_made, instream_made, zone_made, other_made}
+use Rattle.basin_gen.proofs.Lists.{right_made}
+use Rattle.basin_gen.proofs.RightsLaws.{zone_by, is_zone, first_right}
+
+-- rights of one kind in front of rights that may not stand before them
+abbrev HasRank : ℕ → Right → Type 0
+HasRank rank r = rank_of_kind r.kind ≡ rank
+
+ranked_less : (least rank : ℕ) (rights : List Right) → least ≤ rank → AreRanked rank rights → AreRanked least rights
+ranked_less least rank [] h ranked = tt
+ranked_less least rank (r ∷ rights) h ranked = let low = ranked.0 in (omega arith, ranked.1)
+
+ranked_front : (least rank : ℕ) (front rights : List Right) → least ≤ rank → All (HasRank rank) front →
+    AreRanked rank rights → AreRanked least (front ++ rights)
+ranked_front least rank [] rights h all ranked = ranked_less least rank rights h ranked
+ranked_front least rank (r ∷ front) rights h all ranked =
+    let here : rank_of_kind r.kind ≡ rank = all 0 r (omega arith) in (
+      omega arith,
+      subst (λ n. AreRanked n (front ++ rights)) (sym here)
+          (ranked_front rank rank front rights (omega arith) (λ k d l. all (suc k) d (omega arith)) ranked),
+    )
+
+pub rights_ranked : (number size : ℕ) → AreRanked 0 (generated number size).rights
+unfolding generated diversions_of instreams_of zones_of
+rights_ranked number size =
+    let x = before_rights number size in
+    ranked_front 0 0 _ _ (omega arith)
+    (all_of (HasRank 0) _ _ _
+    (listed _ (λ d. diversion_at size (turn_of_diversion d) (later x (draws_of_turns (turn_of_diversion d)))))
+    (λ i l. refl))
+    (ranked_front 0 1 _ _ (omega arith)
+    (all_of (HasRank 1) _ _ _ (listed _ (λ j. instream_at size (4 * j + 3) (later x (draws_of_turns (4 * j + 3)))))
+    (λ i l. refl))
+    (subst (AreRanked 1) (append-nil (zones_of size (before_zones number size)))
+    (ranked_front 1 2 _ [] (omega arith) zones tt)))
+  where
+    zones : All (HasRank 2) (zones_of size (before_zones number size))
+    zones = all_of (HasRank 2) _ _ _ (listed (zone_count size) (λ z. zone_at z (later (before_zones number size) z)))
+        (λ z l. let is = is_zone z (later (before_zones number size) z) in ap rank_of_kind is.kind)
+
+pub rights_valid : (b : Basin) (size : ℕ) (s : States) → 2 ≤ size → size ≤ 2000 → IsMade b size s →
+    All (λ r. IsValidRight b r) b.rights
+rights_valid b size s some few made =
+    let nodes = made.nodes.count in
+    let links = made.links.count in
+    let reservoirs = made.reservoirs.count in
+    all_of (λ r. IsValidRight b r) b.rights (diversion_count size + (instream_count size + zone_count size))
+    (right_made size s) made.rights
+    (joined_each (λ r. IsValidRight b r) (diversion_count size) (instream_count size + zone_count size)
+    (diversion_made size s) (other_made size s)
+    (λ d l. let node = drawn_below (s.diversions d) size (omega arith) in
+    let want = drawn_below (next (next (s.diversions d))) 300 (omega arith) in record {
+      name = numbered_is_name 100 (d + d / 3) refl (omega arith);
+      order = omega arith;
+      place = omega arith;
+      want = same_for_months (10 ^ 9) (drawn (next (next (s.diversions d))) 300) (omega arith);
+      volume = tt;
+      series = λ e. absurd (false≢true e);
+    })
+    (joined_each (λ r. IsValidRight b r) (instream_count size) (zone_count size) (instream_made size s) (zone_made s)
+    (λ j l. let link = drawn_below (s.instreams j) (size - 1) (omega arith) in
+    let want = drawn_below (next (next (s.instreams j))) 300 (omega arith) in record {
+      name = numbered_is_name 115 (4 * j + 3) refl (omega arith);
+      order = omega arith;
+      place = omega arith;
+      want = same_for_months (10 ^ 9) (drawn (next (next (s.instreams j))) 300) (omega arith);
+      volume = tt;
+      series = λ e. absurd (false≢true e);
+    })
+    (λ z l. zone_by (λ r. IsValidRight b r) z (s.zones z)
+    (λ even. let want = drawn_below (s.zones z) 200 (omega arith) in record {
+      name = zone_is_name 97 (z / 2) refl (omega arith);
+      order = omega arith;
+      place = (omega arith, omega arith, omega arith);
+      want = same_for_months (10 ^ 9) (100 + drawn (s.zones z) 200) (omega arith);
+      volume = tt;
+      series = λ e. absurd (false≢true e);
+    })
+    (λ odd. let want = drawn_below (s.zones z) 400 (omega arith) in record {
+      name = zone_is_name 98 (z / 2) refl (omega arith);
+      order = omega arith;
+      place = (omega arith, omega arith, omega arith);
+      want = same_for_months (10 ^ 9) (drawn (s.zones z) 400) (omega arith);
+      volume = tt;
+      series = λ e. absurd (false≢true e);
+    }))))
+
+pub returns_valid : (b : Basin) (size : ℕ) (s : States) → 2 ≤ size → size ≤ 2000 → IsMade b size s →
+    All (λ row. IsValidReturn b row) b.returns
+returns_valid b size s some few made =
+    let nodes = made.nodes.count in
+    let rights = made.rights.count in
+    all_of (λ row. IsValidReturn b row) b.returns (return_count size) (λ j. return_at size (3 * j) (s.returns j))
+    made.returns
+    (λ j l. let node = drawn_below (s.returns j) size (omega arith) in
+    let part = drawn_below (next (s.returns j)) 8000 (omega arith) in
+    let lag = drawn_below (next (next (s.returns j))) 12 (omega arith) in
+    let own : 3 * j < diversion_count size = omega arith in record {
+      right = omega arith;
+      diversion =
+          entry_is b.rights (diversion_count size + (instream_count size + zone_count size)) (right_made size s)
+          made.rights
+          (λ r. is_diversion_kind r.kind) false (3 * j) (omega arith)
+          ∙ ap (λ r. is_diversion_kind r.kind) (first_right size s (3 * j) own);
+      node = omega arith;
+      part = (omega arith, omega arith);
+      lag = (omega arith, omega arith);
+    })
+
+-- the wants stand with the rights
+abbrev HasWants : Right → Type 0
+HasWants r = r.series ≡ false
+
+pub right_has_wants : (size : ℕ) (s : States) (i : ℕ) →
+    i < diversion_count size + (instream_count size + zone_count size) → (right_made size s i).series ≡ false
+right_has_wants size s =
+    joined_each HasWants (diversion_count size) (instream_count size + zone_count size) (diversion_made size s)
+    (other_made size s) (λ d l. refl)
+    (joined_each HasWants (instream_count size) (zone_count size) (instream_made size s) (zone_made s) (λ j l. refl)
+    (λ z l. zone_by HasWants z (s.zones z) (λ h. refl) (λ h. refl)))
+
+-- no right has a volume
+pub no_volumes : (b : Basin) (size : ℕ) (s : States) → IsMade b size s → All (λ r. r.volume ≡ None) b.rights
+no_volumes b size s made =
+    all_of (λ r. r.volume ≡ None) b.rights (diversion_count size + (instream_count size + zone_count size))
+    (right_made size s) made.rights
+    (joined_each (λ r. r.volume ≡ None) (diversion_count size) (instream_count size + zone_count size)
+    (diversion_made size s) (other_made size s)
+    (λ d l. refl)
+    (joined_each (λ r. r.volume ≡ None) (instream_count size) (zone_count size) (instream_made size s) (zone_made s)
+    (λ j l. refl)
+    (λ z l. zone_by (λ r. r.volume ≡ None) z (s.zones z) (λ even. refl) (λ odd. refl))))
+
+-- and none has its wants in the series
+pub not_in_series : (b : Basin) (size : ℕ) (s : States) → IsMade b size s → All (λ r. r.series ≡ false) b.rights
+not_in_series b size s made =
+    all_of (λ r. r.series ≡ false) b.rights (diversion_count size + (instream_count size + zone_count size))
+    (right_made size s) made.rights
+    (joined_each (λ r. r.series ≡ false) (diversion_count size) (instream_count size + zone_count size)
+    (diversion_made size s) (other_made size s)
+    (λ d l. refl)
+    (joined_each (λ r. r.series ≡ false) (instream_count size) (zone_count size) (instream_made size s) (zone_made s)
+    (λ j l. refl)
+    (λ z l. zone_by (λ r. r.series ≡ false) z (s.zones z) (λ even. refl) (λ odd. refl))))
