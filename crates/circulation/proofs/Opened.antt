@@ -222,7 +222,8 @@ zeros_in_front arcs nodes count rest is =
         ∙ append_assoc (replicate m 0) (replicate n 0) rest
 
 -- the words of a circulation that was emptied
-pub emptied-words : (circ : Circulation) (c : Contents) (kept moved old cleared : List ℕ) → AreWordsOf circ c kept moved →
+pub emptied-words : (circ : Circulation) (c : Contents) (kept moved old cleared : List ℕ) →
+    AreWordsOf circ c kept moved →
     length old ≡ length moved →
     cleared ≡ replicate (3 * circ.arcs + circ.nodes) 0 ++ drop (3 * circ.arcs + circ.nodes) old →
     (scratch : List ℕ) × AreWordsOf circ (emptied c scratch) kept cleared

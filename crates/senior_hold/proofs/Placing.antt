@@ -126,9 +126,10 @@ places_again b r p fixed moving new tree scratch c h ends w front all size =
     let place : words_at words p.circ.place ≡ held = sym (place_front words p.circ.place p.tree.len)
     ∙ ap (take p.circ.place.len) (written_place r.words (held ++ tree) (both_of p) whole fits)
     ∙ take_at held tree p.circ.place.len long in
-    let one = subst (λ (xs : List ℕ). AreWordsOf p.circ (emptied c scratch) xs new) (sym (take_at fixed new n front)) w in
-    let two = subst (λ (xs : List ℕ). AreWordsOf p.circ (emptied c scratch) (take n held) xs) (sym (drop_at fixed new n front))
-    one in
+    let one = subst (λ (xs : List ℕ). AreWordsOf p.circ (emptied c scratch) xs new)
+    (sym (take_at fixed new n front)) w in
+    let two = subst (λ (xs : List ℕ). AreWordsOf p.circ (emptied c scratch) (take n held) xs)
+    (sym (drop_at fixed new n front)) one in
     record {
       contents = emptied c scratch;
       held = record {

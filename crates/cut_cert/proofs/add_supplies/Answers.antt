@@ -12,6 +12,7 @@ overflow_add-sum c =
       arith,
       c.loop-node.invariant,
       c.requires.small,
-      total_where_fits c.loop-node.node (length c.args.supply.now) (λ n. has (marks (length c.args.supply.now) c.args.words.now) n)
+      total_where_fits c.loop-node.node (length c.args.supply.now)
+          (λ n. has (marks (length c.args.supply.now) c.args.words.now) n)
           (λ n. slice_index c.args.supply.now n) within,
     )

@@ -14,7 +14,8 @@ overflow_add-sum c =
       c.loop-taker.invariant,
       c.requires.basin.few.rights,
       next_fits c.loop-taker.taker (length c.args.basin.now.rights) (10 ^ 9)
-          (λ s. takes_within c.args.basin.now (marked_nodes c.args.basin.now c.args.words.now) s && is_senior c.args.basin.now s
+          (λ s. takes_within c.args.basin.now (marked_nodes c.args.basin.now c.args.words.now) s
+          && is_senior c.args.basin.now s
           c.args.right)
           (λ s. slice_index c.args.delivered.now s) within
           (λ s l. entry_most c.args.delivered.now (10 ^ 9) s c.requires.most),
@@ -28,7 +29,8 @@ returns-clause-small c =
       rw all at c.loop-taker.invariant,
       c.requires.basin.few.rights,
       all_most (length c.args.basin.now.rights) (10 ^ 9)
-          (λ s. takes_within c.args.basin.now (marked_nodes c.args.basin.now c.args.words.now) s && is_senior c.args.basin.now s
+          (λ s. takes_within c.args.basin.now (marked_nodes c.args.basin.now c.args.words.now) s
+          && is_senior c.args.basin.now s
           c.args.right)
           (λ s. slice_index c.args.delivered.now s) (λ s l. entry_most c.args.delivered.now (10 ^ 9) s c.requires.most),
     )

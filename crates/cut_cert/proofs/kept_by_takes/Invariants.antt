@@ -8,5 +8,6 @@ use Rattle.cut_cert.proofs.kept_by_takes.Given as goal
 
 abbrev pub invariant-loop-taker : goal.invariant-loop-taker
 invariant-loop-taker l =
-    l.sum ≡ total_where l.taker (λ s. takes_within l.basin (marked_nodes l.basin l.words) s && is_senior l.basin s l.right)
+    l.sum ≡ total_where l.taker (λ s. takes_within l.basin (marked_nodes l.basin l.words) s
+    && is_senior l.basin s l.right)
     (λ s. slice_index l.delivered s)
