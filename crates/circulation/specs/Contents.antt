@@ -72,9 +72,9 @@ empty_contents nodes from to rows = record {
   rows = rows;
 }
 
--- the contents without supplies, bounds and flow
-abbrev pub emptied : Contents → Contents
-emptied c = empty_contents c.nodes c.from c.to c.rows
+-- the contents without supplies, bounds and flow, and with these scratch words
+abbrev pub emptied : Contents → List ℕ → Contents
+emptied c scratch = record (empty_contents c.nodes c.from c.to c.rows) { scratch = scratch }
 
 -- the contents with an amount held on an arc, which raises its lower bound if it is greater
 abbrev pub held_contents : Contents → ℕ → ℕ → Contents

@@ -10,6 +10,7 @@
 #![tactic(auto)]
 
 ghost use Rattle.std.specs.Prelude.{IsTrue, ◌↔◌, ◌≡◌, ℕ, ◌+◌, ◌^◌, ◌<◌, ◌≤◌, ◌≢◌, List, length, IfOk, OnOk, OnErr, All};
+ghost use Rattle.std.specs.Prelude.{◌++◌, drop, replicate};
 ghost use Rattle.circulation.specs.Contents.{Contents, empty_contents, emptied};
 ghost use Rattle.circulation.specs.Rows.{Rows};
 ghost use Rattle.circulation.specs.Places.{word_count, fixed_count, tails, heads, AreWordsOf, Holds};
@@ -126,17 +127,26 @@ impl Circulation {
         }
     }
 
-    /// Gives back words that were lent: the supplies, the bounds and the flow are 0 again.
+    /// Gives back words that were lent: the supplies, the bounds and the flow are 0 again. The other words stay.
     pub fn give_back(&self, fixed: &[u64], moving: &mut [u64])
         requires { (c : Contents) × ((moved : List ℕ) ×
             (AreWordsOf self.now c fixed.now moved × (length moving.old ≡ length moved))) }
         ensures { (c : Contents) (moved : List ℕ) → AreWordsOf self.now c fixed.now moved →
-            length moving.old ≡ length moved → AreWordsOf self.now (emptied c) fixed.now moving.new }
+            length moving.old ≡ length moved →
+            (scratch : List ℕ) × AreWordsOf self.now (emptied c scratch) fixed.now moving.new }
     {
         // The words that never change stand only in the contract.
         let _fixed = fixed;
-        moving.fill(0);
+        clear_front(moving, 3 * self.arcs as usize + self.nodes as usize);
     }
+}
+
+/// Writes 0 into so many words, the first.
+fn clear_front(words: &mut [u64], count: usize)
+    requires { count ≤ length words.old }
+    ensures { words.new ≡ replicate count 0 ++ drop count words.old }
+{
+    words[..count].fill(0);
 }
 
 #[cfg(test)]

@@ -1,12 +1,17 @@
 -- The set of a right in a list of cuts, and the numbers that a bound is made of.
 use Rattle.std.specs.Prelude.{◌≡◌, ℕ, ◌*◌, ◌^◌, ◌<◌, ◌≤◌, Bool, [], List, length, slice_index, unwrap_or, IsSome, All}
 use Rattle.place_sums.specs.Sums.{total}
+use Rattle.bit_words.specs.Marks.{marks}
 use Rattle.water_model.specs.CutSets.{CutSets, set_of}
 use Rattle.water_model.specs.declared.types.Basin.{Basin}
 
 -- the set of a right, or the empty one
 abbrev pub cut_at : CutSets → ℕ → List Bool
 cut_at cuts right = unwrap_or (set_of cuts right) []
+
+-- the set of the basin's nodes that words mark, 64 to a word
+abbrev pub marked_nodes : Basin → List ℕ → List Bool
+marked_nodes b words = marks (length b.nodes) words
 
 -- a list of cuts over the basin's rights and nodes in which the right has a set
 pub record HasCut (b : Basin) (cuts : CutSets) (right : ℕ) : Type 0 where

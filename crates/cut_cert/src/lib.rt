@@ -6,6 +6,7 @@
 
 ghost use Rattle.std.specs.Prelude.{◌≡◌, ◌+◌, ◌*◌, ◌<◌, ◌≤◌, ◌^◌, ◌&&◌, not, max, All, if◌then◌else◌, length};
 ghost use Rattle.std.specs.Prelude.{slice_index, IsTrue, ◌↔◌};
+ghost use Rattle.bit_words.specs.Marks.{marks, words_for};
 ghost use Rattle.place_sums.specs.Sums.{total, total_where, when};
 ghost use Rattle.water_text.specs.Months.{IsMonth, days_of};
 ghost use Rattle.water_model.specs.Lookups.{has};
@@ -14,8 +15,11 @@ ghost use Rattle.water_model.specs.Plans.{carry_of, carry_of_kind};
 ghost use Rattle.water_model.specs.Cuts.{enters, leaves, takes_within, kept_on, cut_bound, separates, IsTight};
 ghost use Rattle.water_model.specs.Valid.{IsValidBasin, IsValidCarry};
 ghost use Rattle.rights_roll.specs.Rolls.{IsRollOf};
-ghost use Rattle.cut_cert.specs.Sets.{cut_at, HasCut, AreAmounts};
+ghost use Rattle.cut_cert.specs.Sets.{cut_at, marked_nodes, HasCut, AreAmounts};
 
+mod marked;
+
+use crate::marked::{is_in, words_of};
 use rights_roll::priority::is_senior;
 use rights_roll::roll::Roll;
 use water_model::cut_list::CutList;
@@ -38,8 +42,7 @@ pub fn enters(basin: &Basin, cuts: &CutList, right: u32, link: u32) -> bool
     requires link { link < length basin.now.links }
     ensures { result ≡ enters basin.now (cut_at cuts.now right) link }
 {
-    let link = &basin.links[link as usize];
-    holds(cuts, right, link.to) && !holds(cuts, right, link.from)
+    marked::enters(basin, words_of(cuts, right), link)
 }
 
 /// Whether a link leaves a right's set.
@@ -49,8 +52,7 @@ pub fn leaves(basin: &Basin, cuts: &CutList, right: u32, link: u32) -> bool
     requires link { link < length basin.now.links }
     ensures { result ≡ leaves basin.now (cut_at cuts.now right) link }
 {
-    let link = &basin.links[link as usize];
-    holds(cuts, right, link.from) && !holds(cuts, right, link.to)
+    marked::leaves(basin, words_of(cuts, right), link)
 }
 
 /// Whether a right is an instream right on a link.
@@ -72,13 +74,7 @@ pub fn takes_within(basin: &Basin, cuts: &CutList, right: u32, taker: u32) -> bo
     requires taker { taker < length basin.now.rights }
     ensures { result ≡ takes_within basin.now (cut_at cuts.now right) taker }
 {
-    match basin.rights[taker as usize].kind {
-        RightKind::Diversion { node } => holds(cuts, right, node),
-        RightKind::Instream { .. } => false,
-        RightKind::Zone { reservoir, .. } => {
-            holds(cuts, right, basin.reservoirs[reservoir as usize].node)
-        }
-    }
+    marked::takes_within(basin, words_of(cuts, right), taker)
 }
 
 /// Whether one right of the basin is senior to another.
@@ -90,22 +86,46 @@ pub fn is_senior_to(basin: &Basin, one: u32, other: u32) -> bool
     is_senior(&basin.rights[one as usize], &basin.rights[other as usize])
 }
 
-/// The supply in a right's set.
+/// A sum, and behind it the supplies of the marked nodes from one on and before another.
 #[tactic(auto, using(place_sums::proofs::Totals::sums))]
-fn supply_in(cuts: &CutList, right: u32, supply: &[u64]) -> u64
-    requires right { right < length cuts.now.sets }
-    requires supplies { length supply.now ≡ cuts.now.nodes }
-    requires few { cuts.now.nodes ≤ 2000 }
+fn add_supplies(words: &[u64], supply: &[u64], from: usize, to: usize, before: u64) -> u64
+    requires words { length words.now ≡ words_for (length supply.now) }
+    requires few { length supply.now ≤ 2000 }
     requires small { total (length supply.now) (λ n. slice_index supply.now n) < 4 * 10 ^ 13 }
-    ensures sum { result ≡ total_where (length supply.now) (λ n. has (cut_at cuts.now right) n)
+    requires order { from ≤ to }
+    requires within { to ≤ length supply.now }
+    requires before { before ≡ total_where from (λ n. has (marks (length supply.now) words.now) n)
+        (λ n. slice_index supply.now n) }
+    ensures { result ≡ total_where to (λ n. has (marks (length supply.now) words.now) n)
+        (λ n. slice_index supply.now n) }
+{
+    let mut sum = before;
+    for node in from..to {
+        if is_in(words, node as u32) {
+            sum += supply[node];
+        }
+    }
+    sum
+}
+
+/// The supply at the nodes that the words mark. A word that marks none costs one look.
+#[tactic(auto, using(place_sums::proofs::Totals::sums))]
+fn supply_in(words: &[u64], supply: &[u64]) -> u64
+    requires words { length words.now ≡ words_for (length supply.now) }
+    requires few { length supply.now ≤ 2000 }
+    requires small { total (length supply.now) (λ n. slice_index supply.now n) < 4 * 10 ^ 13 }
+    ensures sum { result ≡ total_where (length supply.now) (λ n. has (marks (length supply.now) words.now) n)
         (λ n. slice_index supply.now n) }
     ensures small { result < 4 * 10 ^ 13 }
 {
     let mut sum = 0;
-    for node in 0..supply.len() {
-        if holds(cuts, right, node as u32) {
-            sum += supply[node];
+    let mut from = 0;
+    for at in 0..words.len() {
+        let to = supply.len().min(from + 64);
+        if words[at] != 0 {
+            sum = add_supplies(words, supply, from, to, sum);
         }
+        from = to;
     }
     sum
 }
@@ -176,7 +196,7 @@ fn crossing_at(
     days: u64,
     delivered: &[u64],
     right: u32,
-    cuts: &CutList,
+    words: &[u64],
     link: u32,
 ) -> Crossing
     requires basin { IsValidBasin basin.now }
@@ -184,17 +204,18 @@ fn crossing_at(
     requires month { IsMonth month }
     requires days { days ≡ days_of month }
     requires delivered { length delivered.now ≡ length basin.now.rights }
-    requires cut { HasCut basin.now cuts.now right }
+    requires right { right < length basin.now.rights }
+    requires words { length words.now ≡ words_for (length basin.now.nodes) }
     requires link { link < length basin.now.links }
-    ensures carry { let cut = cut_at cuts.now right in
+    ensures carry { let cut = marked_nodes basin.now words.now in
         result.carry ≡ when (enters basin.now cut link) (carry_of basin.now month link) }
-    ensures kept { let cut = cut_at cuts.now right in
+    ensures kept { let cut = marked_nodes basin.now words.now in
         result.kept ≡ when (leaves basin.now cut link && not (is_on_link basin.now right link))
         (kept_on basin.now delivered.now right link) }
 {
     let entry = &basin.links[link as usize];
-    let from_within = holds(cuts, right, entry.from);
-    let to_within = holds(cuts, right, entry.to);
+    let from_within = is_in(words, entry.from);
+    let to_within = is_in(words, entry.to);
     if to_within && !from_within {
         let carry = carry_in_days(&entry.carry, month, days);
         Crossing { carry, kept: 0 }
@@ -214,18 +235,19 @@ fn crossings(
     month: Month,
     delivered: &[u64],
     right: u32,
-    cuts: &CutList,
+    words: &[u64],
 ) -> Crossing
     requires basin { IsValidBasin basin.now }
     requires roll { IsRollOf basin.now.rights roll.now }
     requires month { IsMonth month }
     requires delivered { length delivered.now ≡ length basin.now.rights }
     requires most { All (λ d. d ≤ 10 ^ 9) delivered.now }
-    requires cut { HasCut basin.now cuts.now right }
-    ensures carry { let cut = cut_at cuts.now right in
+    requires right { right < length basin.now.rights }
+    requires words { length words.now ≡ words_for (length basin.now.nodes) }
+    ensures carry { let cut = marked_nodes basin.now words.now in
         result.carry
         ≡ total_where (length basin.now.links) (λ e. enters basin.now cut e) (λ e. carry_of basin.now month e) }
-    ensures kept { let cut = cut_at cuts.now right in
+    ensures kept { let cut = marked_nodes basin.now words.now in
         result.kept
         ≡ total_where (length basin.now.links)
         (λ e. leaves basin.now cut e && not (is_on_link basin.now right e))
@@ -237,7 +259,7 @@ fn crossings(
     let mut carry = 0;
     let mut kept = 0;
     for link in 0..basin.links.len() as u32 {
-        let one = crossing_at(basin, roll, month, days, delivered, right, cuts, link);
+        let one = crossing_at(basin, roll, month, days, delivered, right, words, link);
         carry += one.carry;
         kept += one.kept;
     }
@@ -246,19 +268,20 @@ fn crossings(
 
 /// What seniors take in a right's set.
 #[tactic(auto, using(place_sums::proofs::Totals::sums))]
-fn kept_by_takes(basin: &Basin, delivered: &[u64], right: u32, cuts: &CutList) -> u64
+fn kept_by_takes(basin: &Basin, delivered: &[u64], right: u32, words: &[u64]) -> u64
     requires basin { IsValidBasin basin.now }
     requires delivered { length delivered.now ≡ length basin.now.rights }
     requires most { All (λ d. d ≤ 10 ^ 9) delivered.now }
-    requires cut { HasCut basin.now cuts.now right }
+    requires right { right < length basin.now.rights }
+    requires words { length words.now ≡ words_for (length basin.now.nodes) }
     ensures sum { result ≡ total_where (length basin.now.rights)
-        (λ s. takes_within basin.now (cut_at cuts.now right) s && is_senior basin.now s right)
+        (λ s. takes_within basin.now (marked_nodes basin.now words.now) s && is_senior basin.now s right)
         (λ s. slice_index delivered.now s) }
     ensures small { result ≤ 2000 * 10 ^ 9 }
 {
     let mut sum = 0;
     for taker in 0..basin.rights.len() as u32 {
-        if takes_within(basin, cuts, right, taker) && is_senior_to(basin, taker, right) {
+        if marked::takes_within(basin, words, taker) && is_senior_to(basin, taker, right) {
             sum += delivered[taker as usize];
         }
     }
@@ -286,25 +309,27 @@ pub fn bound(
     requires cut { HasCut basin.now cuts.now right }
     ensures value { result ≡ cut_bound basin.now month supply.now delivered.now right (cut_at cuts.now right) }
 {
-    let Crossing { carry, kept } = crossings(basin, roll, month, delivered, right, cuts);
-    let capacity = supply_in(cuts, right, supply) + carry;
-    let kept = kept + kept_by_takes(basin, delivered, right, cuts);
+    let words = words_of(cuts, right);
+    let Crossing { carry, kept } = crossings(basin, roll, month, delivered, right, words);
+    let capacity = supply_in(words, supply) + carry;
+    let kept = kept + kept_by_takes(basin, delivered, right, words);
     capacity as i64 - kept as i64
 }
 
-/// Whether a right's set is a cut of it: it holds the node of a diversion or zone, and of an instream right the tail of
-/// its link and not the head.
-fn separates(basin: &Basin, right: u32, cuts: &CutList) -> bool
+/// Whether the nodes that the words mark are a cut of a right: they hold the node of a diversion or zone, and of an
+/// instream right the tail of its link and not the head.
+fn separates(basin: &Basin, right: u32, words: &[u64]) -> bool
     requires basin { IsValidBasin basin.now }
-    requires cut { HasCut basin.now cuts.now right }
+    requires right { right < length basin.now.rights }
+    requires words { length words.now ≡ words_for (length basin.now.nodes) }
     ensures { result ≡ separates basin.now (taking_node basin.now right) (instream_link basin.now right)
-        (cut_at cuts.now right) }
+        (marked_nodes basin.now words.now) }
 {
     match basin.rights[right as usize].kind {
-        RightKind::Diversion { node } => holds(cuts, right, node),
-        RightKind::Instream { link } => leaves(basin, cuts, right, link),
+        RightKind::Diversion { node } => is_in(words, node),
+        RightKind::Instream { link } => marked::leaves(basin, words, link),
         RightKind::Zone { reservoir, .. } => {
-            holds(cuts, right, basin.reservoirs[reservoir as usize].node)
+            is_in(words, basin.reservoirs[reservoir as usize].node)
         }
     }
 }
@@ -327,8 +352,7 @@ pub fn tight(
     requires cut { HasCut basin.now cuts.now right }
     ensures value { IsTrue result ↔ IsTight basin.now month supply.now delivered.now right (cut_at cuts.now right) }
 {
-    let _sized = cuts.holds(right, 0);
-    separates(basin, right, cuts)
+    separates(basin, right, words_of(cuts, right))
         && bound(basin, roll, month, supply, delivered, right, cuts)
             == delivered[right as usize] as i64
 }

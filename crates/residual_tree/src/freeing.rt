@@ -5,7 +5,6 @@ ghost use Rattle.circulation.specs.Residual.{arc_of, room_of, end_of};
 ghost use Rattle.residual_tree.specs.Tree.{word_of};
 ghost use Rattle.residual_tree.specs.Growth.{IsFreeing};
 
-use crate::ROOT;
 use crate::residual::{end, room};
 use crate::words::Words;
 use circulation::Lent;
@@ -116,19 +115,4 @@ pub fn free_below(circ: &Lent<'_>, way: &mut Words<'_>, freed: &mut [u64], size:
         done += 1;
     }
     count
-}
-
-/// Reaches no node but the outside, and frees all others.
-pub fn fell(circ: &Lent<'_>, way: &mut Words<'_>, freed: &mut [u64])
-    requires words { length way.old ≡ circ.now.nodes + 1 }
-    requires places { length freed.old ≡ circ.now.nodes }
-    requires kept { IsCirculation circ.now }
-    ensures { IsFreeing circ.now way.new freed.new 0 0 circ.now.nodes circ.now.nodes }
-{
-    let nodes = circ.nodes();
-    way.clear();
-    way.set(nodes, ROOT);
-    for node in 0..nodes {
-        freed[node as usize] = u64::from(node);
-    }
 }

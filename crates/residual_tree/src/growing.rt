@@ -1,12 +1,13 @@
 //! The tree grows: freed nodes are reached again, as far as steps with room lead to them.
 ghost use Rattle.std.specs.Prelude.{◌≡◌, true, false, ℕ, ◌+◌, ◌-◌, ◌*◌, ◌^◌, ◌<◌, ◌≤◌, []};
-ghost use Rattle.std.specs.Prelude.{length, slice_index, slice_set};
+ghost use Rattle.std.specs.Prelude.{length, replicate, slice_index, slice_set};
 ghost use Rattle.circulation.specs.Contents.{arcs, flow_of, network, IsCirculation};
 ghost use Rattle.circulation.specs.Residual.{arc_of, room_of, end_of};
 ghost use Rattle.residual_tree.specs.Steps.{opposite};
 ghost use Rattle.residual_tree.specs.Tree.{word_of, IsReached, IsResidualTree, dry};
 ghost use Rattle.residual_tree.specs.Growth.{no_step, IsFound, IsShut, IsFreeing, IsGrowing, IsLentTree};
 
+use crate::ROOT;
 use crate::residual::{room, turned};
 use crate::words::Words;
 use circulation::Lent;
@@ -203,6 +204,35 @@ pub fn grow(
     ensures { IsResidualTree circ.now way.new }
 {
     let size = seed(circ, way, queue, freed, count, found);
+    spread(circ, way, queue, size);
+}
+
+/// Reaches the nodes to which steps lead from the outside, where no other node is reached.
+fn spread_out(circ: &Lent<'_>, way: &mut Words<'_>, queue: &mut [u64]) -> usize
+    requires bare { way.old ≡ slice_set (replicate (circ.now.nodes + 1) 0) circ.now.nodes ROOT }
+    requires places { length queue.old ≡ circ.now.nodes }
+    requires kept { IsCirculation circ.now }
+    ensures { IsGrowing circ.now (no_step circ.now) way.new [] queue.new 0 0 0 result }
+{
+    let outside = circ.nodes();
+    let mut count = 0;
+    for place in circ.row_first(outside)..circ.row_last(outside) {
+        let step = circ.step_at(place);
+        count = reach_end(circ, way, queue, step, circ.end_at(place), count);
+    }
+    count
+}
+
+/// Reaches all nodes to which steps lead from the outside, and no others.
+pub fn grow_out(circ: &Lent<'_>, way: &mut Words<'_>, queue: &mut [u64])
+    requires words { length way.old ≡ circ.now.nodes + 1 }
+    requires places { length queue.old ≡ circ.now.nodes }
+    requires kept { IsCirculation circ.now }
+    ensures { IsResidualTree circ.now way.new }
+{
+    way.clear();
+    way.set(circ.nodes(), ROOT);
+    let size = spread_out(circ, way, queue);
     spread(circ, way, queue, size);
 }
 

@@ -122,7 +122,8 @@ impl<'t> ResidualTree<'t> {
         self.way.get(node) == 0
     }
 
-    /// Holds an amount on an arc, in units of 1,000 cubic metres, as `Lent::hold` does, and repairs the tree.
+    /// Holds an amount on an arc, in units of 1,000 cubic metres, as `Lent::hold` does, and repairs the tree. Where as
+    /// much is held already, nothing changes.
     pub fn hold(&mut self, circ: &mut Lent<'_>, arc: u32, amount: u64)
         requires arc { arc < arcs circ.old }
         requires amount { amount ≤ flow_of circ.old arc }
@@ -133,6 +134,9 @@ impl<'t> ResidualTree<'t> {
     {
         // This call tells that the circulation is kept.
         let _nodes = circ.nodes();
+        if amount <= circ.lower(arc) {
+            return;
+        }
         circ.scratch_set(0, 2 * u64::from(arc) + 1);
         circ.hold(arc, amount);
         self.repair(circ, 0, 1);

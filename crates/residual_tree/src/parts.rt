@@ -6,8 +6,8 @@ ghost use Rattle.circulation.specs.Residual.{arc_of};
 ghost use Rattle.residual_tree.specs.Tree.{word_of, IsReached, IsResidualTree};
 ghost use Rattle.residual_tree.specs.Growth.{IsWornTree, IsLentTree};
 
-use crate::freeing::{fell, free_below, loosen};
-use crate::growing::{grow, lend_over};
+use crate::freeing::{free_below, loosen};
+use crate::growing::{grow, grow_out, lend_over};
 use crate::words::Words;
 use circulation::Lent;
 
@@ -19,10 +19,8 @@ pub fn grow_all(circ: &Lent<'_>, room: &mut [u64], way: &mut Words<'_>)
     ensures { IsResidualTree circ.now way.new }
 {
     let nodes = circ.nodes() as usize;
-    let (freed, rest) = room.split_at_mut(nodes);
-    let (queue, found) = rest.split_at_mut(nodes);
-    fell(circ, way, freed);
-    grow(circ, way, queue, freed, nodes, found);
+    let (queue, _rest) = room.split_at_mut(nodes);
+    grow_out(circ, way, queue);
 }
 
 /// Repairs the tree after the steps in `count` scratch words from word `first` on may have lost their room.

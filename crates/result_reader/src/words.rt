@@ -57,8 +57,8 @@ impl Word {
         }
     }
 
-    /// The word that the bytes spell, or `None` where they spell none.
-    pub fn of(text: &[u8]) -> Option<Word>
+    /// The word that the bytes spell, by going over all words.
+    fn find(text: &[u8]) -> Option<Word>
         ensures { result ≡ word_of text.now }
     {
         for word in WORDS.iter() {
@@ -67,5 +67,17 @@ impl Word {
             }
         }
         None
+    }
+
+    /// The word that the bytes spell, or `None` where they spell none. Most lines of a text are `in` lines, so their
+    /// word comes first.
+    pub fn of(text: &[u8]) -> Option<Word>
+        ensures { result ≡ word_of text.now }
+    {
+        if text == b"in".as_slice() {
+            Some(Word::Member)
+        } else {
+            Word::find(text)
+        }
     }
 }

@@ -62,18 +62,6 @@ fn amount_at(basin: &Basin, month: &MonthRecord, quantity: Quantity, entry: u32)
     }
 }
 
-/// Whether a right has a set in the record that holds a node.
-pub fn is_member(month: &MonthRecord, right: u32, node: u32) -> bool
-    requires right { right < length month.now.cuts.sets }
-    requires node { node < month.now.cuts.nodes }
-    ensures { result ≡ option_map_or (λ set. has set node) (cut_of month.now right) false }
-{
-    match month.cuts.holds(right, node) {
-        Some(held) => held,
-        None => false,
-    }
-}
-
 /// The line of an entry of a section, if it has one. Only the section of calls has several lines for an entry.
 /// `returned` has the nodes that return rows name, and `callers` the first caller of each node.
 pub fn line_at(

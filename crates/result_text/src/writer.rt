@@ -1,5 +1,5 @@
 //! The lines of a result text, one `put` for each.
-ghost use Rattle.std.specs.Prelude.{◌≡◌, ◌≢◌, ◌<◌, ◌∷◌, [], length, is_some, IsErr};
+ghost use Rattle.std.specs.Prelude.{◌≡◌, ◌≢◌, ◌*◌, ◌<◌, ◌≤◌, ◌∷◌, [], length, IsErr};
 ghost use Rattle.std.specs.List.{flat_map};
 ghost use Rattle.calls.specs.Callers.{AreCallers};
 ghost use Rattle.rights_roll.specs.Rolls.{IsRollOf};
@@ -12,12 +12,13 @@ ghost use Rattle.water_model.specs.Text.{call_items, calling_right, items_of_hea
 ghost use Rattle.water_model.specs.Text.{lines_at, lines_in, section_space};
 ghost use Rattle.water_model.specs.Valid.{IsValidBasin};
 ghost use Rattle.water_model.specs.declared.item.TheConstants.{SECTIONS};
-ghost use Rattle.result_text.specs.Members.{member_at, members_of};
+ghost use Rattle.result_text.specs.Members.{members_of};
 ghost use Rattle.result_text.specs.Range.{FitsText};
 ghost use Rattle.result_text.specs.Returned.{AreReturnedTo};
 
-use crate::section::{is_member, line_at, returned_to};
+use crate::section::{line_at, returned_to};
 use crate::spelling::spell;
+use bit_words::next_marked_in_both;
 use calls::callers_by_node;
 use rights_roll::roll::Roll;
 use water_edge::{Sink, SinkFailed};
@@ -66,56 +67,33 @@ fn put_line<K: Sink>(
     }
 }
 
-/// Puts the `in` line of a node, if a right's set holds it.
-fn put_member<K: Sink>(
-    sink: &mut K,
-    basin: &Basin,
-    month: &MonthRecord,
-    right: u32,
-    node: u32,
-) -> Result<(), SinkFailed>
-    requires basin { IsValidBasin basin.now }
-    requires month { FitsText basin.now month.now }
-    requires right { right < length basin.now.rights }
-    requires node { node < length basin.now.nodes }
-    ensures text { Puts (K.taken sink.old) (K.taken sink.new) result
-        (flat_map (whole_line basin.now) (member_at month.now right node)) }
-    ensures cause { HasCause (K.faults sink.old) (K.faults sink.new) (IsErr result) }
-{
-    if is_member(month, right, node) {
-        put_item(sink, basin, Item::Member { node })
-    } else {
-        Ok(())
-    }
-}
-
-/// Puts the nodes of a right's set, in the order of the basin.
+/// Puts the `in` lines of the nodes that the words mark, in the order of the basin. Words in which no node is marked
+/// cost one look.
 fn put_members<K: Sink>(
     sink: &mut K,
     basin: &Basin,
-    month: &MonthRecord,
-    right: u32,
+    words: &[u64],
+    nodes: u32,
 ) -> Result<(), SinkFailed>
     requires basin { IsValidBasin basin.now }
-    requires month { FitsText basin.now month.now }
-    requires right { right < length basin.now.rights }
+    requires nodes { nodes ≡ length basin.now.nodes }
+    requires words { nodes ≤ 64 * length words.now }
     ensures text { Puts (K.taken sink.old) (K.taken sink.new) result
-        (flat_map (whole_line basin.now) (members_of basin.now month.now right)) }
+        (flat_map (whole_line basin.now) (members_of nodes words.now)) }
     ensures cause { HasCause (K.faults sink.old) (K.faults sink.new) (IsErr result) }
 {
-    for node in 0..basin.nodes.len() as u32 {
-        put_member(sink, basin, month, right, node)?;
+    let mut from = 0;
+    // Each turn but the last puts one node, so there are turns enough.
+    for _turn in 0..nodes {
+        match next_marked_in_both(words, words, from, nodes) {
+            Some(node) => {
+                put_item(sink, basin, Item::Member { node })?;
+                from = node + 1;
+            }
+            None => return Ok(()),
+        }
     }
     Ok(())
-}
-
-/// Whether a right has a set in the record.
-fn has_set(month: &MonthRecord, right: u32) -> bool
-    requires right { right < length month.now.cuts.sets }
-    requires nodes { 0 < month.now.cuts.nodes }
-    ensures { result ≡ is_some (cut_of month.now right) }
-{
-    month.cuts.holds(right, 0).is_some()
 }
 
 /// Puts the `call` line of a right and the nodes of its set, if the right has one.
@@ -132,11 +110,14 @@ fn put_call<K: Sink>(
         (flat_map (whole_line basin.now) (call_items right (cut_of month.now right))) }
     ensures cause { HasCause (K.faults sink.old) (K.faults sink.new) (IsErr result) }
 {
-    if !has_set(month, right) {
-        return Ok(());
+    let nodes = basin.nodes.len() as u32;
+    match month.cuts.words(right) {
+        Some(words) => {
+            put_item(sink, basin, Item::Call { right })?;
+            put_members(sink, basin, words, nodes)
+        }
+        None => Ok(()),
     }
-    put_item(sink, basin, Item::Call { right })?;
-    put_members(sink, basin, month, right)
 }
 
 /// Puts the lines of an entry of a section.

@@ -90,8 +90,9 @@ parts_lent b r p fixed moving tree h l =
     }
 
 -- the arcs keep their ends when the circulation is emptied
-ends_emptied : (b : Basin) (c : Contents) → HasBasinEnds b (network c) → HasBasinEnds b (network (emptied c))
-ends_emptied b c h = record {
+ends_emptied : (b : Basin) (c : Contents) (scratch : List ℕ) → HasBasinEnds b (network c) →
+    HasBasinEnds b (network (emptied c scratch))
+ends_emptied b c scratch h = record {
   nodes = h.nodes;
   arcs = h.arcs;
   link_from = h.link_from;
@@ -103,15 +104,15 @@ ends_emptied b c h = record {
 }
 
 -- the places when the words were given back
-pub places_again : (b : Basin) (r : Words) (p : Places) (fixed moving new tree : List ℕ) (c : Contents) →
-    HasPlaces b r p → HasBasinEnds (spilled b) (network c) → AreWordsOf p.circ (emptied c) fixed new →
+pub places_again : (b : Basin) (r : Words) (p : Places) (fixed moving new tree scratch : List ℕ) (c : Contents) →
+    HasPlaces b r p → HasBasinEnds (spilled b) (network c) → AreWordsOf p.circ (emptied c scratch) fixed new →
     length fixed ≡ fixed_count p.circ.nodes p.circ.arcs → length fixed + length new ≡ p.circ.place.len →
     length tree ≡ p.tree.len →
     HasPlaces b (record {
       words = take (length r.words) (with_words r.words (both_of p).from ((fixed ++ new) ++ tree));
       used = r.used;
     }) p
-places_again b r p fixed moving new tree c h ends w front all size =
+places_again b r p fixed moving new tree scratch c h ends w front all size =
     let n = fixed_count p.circ.nodes p.circ.arcs in
     let held = fixed ++ new in
     let long : length held ≡ p.circ.place.len = length-append fixed new ∙ all in
@@ -125,17 +126,17 @@ places_again b r p fixed moving new tree c h ends w front all size =
     let place : words_at words p.circ.place ≡ held = sym (place_front words p.circ.place p.tree.len)
     ∙ ap (take p.circ.place.len) (written_place r.words (held ++ tree) (both_of p) whole fits)
     ∙ take_at held tree p.circ.place.len long in
-    let one = subst (λ (xs : List ℕ). AreWordsOf p.circ (emptied c) xs new) (sym (take_at fixed new n front)) w in
-    let two = subst (λ (xs : List ℕ). AreWordsOf p.circ (emptied c) (take n held) xs) (sym (drop_at fixed new n front))
+    let one = subst (λ (xs : List ℕ). AreWordsOf p.circ (emptied c scratch) xs new) (sym (take_at fixed new n front)) w in
+    let two = subst (λ (xs : List ℕ). AreWordsOf p.circ (emptied c scratch) (take n held) xs) (sym (drop_at fixed new n front))
     one in
     record {
-      contents = emptied c;
+      contents = emptied c scratch;
       held = record {
         used = h.held.used;
         size = h.held.size;
-        words = subst (HasWords p.circ (emptied c)) (sym place) two;
+        words = subst (HasWords p.circ (emptied c scratch)) (sym place) two;
       };
-      ends = ends_emptied (spilled b) c ends;
+      ends = ends_emptied (spilled b) c scratch ends;
       next = h.next;
       size = h.size;
       used = h.used;

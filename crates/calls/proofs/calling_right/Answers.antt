@@ -5,15 +5,31 @@ use Rattle.calls.proofs.Callers.{calling_right_meaning}
 use Rattle.calls.proofs.Search.{nothing_wanted, nothing_taken, nobody_short, first_below, first_calls, first_junior}
 use Rattle.calls.proofs.calling_right.Goals as goal
 
-pub returns-then-not-is_wanted-clause-value : goal.returns-then-not-is_wanted-clause-value
-returns-then-not-is_wanted-clause-value c =
+unwanted : (c : goal.Then-not-is_wanted) → None ≡ calling_right c.args.basin.now c.args.month.now c.args.right
+unwanted c =
     sym (nothing_wanted c.args.basin.now c.args.month.now c.args.right
     (sym c.is_wanted.ensures ∙ c.if-not-is_wanted.true))
 
-pub returns-in_err-node-clause-value : goal.returns-in_err-node-clause-value
-returns-in_err-node-clause-value c =
+pub returns-then-not-is_wanted-clause-value : goal.returns-then-not-is_wanted-clause-value
+returns-then-not-is_wanted-clause-value c = unwanted c
+
+pub returns-then-not-is_wanted-clause-meaning : goal.returns-then-not-is_wanted-clause-meaning
+returns-then-not-is_wanted-clause-meaning c =
+    calling_right_meaning c.args.basin.now c.args.month.now c.args.right None c.requires.basin (unwanted c)
+
+untaken : (c : goal.After-from_residual) →
+    c.from_residual.result ≡ calling_right c.args.basin.now c.args.month.now c.args.right
+untaken c =
     c.from_residual.ensures ∙ sym
     (nothing_taken c.args.basin.now c.args.month.now c.args.right (sym c.in_err-node.ensures.value))
+
+pub returns-in_err-node-clause-value : goal.returns-in_err-node-clause-value
+returns-in_err-node-clause-value c = untaken c
+
+pub returns-in_err-node-clause-meaning : goal.returns-in_err-node-clause-meaning
+returns-in_err-node-clause-meaning c =
+    calling_right_meaning c.args.basin.now c.args.month.now c.args.right c.from_residual.result c.requires.basin
+    (untaken c)
 
 unanswered : (c : goal.After-from_residual-in_err-caller) →
     c.from_residual-in_err-caller.result ≡ calling_right c.args.basin.now c.args.month.now c.args.right

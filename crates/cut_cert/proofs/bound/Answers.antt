@@ -1,9 +1,8 @@
-use Rattle.std.proofs.Common.{◌≡◌, ℕ, ◌+◌, ◌^◌, ◌<◌, ◌∙◌, ap, arith, pos, ◌-ℤ◌, to_z, of_z, w64}
-use Rattle.std.specs.Prelude.{slice_index}
+use Rattle.std.proofs.Common.{◌≡◌, ℕ, ◌+◌, ◌^◌, ◌<◌, ◌∙◌, ap, sym, length, arith, pos, ◌-ℤ◌, to_z, of_z, w64}
 use Rattle.std.proofs.lemmas.Int.{ints}
-use Rattle.place_sums.specs.Sums.{total_where}
-use Rattle.water_model.specs.Lookups.{has}
-use Rattle.cut_cert.specs.Sets.{cut_at}
+use Rattle.bit_words.specs.Marks.{marks}
+use Rattle.cut_cert.specs.Sets.{cut_at, marked_nodes}
+use Rattle.cut_cert.proofs.Supplies.{supplied}
 use Rattle.cut_cert.proofs.bound.Goals as goal
 
 -- the difference of two numbers of 63 bits
@@ -13,18 +12,20 @@ difference x y h k = omega (arith, ints)
 
 pub returns : goal.returns
 returns c =
-    let cut = cut_at c.args.cuts.now c.args.right in
-    let supplied =
-    c.supply_in.ensures.sum
-    ∙ ap (λ m. total_where m (λ n. has cut n) (λ n. slice_index c.args.supply.now n)) c.requires.amounts.supplies in
+    let b = c.args.basin.now in
+    let words = c.words_of-words.result.now in
+    let set : marked_nodes b words ≡ cut_at c.args.cuts.now c.args.right =
+    ap (λ (n : ℕ). marks n words) (sym c.requires.cut.nodes) ∙ c.words_of-words.ensures.set in
     record {
       value =
           difference (c.supply_in.result + c.crossings-carry.result.carry)
           (c.crossings-carry.result.kept + c.kept_by_takes.result) (omega arith) (omega arith)
           ∙ rw (
-            supplied,
+            supplied (length c.args.supply.now) (length b.nodes) c.supply_in.result words c.args.supply.now
+                (cut_at c.args.cuts.now c.args.right) c.supply_in.ensures.sum c.requires.amounts.supplies set,
             c.crossings-carry.ensures.carry,
             c.crossings-carry.ensures.kept,
             c.kept_by_takes.ensures.sum,
+            set,
           );
     }

@@ -3,14 +3,14 @@ use Rattle.std.specs.Prelude.{◌&&◌, not}
 use Rattle.water_model.specs.Basin.{is_on_link}
 use Rattle.water_model.specs.Cuts.{enters, leaves, kept_on}
 use Rattle.water_model.specs.Plans.{carry_of}
-use Rattle.cut_cert.specs.Sets.{cut_at}
+use Rattle.cut_cert.specs.Sets.{marked_nodes}
 use Rattle.cut_cert.proofs.Bounds.{next_within, all_most, carry_most, kept_most}
 use Rattle.cut_cert.proofs.crossings.Goals as goal
 
 pub overflow_add-carry : goal.overflow_add-carry
 overflow_add-carry c =
     let b = c.args.basin.now in
-    let cut = cut_at c.args.cuts.now c.args.right in
+    let cut = marked_nodes c.args.basin.now c.args.words.now in
     let within : c.loop-link.link < length b.links = omega arith in
     omega (
       arith,
@@ -24,7 +24,7 @@ overflow_add-carry c =
 pub overflow_add-kept : goal.overflow_add-kept
 overflow_add-kept c =
     let b = c.args.basin.now in
-    let cut = cut_at c.args.cuts.now c.args.right in
+    let cut = marked_nodes c.args.basin.now c.args.words.now in
     let within : c.loop-link.link < length b.links = omega arith in
     omega (
       arith,
@@ -39,7 +39,7 @@ overflow_add-kept c =
 pub returns-clause-small_carry : goal.returns-clause-small_carry
 returns-clause-small_carry c =
     let b = c.args.basin.now in
-    let cut = cut_at c.args.cuts.now c.args.right in
+    let cut = marked_nodes c.args.basin.now c.args.words.now in
     let all : c.loop-link.link ≡ length b.links = omega arith in
     omega (
       arith,
@@ -52,7 +52,7 @@ returns-clause-small_carry c =
 pub returns-clause-small_kept : goal.returns-clause-small_kept
 returns-clause-small_kept c =
     let b = c.args.basin.now in
-    let cut = cut_at c.args.cuts.now c.args.right in
+    let cut = marked_nodes c.args.basin.now c.args.words.now in
     let all : c.loop-link.link ≡ length b.links = omega arith in
     omega (
       arith,

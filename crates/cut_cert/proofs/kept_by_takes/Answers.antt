@@ -2,7 +2,7 @@ use Rattle.std.proofs.Common.{◌≡◌, ◌^◌, ◌<◌, arith, length}
 use Rattle.std.specs.Prelude.{◌&&◌, slice_index}
 use Rattle.water_model.specs.Basin.{is_senior}
 use Rattle.water_model.specs.Cuts.{takes_within}
-use Rattle.cut_cert.specs.Sets.{cut_at}
+use Rattle.cut_cert.specs.Sets.{marked_nodes}
 use Rattle.cut_cert.proofs.Bounds.{next_fits, all_most, entry_most}
 use Rattle.cut_cert.proofs.kept_by_takes.Goals as goal
 
@@ -14,7 +14,7 @@ overflow_add-sum c =
       c.loop-taker.invariant,
       c.requires.basin.few.rights,
       next_fits c.loop-taker.taker (length c.args.basin.now.rights) (10 ^ 9)
-          (λ s. takes_within c.args.basin.now (cut_at c.args.cuts.now c.args.right) s && is_senior c.args.basin.now s
+          (λ s. takes_within c.args.basin.now (marked_nodes c.args.basin.now c.args.words.now) s && is_senior c.args.basin.now s
           c.args.right)
           (λ s. slice_index c.args.delivered.now s) within
           (λ s l. entry_most c.args.delivered.now (10 ^ 9) s c.requires.most),
@@ -28,7 +28,7 @@ returns-clause-small c =
       rw all at c.loop-taker.invariant,
       c.requires.basin.few.rights,
       all_most (length c.args.basin.now.rights) (10 ^ 9)
-          (λ s. takes_within c.args.basin.now (cut_at c.args.cuts.now c.args.right) s && is_senior c.args.basin.now s
+          (λ s. takes_within c.args.basin.now (marked_nodes c.args.basin.now c.args.words.now) s && is_senior c.args.basin.now s
           c.args.right)
           (λ s. slice_index c.args.delivered.now s) (λ s l. entry_most c.args.delivered.now (10 ^ 9) s c.requires.most),
     )

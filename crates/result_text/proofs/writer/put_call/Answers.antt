@@ -1,6 +1,8 @@
-use Rattle.std.proofs.Common.{sym, ◌∙◌, List, subst}
+use Rattle.std.proofs.Common.{List, Some, ap, subst, sym, ◌∙◌}
+use Rattle.bit_words.specs.Marks.{marks}
 use Rattle.std.specs.List.{flat_map}
 use Rattle.water_edge.specs.Edge.{Puts}
+use Rattle.water_model.specs.History.{cut_of}
 use Rattle.water_model.specs.Spelling.{whole_line}
 use Rattle.water_model.specs.declared.item.Item.{Item}
 use Rattle.water_model.specs.declared.item.Item.TheVariants as line
@@ -9,14 +11,16 @@ use Rattle.result_text.proofs.Members.{call_lines}
 use Rattle.result_text.proofs.Puts.{Puts-first}
 use Rattle.result_text.proofs.writer.put_call.Goals as goal
 
-pub returns-clause-text : goal.returns-clause-text
-returns-clause-text g c =
-    let all = Puts-first (whole_line c.args.basin.now) (line.Call c.args.right)
-    (members_of c.args.basin.now c.args.month.now c.args.right)
+pub returns-in_ok-put_item-in-Some-clause-text : goal.returns-in_ok-put_item-in-Some-clause-text
+returns-in_ok-put_item-in-Some-clause-text g c =
+    let nodes = c.len-nodes.result in
+    let words = c.in-Some.words.now in
+    let all = Puts-first (whole_line c.args.basin.now) (line.Call c.args.right) (members_of nodes words)
     (g.K.Sink.taken c.args.sink.now) (g.K.Sink.taken c.put_item.new.sink) (g.K.Sink.taken c.put_members.new.sink)
-    c.put_members.result c.in_ok-put_item.ensures.text c.put_members.ensures.text in
+    c.put_members.result c.in_ok-put_item-in-Some.ensures.text c.put_members.ensures.text in
     subst (λ (items : List Item). Puts (g.K.Sink.taken c.args.sink.now) (g.K.Sink.taken c.put_members.new.sink)
     c.put_members.result (flat_map (whole_line c.args.basin.now) items))
-    (call_lines c.args.basin.now c.args.month.now c.args.right (c.requires.month.sets c.args.right)
-    (sym c.has_set.ensures ∙ c.if-not-has_set.false))
+    (call_lines c.args.right nodes words (cut_of c.args.month.now c.args.right)
+    (ap (λ n. Some (marks n words)) (c.len-nodes.ensures ∙ sym c.requires.month.fits.cut_nodes)
+    ∙ c.in-Some.ensures.set))
     all

@@ -1,31 +1,60 @@
-use Rattle.std.proofs.Common.{length, arith}
+use Rattle.std.proofs.Common.{arith, sym, subst, List}
+use Rattle.std.specs.Io.KnownBytes.{Appends}
+use Rattle.std.specs.List.{flat_map}
 use Rattle.water_model.specs.Places.{numbers_from}
 use Rattle.water_model.specs.Spelling.{whole_line}
-use Rattle.water_model.proofs.Order.{length-numbers_from, numbers_from-get}
+use Rattle.water_model.specs.declared.item.Item.{Item}
+use Rattle.water_model.proofs.Order.{numbers_from-get}
 use Rattle.result_text.specs.Members.{member_at}
-use Rattle.result_text.proofs.Puts.{SoFar-none, SoFar-next, SoFar-fails, SoFar-whole}
+use Rattle.result_text.proofs.Members.{line_of_next, SoFar-at, SoFar-rest}
+use Rattle.result_text.proofs.Puts.{SoFar-none, SoFar-next, SoFar-fails, PutsFront}
 use Rattle.result_text.proofs.writer.put_members.Goals as goal
 
-pub loop-node-init : goal.loop-node-init
-loop-node-init g c =
-    SoFar-none (whole_line c.args.basin.now) (member_at c.args.month.now c.args.right)
-    (numbers_from 0 (length c.args.basin.now.nodes)) (g.K.Sink.taken c.args.sink.now) (g.K.Sink.faults c.args.sink.now)
+pub loop-turn-init : goal.loop-turn-init
+loop-turn-init g c = record {
+  turns = omega arith;
+  within = omega arith;
+  put = SoFar-none (whole_line c.args.basin.now) (member_at c.args.words.now) (numbers_from 0 c.args.nodes)
+      (g.K.Sink.taken c.args.sink.now) (g.K.Sink.faults c.args.sink.now);
+}
 
-pub returns-in_err-put_member-clause-text : goal.returns-in_err-put_member-clause-text
-returns-in_err-put_member-clause-text g c =
-    SoFar-fails c.loop-node.node (g.K.Sink.taken c.put_member.new.sink) c.from_residual.result c.loop-node.invariant
-    (numbers_from-get 0 (length c.args.basin.now.nodes) c.loop-node.node c.loop-node.node
-    (omega (arith, c.len-node-end.ensures)) (omega arith))
-    c.in_err-put_member.ensures.text c.from_residual.ensures.0
+pub loop-turn-preserved : goal.loop-turn-preserved
+loop-turn-preserved g c =
+    let next = c.in-Some.ensures.some in
+    record {
+      turns = omega (arith, c.loop-turn.invariant.turns, next.after);
+      within = omega (arith, next.below);
+      put = SoFar-next c.in-Some.node
+          (SoFar-at c.args.basin.now c.args.words.now c.args.nodes c.loop-turn.from c.in-Some.node
+          c.loop-turn.invariant.put next)
+          (numbers_from-get 0 c.args.nodes c.in-Some.node c.in-Some.node (omega (arith, next.below)) (omega arith))
+          (subst (λ (items : List Item). Appends (g.K.Sink.taken c.loop-turn.sink) (g.K.Sink.taken c.put_item.new.sink)
+          (flat_map (whole_line c.args.basin.now) items))
+          (sym (line_of_next c.args.words.now c.loop-turn.from c.args.nodes c.in-Some.node next))
+          c.in_ok-put_item-in-Some.ensures.text)
+          c.in_ok-put_item-in-Some.ensures.cause.later;
+    }
 
-pub loop-node-preserved : goal.loop-node-preserved
-loop-node-preserved g c =
-    SoFar-next c.loop-node.node c.loop-node.invariant
-    (numbers_from-get 0 (length c.args.basin.now.nodes) c.loop-node.node c.loop-node.node
-    (omega (arith, c.len-node-end.ensures)) (omega arith))
-    c.in_ok-put_member.ensures.text c.in_ok-put_member.ensures.cause.later
+pub returns-in_err-put_item-in-Some-clause-text : goal.returns-in_err-put_item-in-Some-clause-text
+returns-in_err-put_item-in-Some-clause-text g c =
+    let next = c.in-Some.ensures.some in
+    SoFar-fails c.in-Some.node (g.K.Sink.taken c.put_item.new.sink) c.from_residual.result
+    (SoFar-at c.args.basin.now c.args.words.now c.args.nodes c.loop-turn.from c.in-Some.node
+    c.loop-turn.invariant.put next)
+    (numbers_from-get 0 c.args.nodes c.in-Some.node c.in-Some.node (omega (arith, next.below)) (omega arith))
+    (subst (λ (items : List Item). PutsFront (g.K.Sink.taken c.loop-turn.sink) (g.K.Sink.taken c.put_item.new.sink)
+    (flat_map (whole_line c.args.basin.now) items))
+    (sym (line_of_next c.args.words.now c.loop-turn.from c.args.nodes c.in-Some.node next))
+    c.in_err-put_item-in-Some.ensures.text)
+    c.from_residual.ensures.0
+
+pub returns-in-None-clause-text : goal.returns-in-None-clause-text
+returns-in-None-clause-text g c =
+    SoFar-rest c.args.basin.now c.args.words.now c.args.nodes c.loop-turn.from c.loop-turn.invariant.put
+    c.loop-turn.invariant.within c.in-None.ensures.none
 
 pub returns-clause-text : goal.returns-clause-text
 returns-clause-text g c =
-    SoFar-whole c.loop-node.invariant
-    (omega (arith, length-numbers_from 0 (length c.args.basin.now.nodes), c.len-node-end.ensures))
+    SoFar-rest c.args.basin.now c.args.words.now c.args.nodes c.loop-turn.from c.loop-turn.invariant.put
+    c.loop-turn.invariant.within
+    (λ n above below. absurd (omega (arith, above, below, c.loop-turn.invariant.turns, c.loop-turn-test.false)))

@@ -60,10 +60,10 @@ returns-clause-places g c =
     let long = c.split_at_mut-held.ensures.front_len in
     let front = c.split_at_mut-fixed.ensures.front_len in
     let back = c.split_at_mut-fixed.ensures.back_len in
+    let back_again = c.give_back.ensures parts.contents c.split_at_mut-fixed.result.1.now parts.words moved in
     places_again c.args.basin.now c.args.region.now c.args.places.now c.split_at_mut-fixed.result.0.now
-    c.split_at_mut-fixed.result.1.now c.give_back.new.moving c.sweep_lent-answer.new.tree parts.contents
-    c.requires.places parts.ends
-    (c.give_back.ensures parts.contents c.split_at_mut-fixed.result.1.now parts.words moved)
+    c.split_at_mut-fixed.result.1.now c.give_back.new.moving c.sweep_lent-answer.new.tree back_again.0 parts.contents
+    c.requires.places parts.ends back_again.1
     (front ∙ c.fixed.ensures) (omega (arith, moved, cleared, long, front, back))
     (omega (
       arith,

@@ -1,16 +1,16 @@
-use Rattle.std.proofs.Common.{refl, sym, ap, ◌∙◌}
-use Rattle.std.proofs.lemmas.Option.{slice_get-get_or}
-use Rattle.std.specs.Str.{bytes_eq}
-use Rattle.result_reader.specs.Words.{spelling_of, words, word_of}
-use Rattle.result_reader.proofs.WordLaws.{find-next}
+use Rattle.std.proofs.Common.{◌≡◌, refl, sym, ap, ◌∙◌, Some}
+use Rattle.std.specs.Prelude.{codes}
+use Rattle.std.proofs.lemmas.Slice.Eq.{bytes_eq-Decides}
+use Rattle.result_reader.specs.Words.{word_of}
+use Rattle.result_reader.specs.declared.words.Word.TheVariants as word
 use Rattle.result_reader.proofs.words.Word.of.Goals as goal
 
-pub loop-word-init : goal.loop-word-init
+member_spelled : Some word.Member ≡ word_of (codes "in")
 unfolding word_of
-loop-word-init c = refl
+member_spelled = refl
 
-pub loop-word-preserved : goal.loop-word-preserved
-loop-word-preserved c =
-    find-next (λ w. bytes_eq (spelling_of w) c.args.text.now) words c.loop-word.word-index _ _
-    (slice_get-get_or words c.loop-word.word-index _ c.loop-word-test.true)
-    (sym (c.eq.ensures ∙ ap (λ t. bytes_eq t c.args.text.now) c.text.ensures) ∙ c.if-eq.false) c.loop-word.invariant
+pub returns-then-eq : goal.returns-then-eq
+returns-then-eq c =
+    let same : c.args.text.now ≡ c.as_slice.result.now =
+    (bytes_eq-Decides c.args.text.now c.as_slice.result.now).0 (sym c.eq.ensures ∙ c.if-eq.true) in
+    member_spelled ∙ ap word_of (sym (same ∙ c.as_slice.ensures))
