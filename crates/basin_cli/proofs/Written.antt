@@ -68,10 +68,10 @@ whole_run b series run records valid same fits stands done =
       reaches = reaches;
       no_more =
           λ i m at q plan right l serves.
-              cuts_let_nobody_get_more b series records partial i m at q plan right l serves;
+          cuts_let_nobody_get_more b series records partial i m at q plan right l serves;
       no_help = λ i m at right l cut is supply' want' q plan agrees serves.
           cuts_let_nothing_outside_help b series records partial i m at right l cut is supply' want' q plan agrees
-              serves;
+          serves;
       juniors = λ i m at right l cut is. histories_leave_nothing b series records partial i m at right l cut is;
       called = λ i m at right caller l k calls.
           called_rights_get_nothing b series records partial i m at right caller l k calls;

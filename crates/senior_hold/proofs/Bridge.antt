@@ -210,10 +210,10 @@ arc_cut b month supply want w right cut net k kind len is = record { one_each = 
 
     apart : IsKind b right → separates b (taking_node b right) (instream_link b right) cut ≡ true
     apart (on_link e l i t) = subst (λ o. separates b (taking_node b right) o cut ≡ true) (sym i) (
-      all (nat_lt e (length b.links)) (leaves b cut e) (inside e (length b.links) l)
-          (two (has cut (tail_of b e)) (has cut (head_of b e))
-          (ap (has cut) (sym (net.ends.link_from e l) ∙ sym (ap w.from (ap (arc_by_link b right) i))) ∙ is.tail)
-          (ap (has cut) (sym (net.ends.link_to e l) ∙ sym (ap w.to (ap (arc_by_link b right) i))) ∙ is.head)))
+        all (nat_lt e (length b.links)) (leaves b cut e) (inside e (length b.links) l)
+        (two (has cut (tail_of b e)) (has cut (head_of b e))
+        (ap (has cut) (sym (net.ends.link_from e l) ∙ sym (ap w.from (ap (arc_by_link b right) i))) ∙ is.tail)
+        (ap (has cut) (sym (net.ends.link_to e l) ∙ sym (ap w.to (ap (arc_by_link b right) i))) ∙ is.head)))
     apart (at_node v l i t) = subst (λ o. separates b (taking_node b right) o cut ≡ true) (sym i)
         (ap (λ o. node_within o cut) (net.ends.take_from right k (ap is_some t))
         ∙ ap (λ a. has cut (w.from a)) (sym (ap (arc_by_link b right) i)) ∙ is.tail)
