@@ -7,8 +7,7 @@ use Rattle.std.proofs.lemmas.Bool.{both_ways}
 use Rattle.place_sums.specs.Sums.{total, when}
 use Rattle.circulation.specs.Network.{Network, IsFlow, HasEnds, IsTight, LeadsOut}
 use Rattle.circulation.specs.Residual.{arc_of, is_back, by_way, start_of}
-use Rattle.place_sums.proofs.Totals.{total_change, total_pick}
-use Rattle.circulation.proofs.RowSums.{total_at_most}
+use Rattle.place_sums.proofs.Totals.{total_change, total_most, total_pick}
 use Rattle.circulation.proofs.Scans.{by_way_both}
 use Rattle.augment.specs.Search.{IsBranch, IsTree, IsClosed, Grows}
 use Rattle.augment.specs.Raised.{HasWayOut}
@@ -26,7 +25,7 @@ total_less zero v f b h z = absurd (omega arith)
 total_less (suc n) v f b h z = elim (cases_eq v n) [
   | inl e ↦
       let last = subst (λ (j : ℕ). f j ≡ 0) e z in
-      omega (arith, last, total_at_most n 1 f h)
+      omega (arith, last, total_most n 1 f (λ k l. h k))
   | inr ne ↦ omega (arith, total_less n v f (omega arith) h z, h n)
 ]
 
@@ -44,8 +43,8 @@ pub tree_size : (w : Network) (g : ℕ → ℕ) (r least : ℕ) (position node s
 tree_size w g r least position node step size t = omega (
   arith,
   t.counted,
-  total_at_most (w.nodes + 1) 1 (λ u. when (nat_lt 0 (position u)) 1)
-      (λ u. when_one (nat_lt 0 (position u))),
+  total_most (w.nodes + 1) 1 (λ u. when (nat_lt 0 (position u)) 1)
+      (λ u l. when_one (nat_lt 0 (position u))),
 )
 
 -- the tree of the root alone

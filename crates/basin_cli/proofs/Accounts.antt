@@ -29,83 +29,6 @@ use Rattle.basin_cli.proofs.Explained.{last_of, one_answer}
 use Rattle.basin_cli.proofs.Judged.{good_series, spelled_by}
 use Rattle.basin_cli.proofs.OneSeries.{one_basin, one_series, same_partial}
 
--- the record of the month with an index is about the month
-about_last : (b : Basin) (series : Inflows) (month : Month) (name : List ℕ) (index right : ℕ) (m : MonthRecord) →
-    IsMonthAt b month index → IsRightNamed b name right →
-    IsRecordOf b series (run_month b index) m → IsAbout b series month name right m
-about_last b series month name index right m at named of_month =
-    record { named = named; of_month = subst (λ (k : Month). IsRecordOf b series k m) at.is of_month }
-
--- the answer about the month of an index and a right answers the month and the name that have them
-pub asked_answer : (b : Basin) (series : Inflows) (month : Month) (name : List ℕ) (index right : ℕ) (how : Ending)
-    (write : Type 0) (old new : Option (List ℕ)) →
-    IsMonthAt b month index → IsRightNamed b name right → AnswersAt b series index right how write old new →
-    IsAnswered b series month name how old new
-asked_answer b series month name index right how write old new at named answer = record {
-  right = right;
-  last = answer.last;
-  about = about_last b series month name index right answer.last at named answer.of_month;
-  text = answer.text;
-  explains = answer.explains;
-  written = answer.written;
-}
-
-pub asked_ends : (b : Basin) (series : Inflows) (month : Month) (name : List ℕ) (index right : ℕ) (how : Ending)
-    (write : Type 0) (old new : Option (List ℕ)) →
-    IsMonthAt b month index → IsRightNamed b name right →
-    (MayWrite (status_of how) → AnswersAt b series index right how write old new) →
-    ((MayWrite (status_of how) → ⊥) → how ≡ ending.OutOfMemory) → EndsAsking b series month name how write
-asked_ends b series month name index right ending.Done write old new at named answers memory =
-    let answer = answers tt in (
-      right,
-      answer.last,
-      about_last b series month name index right answer.last at named answer.of_month,
-      answer.ends,
-    )
-asked_ends b series month name index right ending.Met write old new at named answers memory =
-    let answer = answers tt in (
-      right,
-      answer.last,
-      about_last b series month name index right answer.last at named answer.of_month,
-      answer.ends,
-    )
-asked_ends b series month name index right ending.WriteFault write old new at named answers memory =
-    ((answers tt).ends, (index, at), (right, named))
-asked_ends b series month name index right ending.OutOfMemory write old new at named answers memory = tt
-asked_ends b series month name index right (ending.Refuted refuted) write old new at named answers memory =
-    absurd ((answers tt).ends)
-asked_ends b series month name index right ending.Injured write old new at named answers memory =
-    absurd ((answers tt).ends)
-asked_ends b series month name index right ending.PartYear write old new at named answers memory = let clash =
-    memory (λ h. h) in cc
-asked_ends b series month name index right ending.Usage write old new at named answers memory = let clash =
-    memory (λ h. h) in cc
-asked_ends b series month name index right (ending.BasinRefused finding) write old new at named answers memory =
-    let clash = memory (λ h. h) in cc
-asked_ends b series month name index right (ending.SeriesRefused finding) write old new at named answers memory =
-    let clash = memory (λ h. h) in cc
-asked_ends b series month name index right (ending.SecondRefused (of_second.Basin finding)) write old new at named
-    answers memory = let clash = memory (λ h. h) in cc
-asked_ends b series month name index right (ending.SecondRefused of_second.OtherRun) write old new at named answers
-    memory = let clash = memory (λ h. h) in cc
-asked_ends b series month name index right (ending.SecondRefused (of_second.Series finding)) write old new at named
-    answers memory = let clash = memory (λ h. h) in cc
-asked_ends b series month name index right (ending.ReadFault file) write old new at named answers memory = let clash =
-    memory (λ h. h) in cc
-asked_ends b series month name index right (ending.InputTooLong file) write old new at named answers memory =
-    let clash = memory (λ h. h) in cc
-asked_ends b series month name index right (ending.ScriptRefused fault line) write old new at named answers memory =
-    let clash = memory (λ h. h) in cc
-
--- pushes of the months up to one
-pub asked_pushes : (b : Basin) (month : Month) (index before now : ℕ) → IsValidBasin b → IsMonthAt b month index →
-    now ≤ before + (index + 1) * month_pushes b → PushesUpTo b month before now
-asked_pushes b month index before now valid at bound = record {
-  in_run = λ i other. subst (λ k. now ≤ before + (k + 1) * month_pushes b)
-      (one_index b month index i valid at.is other.is) bound;
-  outside = λ none. absurd (none (index, at));
-}
-
 pub no_pushes : (b : Basin) (month : Month) (n : ℕ) → PushesUpTo b month n n
 no_pushes b month n = record { in_run = λ i at. omega arith; outside = λ _. refl }
 
@@ -255,8 +178,3 @@ asking_solves told files month b series before now loaded pushes = of_told (told
     of_told None text = tt
     of_told (Some bytes) text =
         λ c spelled. subst (λ d. PushesUpTo d month before now) (one_basin bytes b c text.spelled spelled) pushes
-
-pub nothing_solved : (told : Option (List ℕ)) (month : Month) (n : ℕ) →
-    IfSome told (λ bytes. (c : Basin) → Spells bytes c → PushesUpTo c month n n)
-nothing_solved None month n = tt
-nothing_solved (Some bytes) month n = λ c spelled. no_pushes c month n

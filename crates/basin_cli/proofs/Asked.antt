@@ -4,7 +4,7 @@ use Rattle.std.proofs.Common.{inr}
 use Rattle.std.specs.Prelude.{IfNone, IfSome, nat_lt, position, true}
 use Rattle.std.specs.List.{position_or_len}
 use Rattle.std.specs.Str.{bytes_eq}
-use Rattle.std.proofs.lemmas.Bool.{cases_order}
+use Rattle.std.proofs.lemmas.Bool.{cases_order, lt-ltb}
 use Rattle.std.proofs.lemmas.Bool.Decides.{nat_tests}
 use Rattle.std.proofs.lemmas.List.Quantifiers.{position-Some}
 use Rattle.std.proofs.lemmas.Option.{get_or_from_slice_get}
@@ -22,21 +22,6 @@ use Rattle.water_model.specs.declared.types.Right.{Right}
 use Rattle.water_model.proofs.Balance.{entry_holds}
 use Rattle.edit_script.specs.Names.{month_number}
 use Rattle.basin_cli.specs.Explained.{HasMonth, HasRight, IsMonthAt, IsRightNamed}
-
-pub month_found : (b : Basin) (month : Month) (r : Option ℕ) → IsValidBasin b → IsMonth month →
-    r ≡ index_in_run b month → IfSome r (IsMonthAt b month)
-month_found b month None valid is e = tt
-month_found b month (Some i) valid is e =
-    let at = (months_have_their_index b month i valid is).0 (sym e) in
-    record { within = at.0; is = sym at.1 }
-
-pub month_missing : (b : Basin) (month : Month) (r : Option ℕ) → IsValidBasin b → IsMonth month →
-    r ≡ index_in_run b month → IfNone r (HasMonth b month → ⊥)
-month_missing b month (Some i) valid is e = tt
-month_missing b month None valid is e = λ has.
-    (let found : index_in_run b month ≡ Some has.0 =
-    (months_have_their_index b month has.0 valid is).1 (has.1.within, sym has.1.is) in
-    let clash : None ≡ Some has.0 = e ∙ found in cc)
 
 -- a month has one index
 pub one_index : (b : Basin) (month : Month) (i j : ℕ) → IsValidBasin b → run_month b i ≡ month → run_month b j ≡ month →
@@ -77,13 +62,10 @@ right_missing b name valid e has =
     (ap (λ (r : Right). bytes_eq name r.name) (get_or_from_slice_get b.rights at right.0 right.0 right.1) ∙ passes) in
     let found : right_named b name ≡ Some (position_or_len (λ (r : Right). bytes_eq name r.name) b.rights) =
     ap (λ t. cond t (Some (position_or_len (λ (r : Right). bytes_eq name r.name) b.rights)) None)
-    (less (position_or_len (λ (r : Right). bytes_eq name r.name) b.rights) (length b.rights) (let l = has.1.within in
+    (lt-ltb (position_or_len (λ (r : Right). bytes_eq name r.name) b.rights) (length b.rights) (let l = has.1.within in
     omega arith)) in
     let clash : None ≡ Some (position_or_len (λ (r : Right). bytes_eq name r.name) b.rights) = sym e ∙ found in
     cc
-  where
-    less : (i n : ℕ) → i < n → nat_lt i n ≡ true
-    less i n l = grind (arith, nat_tests)
 
 -- no two rights have one name
 pub one_right : (b : Basin) (name : List ℕ) (right other : ℕ) → IsValidBasin b → IsRightNamed b name right →

@@ -84,64 +84,8 @@ refused_not_good bytes s text fault line is good =
     never_ok (Ok x) y e h = cc
     never_ok (Err x) y e h = cc
 
--- a script that can't be read
-pub stop_ends : (b : Basin) (series : Inflows) (script : List ℕ) (how : Ending) (write : Type 0) →
-    ScriptEnds b series script how → EndsEditing b series script how write
-stop_ends b series script (ending.ScriptRefused fault line) write h = h
-stop_ends b series script ending.OutOfMemory write h = tt
-stop_ends b series script other write h = absurd h
-
-pub stop_leaves : (b : Basin) (series : Inflows) (script : List ℕ) (how : Ending) (old : Option (List ℕ)) →
-    ScriptEnds b series script how →
-    LeavesScript (status_of how) b series script old old
-stop_leaves b series script (ending.ScriptRefused fault line) old h = λ may. absurd may
-stop_leaves b series script ending.OutOfMemory old h = inl refl
-stop_leaves b series script other old h = absurd h
-
 pub no_pushes : (b : Basin) (series : Inflows) (script : List ℕ) (n : ℕ) → PushesOfScript b series script n n
 no_pushes b series script n = record { asked = λ edits reads. omega arith; refused = λ _. refl }
-
--- a script that was read and answered
-read_ok : {X Y : Type 0} (r : Result X Y) (x : X) → r ≡ Ok x → IsOk r
-read_ok (Ok y) x e = cc
-read_ok (Err y) x e = cc
-
-never_err : {X Y : Type 0} (r : Result X Y) (x : X) → r ≡ Ok x → IsErr r → ⊥
-never_err (Ok y) x e h = cc
-never_err (Err y) x e h = cc
-
-pub answered_ends : (b : Basin) (series : Inflows) (script : List ℕ) (edits : List Edit) (how : Ending)
-    (write : Type 0) → script_of b series script ≡ Ok edits →
-    HasTrialCause how write → EndsEditing b series script how write
-answered_ends b series script edits ending.Done write reads h = read_ok (script_of b series script) edits reads
-answered_ends b series script edits ending.WriteFault write reads h =
-    (h, read_ok (script_of b series script) edits reads)
-answered_ends b series script edits ending.OutOfMemory write reads h = tt
-answered_ends b series script edits other write reads h = absurd h
-
-pub answered_leaves : (b : Basin) (series : Inflows) (script : List ℕ) (edits : List Edit) (how : Ending)
-    (write : Type 0) (old new : Option (List ℕ)) →
-    script_of b series script ≡ Ok edits → HasTrialCause how write →
-    LeavesShows (status_of how) b series edits old new →
-    LeavesScript (status_of how) b series script old new
-answered_leaves b series script edits ending.Done write old new reads h left =
-    λ _. record { edits = edits; reads = reads; written = left }
-answered_leaves b series script edits ending.WriteFault write old new reads h left =
-    λ _. record { edits = edits; reads = reads; written = left }
-answered_leaves b series script edits ending.OutOfMemory write old new reads h left =
-    inr (record { edits = edits; reads = reads; written = left })
-answered_leaves b series script edits other write old new reads h left = absurd h
-
-pub answered_pushes : (b : Basin) (series : Inflows) (script : List ℕ) (edits : List Edit) (before now : ℕ) →
-    script_of b series script ≡ Ok edits →
-    now ≤ before + cost edits * month_pushes b → PushesOfScript b series script before now
-answered_pushes b series script edits before now reads bound = record {
-  asked = λ others reads'.
-      (let both : Ok edits ≡ Ok others = sym reads ∙ reads' in
-      let same : edits ≡ others = cc in
-      subst (λ (es : List Edit). now ≤ before + cost es * month_pushes b) same bound);
-  refused = λ bad. absurd (never_err (script_of b series script) edits reads bad);
-}
 
 -- Behind the files of `edit`.
 
@@ -189,12 +133,6 @@ editing_writes told files script text b series status old new fits loaded is lef
     loaded.from_basin loaded.from_series is
     (λ bytes s spelled. leaves_told status bytes s b series text old new spelled left)
 
--- where the files stop the call nothing is left
-stop_nothing : (status : Status) (bytes s text : List ℕ) (old : Option (List ℕ)) → (MayWrite status → ⊥) →
-    EditLeaves status bytes s text old old
-stop_nothing status.OutOfMemory bytes s text old never = inl refl
-stop_nothing other bytes s text old never = λ may. absurd (never may)
-
 -- and how often searches pushed
 pushes_same : (bytes s text : List ℕ) (b : Basin) (series : Inflows) (before now : ℕ) → AreSpelled bytes s b series →
     PushesOfScript b series text before now →
@@ -220,39 +158,3 @@ editing_pushes told files script text b series before now fits loaded is pushes 
     (λ bytes s t. (c : Basin) (other : Inflows) → AreSpelled bytes s c other → PushesOfScript c other t before now) fits
     loaded.from_basin loaded.from_series is
     (λ bytes s spelled. pushes_same bytes s text b series before now spelled pushes)
-
--- Where nothing was solved, nothing was pushed; and where a file stopped the call, nothing is left on out.
-pub nothing_pushed : (told : Told) (files : Files) (script : List ℕ) (n : ℕ) → EditPushes told files script n n
-nothing_pushed told files script n = by_told (told files.basin) (series_told told files.series) (told script)
-  where
-    by_told : (t o r : Option (List ℕ)) →
-        IfSome t (λ bytes. IfSome o
-        (λ s. IfSome r (λ text. (c : Basin) (other : Inflows) → AreSpelled bytes s c other →
-        PushesOfScript c other text n n)))
-    by_told None o r = tt
-    by_told (Some bytes) None r = tt
-    by_told (Some bytes) (Some s) None = tt
-    by_told (Some bytes) (Some s) (Some text) = λ c other spelled. no_pushes c other text n
-
-pub nothing_left : (told : Told) (files : Files) (script : List ℕ) (status : Status) (old : Option (List ℕ)) →
-    (MayWrite status → ⊥) →
-    EditWrites told files script status old old
-nothing_left told files script status old never =
-    by_told (told files.basin) (series_told told files.series) (told script)
-  where
-    by_told : (t o r : Option (List ℕ)) →
-        IfSome t (λ bytes. IfSome o (λ s. IfSome r (λ text. EditLeaves status bytes s text old old)))
-    by_told None o r = tt
-    by_told (Some bytes) None r = tt
-    by_told (Some bytes) (Some s) None = tt
-    by_told (Some bytes) (Some s) (Some text) = stop_nothing status bytes s text old never
-
--- where the reading of basin and series stops, nothing may be written
-pub reading_writes_nothing : (told : Told) (files : Files) (how : Ending) (read : Type 0) →
-    StopsReading files how told read → MayWrite (status_of how) → ⊥
-reading_writes_nothing told files (ending.BasinRefused finding) read h may = may
-reading_writes_nothing told files (ending.SeriesRefused finding) read h may = may
-reading_writes_nothing told files (ending.ReadFault file) read h may = may
-reading_writes_nothing told files (ending.InputTooLong file) read h may = may
-reading_writes_nothing told files ending.OutOfMemory read h may = may
-reading_writes_nothing told files other read h may = h

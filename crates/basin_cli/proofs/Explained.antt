@@ -15,6 +15,7 @@ use Rattle.result_text.specs.Range.{FitsText}
 use Rattle.result_text.proofs.Whole.{FitsText-follows}
 use Rattle.senior_hold.specs.MonthNetwork.{month_pushes}
 use Rattle.water_text.specs.declared.month.Month.{Month}
+use Rattle.water_model.proofs.Lists.{get_behind}
 use Rattle.water_model.specs.Basin.{right_name}
 use Rattle.water_model.specs.Cuts.{IsReach}
 use Rattle.water_model.specs.History.{Follows, IsPartialHistory, IsShort}
@@ -27,7 +28,6 @@ use Rattle.water_model.specs.declared.types.MonthRecord.{MonthRecord}
 use Rattle.water_model.proofs.Outcome.{one_outcome}
 use Rattle.basin_cli.specs.Explained.{Explains, HasLast, IsAbout, IsRecordOf, met_line}
 use Rattle.basin_cli.proofs.Asked.{one_index, one_right}
-use Rattle.basin_cli.proofs.Written.{last_is}
 
 -- the last record of a partial history follows those before it
 pub last_of : (b : Basin) (series : Inflows) (before : List MonthRecord) (m : MonthRecord) →
@@ -35,7 +35,7 @@ pub last_of : (b : Basin) (series : Inflows) (before : List MonthRecord) (m : Mo
 last_of b series before m partial =
     subst (λ (rs : List MonthRecord). Follows b series rs m)
     (take-append-le (length before) before (m ∷ []) (omega arith) ∙ take-length before)
-    (partial.each (length before) m (last_is before m))
+    (partial.each (length before) m (get_behind before [] m))
 
 -- the last record of a run is one of the month with its index
 pub last_record : (b : Basin) (series : Inflows) (run : RunSeen) (index : ℕ) → run.basin ≡ b → run.series ≡ series →
@@ -59,7 +59,7 @@ last_record b series run index same fits done last = record {
 -- which has the reaches, and lines that can be written
 pub record_reaches : (b : Basin) (series : Inflows) (month : Month) (m : MonthRecord) → IsRecordOf b series month m →
     HasReaches b m
-record_reaches b series month m is = is.reaches (length is.before) m (last_is is.before m)
+record_reaches b series month m is = is.reaches (length is.before) m (get_behind is.before [] m)
 
 pub record_fits : (b : Basin) (series : Inflows) (month : Month) (m : MonthRecord) → IsValidBasin b →
     IsRecordOf b series month m → FitsText b m
@@ -71,14 +71,6 @@ record_fits b series month m valid is =
 pub one_more : (run run' : RunSeen) (records : List MonthRecord) → StandsFor run records →
     (StandsFor run records → StandsFor run' (records ++ run'.last ∷ [])) → HasLast run'
 one_more run run' records stands more = record { before = records; stands = more stands }
-
--- the pushes of some months and of one more are within those of so many months
-pub within_months : (b c : Basin) (first before after i count : ℕ) → c ≡ b → before ≤ first + i * month_pushes b →
-    after ≤ before + month_pushes c →
-    i < count → after ≤ first + count * month_pushes b
-within_months b c first before after i count same so_far more l =
-    let all : (i + 1) * month_pushes b ≤ count * month_pushes b = mul-le-mul_right (month_pushes b) (omega arith) in
-    omega (arith, all, so_far, more, ap month_pushes same)
 
 -- The account of a short right.
 
@@ -108,20 +100,6 @@ short_explained b m right reaches l is = record {
     reach : IsReach b m.month m.supply m.delivered right (cut_at m.cuts right)
     reach = reach_at b m right reaches l is
 
-pub met_explained : (b : Basin) (m : MonthRecord) (right : ℕ) → (IsShort m right → ⊥) →
-    Explains b m right (met_line m.month (right_name b right))
-met_explained b m right met = record { short = λ is. absurd (met is); met = λ _. refl }
-
--- a right that isn't short is met
-pub is_met : (m : MonthRecord) (right : ℕ) → (IsShort m right → ⊥) →
-    slice_index m.want right ≤ slice_index m.delivered right
-is_met m right h =
-    elim (cases_lt (slice_index m.delivered right) (slice_index m.want right)) [
-      | inl is ↦ absurd (h is)
-      | inr not ↦
-          not
-    ]
-
 -- Two records of a month have one outcome, so a right is short in both or in none.
 pub one_answer : (b : Basin) (series : Inflows) (month : Month) (name : List ℕ) (right other : ℕ) (m n : MonthRecord) →
     IsValidBasin b →
@@ -148,8 +126,8 @@ one_answer b series month name right other m n valid one two short =
         one_outcome b series (one.of_month.before ++ m ∷ []) (two.of_month.before ++ n ∷ []) valid one.of_month.partial
         two.of_month.partial
         (omega (arith, place, length-append one.of_month.before (m ∷ []), length-append two.of_month.before (n ∷ [])))
-        (length one.of_month.before) m n (last_is one.of_month.before m)
-        (subst (λ k. slice_get (two.of_month.before ++ n ∷ []) k ≡ Some n) (sym place) (last_is two.of_month.before n))
+        (length one.of_month.before) m n (get_behind one.of_month.before [] m)
+        (subst (λ k. slice_get (two.of_month.before ++ n ∷ []) k ≡ Some n) (sym place) (get_behind two.of_month.before [] n))
 
     along : IsShort n right
     along = omega

@@ -20,26 +20,6 @@ use Rattle.basin_cli.specs.Found.{AreFaultless, IsFound, RunsAreAccepted, refusa
 use Rattle.basin_cli.specs.Series.{BasinEnds, SeriesEnds}
 use Rattle.basin_cli.proofs.Judged.{is_no_text, is_text}
 
-pub basin_found : (bytes s text : List ℕ) (how : Ending) → BasinEnds bytes how → IsFound (refusal how) bytes s text
-basin_found bytes s text (ending.BasinRefused finding) h = (finding, h)
-basin_found bytes s text ending.OutOfMemory h = tt
-basin_found bytes s text other h = absurd h
-
--- a finding is of some fault
-some_fault : (b : Basin) (o : Option SeriesRefused) (finding : SeriesFinding) →
-    option_and_then (finding_of b) o ≡ Some finding →
-    (why : SeriesRefused) × (o ≡ Some why)
-some_fault b None finding e = cc
-some_fault b (Some why) finding e = (why, refl)
-
-pub series_found : (bytes s text : List ℕ) (b : Basin) (how : Ending) → file_fault bytes ≡ None → Spells bytes b →
-    SeriesEnds b s how → IsFound (refusal how) bytes s text
-series_found bytes s text b (ending.SeriesRefused finding) sound spelled h =
-    let fault = some_fault b (series_fault b s) finding h in
-    record { basin_sound = sound; basin = b; spelled = spelled; why = fault.0; first = fault.1 }
-series_found bytes s text b ending.OutOfMemory sound spelled h = tt
-series_found bytes s text b other sound spelled h = absurd h
-
 -- what was accepted is faultless
 pub faultless : (bytes s : List ℕ) (b : Basin) (series : Inflows) → file_fault bytes ≡ None →
     AreSpelled bytes s b series → series_fault b s ≡ None → AreFaultless bytes s

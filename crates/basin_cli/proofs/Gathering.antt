@@ -25,12 +25,6 @@ pub of_years : (t : Option (List ℕ)) (b : Basin) → HasWholeYears b → IfSom
 of_years None b whole text = tt
 of_years (Some bytes) b whole text = record { basin = b; spelled = text.spelled; whole = whole }
 
--- and whose basin hasn't
-pub part_year : (t : Option (List ℕ)) (b : Basin) → (HasWholeYears b → ⊥) → IfSome t (IsBasinText b) →
-    IfSome t IsPartYear
-part_year None b part text = tt
-part_year (Some bytes) b part text = record { good = text.good; basin = b; spelled = text.spelled; part = part }
-
 -- the cause of how an ensemble ends
 pub gathering_cause : (told : Told) (files : Files) (b : Basin) (series : Inflows) (how : Ending)
     (read write : Type 0) → HasWholeYears b →

@@ -18,6 +18,7 @@ use Rattle.std.specs.List.{list_all}
 use Rattle.std.proofs.lemmas.Bool.Decides.{nat_tests}
 use Rattle.water_model.proofs.Balance.{entry_holds}
 use Rattle.std.proofs.lemmas.Option.{slice_get_within}
+use Rattle.std.proofs.lemmas.Bool.{ltb-true}
 use Rattle.inflow_file.specs.SeriesFaults.{series_fault, table_fault, first_fault, record_fault, missing, missing_of}
 use Rattle.inflow_file.specs.SeriesFaults.{body_of, tells_kinds, entries_of, due, amount_for}
 use Rattle.inflow_file.specs.Columns.{column_numbers, count_of_both, is_column}
@@ -94,15 +95,12 @@ missing_is_told : (b : Basin) (month : Month) (n : ℕ) → IsMonth month → n 
     IsTold b (missing_of b month n)
 missing_is_told b month n calendar inside = by_test (nat_lt n (length b.nodes)) refl
   where
-    below : (n m : ℕ) → nat_lt n m ≡ true → n < m
-    below n m e = grind (arith, nat_tests)
-
     behind : (n m k : ℕ) → nat_lt n m ≡ false → n < m + k → n - m < k
     behind n m k e l = grind (arith, nat_tests)
 
     by_test : (t : Bool) → nat_lt n (length b.nodes) ≡ t →
         IsTold b (if t then refused.Missing month n else refused.MissingWant month (n - length b.nodes))
-    by_test true e = (calendar, below n (length b.nodes) e)
+    by_test true e = (calendar, ltb-true n (length b.nodes) e)
     by_test false e = (calendar, behind n (length b.nodes) (length b.rights) e inside)
 
 missing_told : (b : Basin) (rows : List (List (List ℕ))) (e : SeriesRefused) → IsValidBasin b →
@@ -195,10 +193,3 @@ short text h = within (nat_le 1 (length text)) (length text) (list_all is_name_b
   where
     within : (p : Bool) (n : ℕ) (q : Bool) → p && (nat_le n 32 && q) ≡ true → n ≤ 32
     within p n q h = grind (arith, nat_tests)
-
-pub read_short : (text name : List ℕ) → (if is_name text then Some text else None) ≡ Some name → length name ≤ 32
-read_short text name read = by_test (is_name text) refl read
-  where
-    by_test : (t : Bool) → is_name text ≡ t → (if t then Some text else None) ≡ Some name → length name ≤ 32
-    by_test true e h = let same : text ≡ name = cc in subst (λ (x : List ℕ). length x ≤ 32) same (short text e)
-    by_test false e h = cc

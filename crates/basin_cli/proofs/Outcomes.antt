@@ -4,6 +4,7 @@ use Rattle.std.proofs.Common.{ap, subst, length}
 use Rattle.std.specs.Prelude.{IfSome, IsTrue, Bool, true, false}
 use Rattle.std.specs.Option.{option_and_then}
 use Rattle.std.specs.Io.KnownBytes.{Appends}
+use Rattle.std.proofs.KnownBytes.{Appends-nil}
 use Rattle.edit_script.specs.declared.refused.ScriptFault.TheVariants as script
 use Rattle.index_seq.specs.Traces.{HasWholeYears}
 use Rattle.inflow_file.specs.SeriesFaults.{series_fault}
@@ -444,11 +445,7 @@ completes (Some (upgrade name)) how told read write h = upgrading name how told 
 -- nothing was told
 pub tells_nothing : (old : Option (List ℕ)) (before : ℕ) → Tells old old before before []
 tells_nothing old before =
-    record { count = 0; within = omega arith; appended = nothing old; cut = λ l. absurd (omega (arith, l)) }
-  where
-    nothing : (old : Option (List ℕ)) → Appends old old []
-    nothing None = tt
-    nothing (Some bytes) = sym (append-nil bytes)
+    record { count = 0; within = omega arith; appended = Appends-nil old; cut = λ l. absurd (omega (arith, l)) }
 
 -- a refusal of the second basin is told
 pub second_told : (finding : SecondFinding) → IsQuiet (status_of_second finding) → ⊥

@@ -16,10 +16,6 @@ pub record IsFed (c : PiecesSeen) (from : ℕ) (whole : List ℕ) : Type 0 where
   pub within : from ≤ length whole
   pub stands : StandsForText c (take from whole)
 
-pub first_fed : (told : Option (List ℕ)) (c : PiecesSeen) → StandsForText c [] → IfSome told (IsFed c 0)
-first_fed None c stands = tt
-first_fed (Some whole) c stands = record { within = omega arith; stands = stands }
-
 -- with a part more
 pub next_fed : (told : Option (List ℕ)) (c after : PiecesSeen) (from count : ℕ) (old new : List ℕ) → 0 < count →
     IfSome told (IsFed c from) →

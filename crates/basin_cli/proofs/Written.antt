@@ -7,6 +7,7 @@ use Rattle.std.proofs.lemmas.List.{take-append-drop, take-append-le}
 use Rattle.std.proofs.lemmas.Grind.{flat_map-append}
 use Rattle.std.proofs.Math.Seq.{take-append-add, take-length}
 use Rattle.std.proofs.Math.Nat.{add-mul, mul-le-mul_right}
+use Rattle.water_model.proofs.Lists.{get_behind}
 use Rattle.water_model.specs.History.{Follows, IsPartialHistory}
 use Rattle.water_model.specs.Spelling.{whole_line}
 use Rattle.water_model.specs.Text.{items_of_month, items_of_head, items_of_tail, text_bytes}
@@ -25,17 +26,14 @@ use Rattle.result_text.specs.Begun.{begun_bytes}
 use Rattle.result_text.specs.Range.{FitsText}
 use Rattle.result_text.proofs.Whole.{FitsText-follows, Puts-head, Puts-month, Puts-tail, begun-head, begun-more}
 use Rattle.result_text.proofs.Whole.{text-begun}
-use Rattle.result_text.proofs.Puts.{Appends-then, PutsFront}
+use Rattle.water_edge.proofs.Puts.{PutsFront}
 use Rattle.water_edge.specs.Edge.{Puts}
 use Rattle.basin_cli.specs.Written.{IsWritten, IsWrittenRun, StopsWriting}
 use Rattle.basin_cli.specs.Headline.{KeepsPriority, deliveries_of}
 use Rattle.month_fold.specs.Reaches.{HaveReaches}
 use Rattle.std.specs.List.{flat_map}
+use Rattle.std.proofs.KnownBytes.{Appends-trans}
 use Rattle.senior_hold.specs.MonthNetwork.{month_pushes}
-
-pub last_is : {X : Type 0} (xs : List X) (y : X) → slice_get (xs ++ y ∷ []) (length xs) ≡ Some y
-last_is [] y = refl
-last_is (x ∷ xs) y = last_is xs y
 
 -- the last of some months follows those before it
 last_follows : (run : RunSeen) (records : List MonthRecord) (m : MonthRecord) → StandsFor run (records ++ m ∷ []) →
@@ -43,7 +41,7 @@ last_follows : (run : RunSeen) (records : List MonthRecord) (m : MonthRecord) �
 last_follows run records m stands =
     subst (λ (before : List MonthRecord). Follows run.basin run.series before m)
     (take-append-le (length records) records (m ∷ []) (omega arith) ∙ take-length records)
-    (stands.partial.each (length records) m (last_is records m))
+    (stands.partial.each (length records) m (get_behind records [] m))
 
 -- so its lines can be written
 pub last_fits : (b : Basin) (run : RunSeen) (records : List MonthRecord) (m : MonthRecord) → IsValidBasin b →
@@ -140,7 +138,7 @@ front_behind start mid now a lines rest k few before behind =
     rw (
       take-append-le (length a + k) (a ++ lines) rest (omega (arith, length-append a lines)),
       take-append-add a lines k,
-    ) (Appends-then start mid now a (take k lines) before behind)
+    ) (Appends-trans start mid now a (take k lines) before behind)
 
 -- the months before the last are as many as stand before it
 all_but_last : (records : List MonthRecord) (m : MonthRecord) →
@@ -241,7 +239,7 @@ tail_stops b series run start mid now before after fits all written front pushes
   whole = λ _. (let less = begun_grows b written.records (length written.records - 1) in omega (arith, less));
   last = inl (sym written.stands.done ∙ all);
   text = rw (text-begun b written.records) (rw (take-append-add (begun_bytes b written.records) tail front.0)
-      (Appends-then start mid now (begun_bytes b written.records) (take front.0 tail) written.text front.2));
+      (Appends-trans start mid now (begun_bytes b written.records) (take front.0 tail) written.text front.2));
   pushes = rw (← written.stands.done, all) pushes;
 }
   where

@@ -20,6 +20,7 @@ ghost use Rattle.basin_cli.specs.Outcome.{IsQuiet};
 ghost use Rattle.basin_cli.specs.declared.ending.Ending.TheVariants.{OutOfMemory};
 
 use crate::ending::Ending;
+use calls::is_short;
 use cut_book::put_book;
 use edit_script::{ScriptFault, index_in_run};
 use month_fold::run::Run;
@@ -120,15 +121,6 @@ fn tell_met<K: Sink>(sink: &mut K, month: Month, name: &[u8]) -> Result<(), Sink
     let mut line = Line::new();
     put_met(&mut line, month, name);
     sink.put(line.bytes())
-}
-
-/// Whether a right was delivered less than its want.
-fn is_short(month: &MonthRecord, right: u32) -> bool
-    requires delivered { right < length month.now.delivered }
-    requires want { right < length month.now.want }
-    ensures { IsTrue result ↔ IsShort month.now right }
-{
-    month.delivered[right as usize] < month.want[right as usize]
 }
 
 /// Puts why a right got no more in a month whose sets are the reaches: the book of its reach, or that it is met. It

@@ -6,7 +6,8 @@ use Rattle.std.proofs.lemmas.List.Elements.{All-from_get_or}
 use Rattle.std.proofs.lemmas.Option.{get_or_from_slice_get}
 use Rattle.place_sums.specs.Sums.{total}
 use Rattle.place_sums.proofs.Totals.{term_le_total, total_same}
-use Rattle.cut_cert.proofs.Bounds.{carry_most, all_most}
+use Rattle.place_sums.proofs.Totals.{total_where_most}
+use Rattle.water_model.proofs.Carries.{carry_most}
 use Rattle.water_model.proofs.Wants.{want_most}
 use Rattle.month_terms.proofs.Amounts.{follows_small, deliveries_small, supply_small}
 use Rattle.month_terms.proofs.Bounds.{returns_small}
@@ -41,7 +42,7 @@ closing_small b series before m valid fits f v l =
       arith,
       f.closing v l,
       valid.few.rights,
-      all_most (length b.rights) (10 ^ 9) (λ r. is_zone_of b r v)
+      total_where_most (length b.rights) (10 ^ 9) (λ r. is_zone_of b r v)
           (λ r. slice_index m.plan.take r) (follows_small b series before m valid fits f).takes,
     )
 

@@ -22,28 +22,14 @@ use Rattle.water_model.proofs.Order.{Has, IsOrdered, numbers_from-has, numbers_f
 use Rattle.water_model.proofs.Seniority.{senior_trans}
 use Rattle.result_reader.specs.Due.{is_member}
 use Rattle.result_reader.specs.Telling.{Told, tell, with_supply}
-use Rattle.result_reader.proofs.Telling.{Sets, entry_set, tell_call, put_cut, fold-both}
+use Rattle.water_model.proofs.SetEntries.{set_of_with, set_of_other}
+use Rattle.result_reader.proofs.Telling.{tell_call, put_cut, fold-both}
 use Rattle.calls.specs.Callers.{is_short}
 use Rattle.cert_check.specs.Checking.{rows, has_tight, is_tight, passes, cut_missing}
 use Rattle.cert_check.proofs.Rows.{NoneHolds, AreGood, members_good, good_both, good_rest}
 
 clash : {X : Type 0} → true ≡ false → X
 clash h = cc
-
--- the set of one right more
-pub set_here : (c : CutSets) (r : ℕ) (v : Option (List Bool)) → r < length c.sets → set_of (with_set c r v) r ≡ v
-set_here c r v l = entry_set c.sets r v l
-
-pub set_apart : (c : CutSets) (r k : ℕ) (v : Option (List Bool)) → (k ≡ r → ⊥) → set_of (with_set c r v) k ≡ set_of c k
-set_apart c r k v h = in_list c.sets r k h
-  where
-    in_list : (xs : Sets) (r k : ℕ) → (k ≡ r → ⊥) →
-        of_entry (slice_set xs r v) k (λ s. s) None ≡ of_entry xs k (λ s. s) None
-    in_list [] r k h = refl
-    in_list (x ∷ xs) zero zero h = absurd (h refl)
-    in_list (x ∷ xs) zero (suc k) h = refl
-    in_list (x ∷ xs) (suc r) zero h = refl
-    in_list (x ∷ xs) (suc r) (suc k) h = in_list xs r k (λ e. h (ap suc e))
 
 -- what does not change by `call`, `in` and `called` lines
 pub record Sees (b : Basin) (series : Inflows) (m : MonthRecord) (now : MonthRecord) : Type 0 where
@@ -197,7 +183,7 @@ calling_more b series m r rs set t l once e tight c = record {
       λ s is. (let same : Some r ≡ Some s = is in let eq : r ≡ s = cc in
       subst (λ (x : ℕ). has_tight b (with_supply b series (put_cut t r set).now) x ≡ true) eq here);
   sets = λ s k none. by_place s k none;
-  free = λ s h. set_apart t.now.cuts r s (Some set) (λ is. once (subst (λ (x : ℕ). Has rs x) is h)) ∙ c.free s (inr h);
+  free = λ s h. set_of_other t.now.cuts r s (Some set) (λ is. once (subst (λ (x : ℕ). Has rs x) is h)) ∙ c.free s (inr h);
 }
   where
     within : r < length t.now.cuts.sets
@@ -205,12 +191,12 @@ calling_more b series m r rs set t l once e tight c = record {
 
     here : has_tight b (with_supply b series (put_cut t r set).now) r ≡ true
     here = told_tight b series m (put_cut t r set).now r set (sees_more b series m t r set c.sees)
-        (set_here t.now.cuts r (Some set) within) ∙ tight
+        (set_of_with t.now.cuts r (Some set) within) ∙ tight
 
     by_place : (s : ℕ) → s < length b.rights → (Has rs s → ⊥) → cut_of (put_cut t r set).now s ≡ cut_of m s
     by_place s k none = elim (cases_eq s r) [
-      | inl is ↦ rw is (set_here t.now.cuts r (Some set) within ∙ sym e)
-      | inr other ↦ set_apart t.now.cuts r s (Some set) other ∙ c.sets s k (λ h. apart other h)
+      | inl is ↦ rw is (set_of_with t.now.cuts r (Some set) within ∙ sym e)
+      | inr other ↦ set_of_other t.now.cuts r s (Some set) other ∙ c.sets s k (λ h. apart other h)
     ]
       where
         apart : (s ≡ r → ⊥) → Has (r ∷ rs) s → ⊥
@@ -360,6 +346,6 @@ calls_told b series m sized (x ∷ xs) below t s g h r set k e =
             let short : is_short t.now x ≡ true = not-false (is_short t.now x) (a.0.1.1.0) in
             let tight =
             sym (told_tight b series m (put_cut t x own).now x own sees
-            (set_here t.now.cuts x (Some own) (omega (arith, below x (inl refl), s.sets)))) ∙ settled_now in
+            (set_of_with t.now.cuts x (Some own) (omega (arith, below x (inl refl), s.sets)))) ∙ settled_now in
             (ap (is_short m) is ∙ (sym (told_short b series m t.now x s) ∙ short), rw (is, ← eq) tight)
         by_place (inr l) = further (behind_call t x own) sees rest ended l

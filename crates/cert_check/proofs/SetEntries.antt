@@ -16,7 +16,7 @@ use Rattle.result_reader.specs.Telling.{Told, tell, with_member}
 use Rattle.calls.specs.Callers.{is_short}
 use Rattle.cert_check.specs.Keeping.{Keeps, lacks_call}
 use Rattle.cert_check.specs.declared.account.Account.{Account}
-use Rattle.cert_check.proofs.Calls.{set_here, set_apart}
+use Rattle.water_model.proofs.SetEntries.{set_of_with, set_of_other}
 use Rattle.cert_check.proofs.Fitting.{fits_same}
 
 clash : {X : Type 0} → false ≡ true → X
@@ -41,8 +41,8 @@ settled_with b m r set l (x ∷ xs) h =
     here : (p : Bool) → p && is_none (cut_of m x) ≡ false →
         p && is_none (set_of (with_set m.cuts r (Some set)) x) ≡ false
     here p e = elim (cases_eq x r) [
-      | inl same ↦ rw (same, set_here m.cuts r (Some set) l) (never p)
-      | inr other ↦ rw (set_apart m.cuts r x (Some set) other) e
+      | inl same ↦ rw (same, set_of_with m.cuts r (Some set) l) (never p)
+      | inr other ↦ rw (set_of_other m.cuts r x (Some set) other) e
     ]
 
 some_is : {X : Type 0} (o : Option X) (x : X) → o ≡ Some x → IsSome o
@@ -72,7 +72,7 @@ keeps_call b series a t x l none k = record {
         rw (← is) (
           l,
           some_is (set_of (with_set a.month.cuts x (Some (replicate a.month.cuts.nodes false))) x)
-              (replicate a.month.cuts.nodes false) (set_here a.month.cuts x (Some (replicate a.month.cuts.nodes false))
+              (replicate a.month.cuts.nodes false) (set_of_with a.month.cuts x (Some (replicate a.month.cuts.nodes false))
               (omega (arith, l, k.fits.month.fits.cuts))),
         ));
     passed = k.fits.passed;
@@ -216,8 +216,8 @@ keeps_own b series a t node r set none within is k = record {
     still : (s : ℕ) → IsSome (set_of a.month.cuts s) →
         IsSome (set_of (with_set a.month.cuts r (Some (slice_set set node true))) s)
     still s h = elim (cases_eq s r) [
-      | inl same ↦ rw (same, set_here a.month.cuts r (Some (slice_set set node true)) within) refl
-      | inr other ↦ rw (set_apart a.month.cuts r s (Some (slice_set set node true)) other) h
+      | inl same ↦ rw (same, set_of_with a.month.cuts r (Some (slice_set set node true)) within) refl
+      | inr other ↦ rw (set_of_other a.month.cuts r s (Some (slice_set set node true)) other) h
     ]
 
 -- an `in` line of the right whose nodes come

@@ -27,10 +27,10 @@ use Rattle.water_model.proofs.Histories.{IsMonth-run_month}
 use Rattle.result_reader.specs.Telling.{Told, tell, with_member}
 use Rattle.month_terms.proofs.Adds.{no_numbers}
 use Rattle.water_model.proofs.Wants.{want_most}
-use Rattle.cut_cert.proofs.Bounds.{carry_most}
+use Rattle.water_model.proofs.Carries.{carry_most}
 use Rattle.cert_check.specs.Checking.{rows, amount_wrong}
 use Rattle.cert_check.specs.Coming.{IsBounded, is_before_called}
-use Rattle.cert_check.proofs.Calls.{set_apart}
+use Rattle.water_model.proofs.SetEntries.{set_of_other}
 use Rattle.cert_check.proofs.Rows.{NoneHolds, AreGood, is_same}
 
 -- a line within a month, but not its last
@@ -391,7 +391,7 @@ free_more b series r t (line.Amount q entry amount) h f = record {
 free_more b series r t (line.Deliver s amount want) h f =
     record { none = f.none; other = λ e. (let never : None ≡ Some r = e in cc) }
 free_more b series r t (line.Call s) h f = record {
-  none = set_apart t.now.cuts s r (Some (replicate (length b.nodes) false)) (λ e. apart s r h (sym e)) ∙ f.none;
+  none = set_of_other t.now.cuts s r (Some (replicate (length b.nodes) false)) (λ e. apart s r h (sym e)) ∙ f.none;
   other = λ e. (let same : Some s ≡ Some r = e in let is : s ≡ r = cc in apart s r h is);
 }
   where
@@ -402,7 +402,7 @@ free_more b series r t (line.Member n) h f = by_call t.calling refl
     by_call : (o : Option ℕ) → t.calling ≡ o → IsFree r (with_member t o n)
     by_call None e = f
     by_call (Some right) e = record {
-      none = set_apart t.now.cuts right r (option_map (λ set. slice_set set n true) (cut_of t.now right))
+      none = set_of_other t.now.cuts right r (option_map (λ set. slice_set set n true) (cut_of t.now right))
           (λ is. f.other (e ∙ ap (λ (x : ℕ). Some x) (sym is))) ∙ f.none;
       other = f.other;
     }

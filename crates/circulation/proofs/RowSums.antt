@@ -3,7 +3,7 @@ use Rattle.std.proofs.Common.{ℕ, zero, suc, Fits, w64, Bool, true, false, not,
 use Rattle.std.proofs.Common.{◌≤◌, List, length, slice_index, refl, arith, ap, sym, subst, inl, inr, ◌∙◌}
 use Rattle.std.proofs.lemmas.Bool.{cases_eq, cases_Bool, eq-eqb, ne_eqb, eqb-true, eqb-false}
 use Rattle.place_sums.specs.Sums.{total, when}
-use Rattle.place_sums.proofs.Totals.{total_more, total_same, total_zero, total_exchange, total_pick}
+use Rattle.place_sums.proofs.Totals.{total_more, total_same, total_zero, total_exchange, total_pick, total_most}
 use Rattle.circulation.specs.Residual.{arc_of, is_back, by_way}
 use Rattle.circulation.specs.Rows.{Rows, IsInRow, IsRow}
 
@@ -216,12 +216,6 @@ row_sum_off r amounts v test place sum s more before is fails made =
     ))
     (row_sum_next r amounts v test place sum before)
 
--- a sum of terms of at most m each
-pub total_at_most : (n m : ℕ) (f : ℕ → ℕ) → ((k : ℕ) → f k ≤ m) → total n f ≤ n * m
-unfolding total
-total_at_most zero m f h = omega arith
-total_at_most (suc n) m f h = omega (arith, total_at_most n m f h, h n)
-
 -- a test keeps a bound
 when_le : (t : Bool) (x m : ℕ) → x ≤ m → when t x ≤ m
 when_le true x m h = h
@@ -232,9 +226,9 @@ pub row_sum_small : (r : Rows) (amounts : List ℕ) (v : ℕ) (test : ℕ → Bo
     ((a : ℕ) → Fits w64 (slice_index amounts a)) → IsRowSum r amounts v test place sum → sum ≤ place * 2 ^ 64
 row_sum_small r amounts v test place sum fits s =
     let first = slice_index r.first v in
-    let each = total_at_most (place - first) (2 ^ 64)
+    let each = total_most (place - first) (2 ^ 64)
     (λ k. when (test (slice_index r.step (first + k))) (slice_index amounts (arc_of (slice_index r.step (first + k)))))
-    (λ k. when_le (test (slice_index r.step (first + k))) (slice_index amounts
+    (λ k l. when_le (test (slice_index r.step (first + k))) (slice_index amounts
     (arc_of (slice_index r.step (first + k)))) (2 ^ 64)
     (omega (arith, fits (arc_of (slice_index r.step (first + k)))))) in
     omega (arith, each, s.is)
@@ -242,8 +236,8 @@ row_sum_small r amounts v test place sum fits s =
 -- what arcs with words as amounts bring to a node
 pub inflow_small : (n v : ℕ) (to amounts : List ℕ) → ((a : ℕ) → Fits w64 (slice_index amounts a)) →
     total n (λ a. when (slice_index to a == v) (slice_index amounts a)) ≤ n * 2 ^ 64
-inflow_small n v to amounts fits = total_at_most n (2 ^ 64) (λ a. when (slice_index to a == v) (slice_index amounts a))
-    (λ a. when_le (slice_index to a == v) (slice_index amounts a) (2 ^ 64) (omega (arith, fits a)))
+inflow_small n v to amounts fits = total_most n (2 ^ 64) (λ a. when (slice_index to a == v) (slice_index amounts a))
+    (λ a l. when_le (slice_index to a == v) (slice_index amounts a) (2 ^ 64) (omega (arith, fits a)))
 
 -- at the end of the row
 pub row_sum_all : (r : Rows) (amounts : List ℕ) (v : ℕ) (test : ℕ → Bool) (place sum : ℕ) →

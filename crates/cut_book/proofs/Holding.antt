@@ -159,13 +159,6 @@ pub held_start : (b : Basin) (delivered : List ℕ) (link amount : ℕ) (next : 
 held_start b delivered link amount next at =
     record { start = 0; within = omega arith; at = at; so_far = λ s l. absurd (omega arith) }
 
--- the holder so far is a right
-pub held_within : (b : Basin) (delivered : List ℕ) (link amount : ℕ) (holder next : Option ℕ) →
-    IsHeldSoFar b delivered link amount holder next →
-    IfSome holder (λ r. r < length b.rights)
-held_within b delivered link amount None next so = tt
-held_within b delivered link amount (Some r) next so = omega (arith, so.so_far.0, so.within)
-
 -- one right of the link more
 pub held_more : (b : Basin) (delivered : List ℕ) (link amount right : ℕ) (holder more next : Option ℕ) →
     AreStrict b.rights → IsHeldSoFar b delivered link amount holder (Some right) →

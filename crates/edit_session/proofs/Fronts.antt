@@ -4,6 +4,7 @@ use Rattle.std.proofs.Common.{take}
 use Rattle.std.specs.Prelude.{slice_get, slice_index, Some}
 use Rattle.std.proofs.lemmas.List.{length-take}
 use Rattle.std.proofs.lemmas.Option.{slice_get_within}
+use Rattle.water_model.proofs.Lists.{get_front, take_front}
 use Rattle.water_model.specs.History.{IsPartialHistory, Follows}
 use Rattle.water_model.specs.Hydrology.{stored_at}
 use Rattle.water_model.specs.declared.types.Basin.{Basin}
@@ -11,23 +12,6 @@ use Rattle.water_model.specs.declared.types.Inflows.{Inflows}
 use Rattle.water_model.specs.declared.types.MonthRecord.{MonthRecord}
 use Rattle.month_fold.specs.Reaches.{HaveReaches}
 use Rattle.edit_session.specs.Laws.{AgreeBefore}
-
-get_front : {X : Type 0} (xs : List X) (i j : ℕ) (x : X) → slice_get (take i xs) j ≡ Some x → (j < i) ×
-    (slice_get xs j ≡ Some x)
-get_front [] zero j x h = cc
-get_front [] (suc i) j x h = cc
-get_front (y ∷ ys) zero j x h = cc
-get_front (y ∷ ys) (suc i) zero x h = (omega arith, h)
-get_front (y ∷ ys) (suc i) (suc j) x h = let r = get_front ys i j x h in (omega (arith, r.0), r.1)
-
-pub take_front : {X : Type 0} (xs : List X) (i j : ℕ) → j ≤ i → take j (take i xs) ≡ take j xs
-take_front [] zero zero l = refl
-take_front (y ∷ ys) zero zero l = refl
-take_front xs zero (suc j) l = absurd (omega arith)
-take_front [] (suc i) zero l = refl
-take_front [] (suc i) (suc j) l = refl
-take_front (y ∷ ys) (suc i) zero l = refl
-take_front (y ∷ ys) (suc i) (suc j) l = ap (λ zs. y ∷ zs) (take_front ys i j (omega arith))
 
 -- a record follows those before it also where a series agrees that far
 follows_too : (b : Basin) (series other : Inflows) (month : ℕ) (before : List MonthRecord) (m : MonthRecord) →

@@ -7,6 +7,7 @@ use Rattle.std.specs.List.{flat_map}
 use Rattle.std.proofs.lemmas.Grind.{flat_map-append}
 use Rattle.std.proofs.lemmas.List.{take_more, take_all, length-take}
 use Rattle.std.proofs.Math.Nat.{add-mul}
+use Rattle.std.proofs.KnownBytes.{Appends-nil, Appends-trans}
 use Rattle.water_model.specs.Spelling.{whole_line}
 use Rattle.water_model.specs.Text.{items_of_month}
 use Rattle.water_model.specs.Valid.{IsValidBasin}
@@ -14,7 +15,7 @@ use Rattle.water_model.specs.declared.types.Basin.{Basin}
 use Rattle.water_model.specs.declared.types.Inflows.{Inflows}
 use Rattle.water_model.specs.declared.types.MonthRecord.{MonthRecord}
 use Rattle.result_text.specs.Range.{FitsText}
-use Rattle.result_text.proofs.Puts.{Appends-then, PutsFront-then}
+use Rattle.water_edge.proofs.Puts.{PutsFront-then}
 use Rattle.result_text.proofs.Whole.{FitsText-follows}
 use Rattle.edit_script.specs.Edits.{IsPlaced, cost_from, edited, edited_by, kept_by, solved_by}
 use Rattle.edit_script.specs.declared.edit.Edit.{Edit}
@@ -25,10 +26,6 @@ use Rattle.edit_shows.specs.Shown.{Answers, AnswersWhole, AreShown, HaveShown, I
 use Rattle.edit_shows.specs.Shown.{months_bytes, shows_in}
 use Rattle.edit_shows.specs.declared.stop.EditStop.{EditStop}
 use Rattle.edit_shows.specs.declared.stop.EditStop.TheVariants as stop
-
-pub appends_nothing : (old : Option (List ℕ)) → Appends old old []
-appends_nothing None = tt
-appends_nothing (Some xs) = sym (append-nil xs)
 
 -- lines behind lines
 edited_behind : (series : Inflows) (es fs : List Edit) → edited series (es ++ fs) ≡ edited (edited series es) fs
@@ -80,7 +77,7 @@ played_none b series edits old = record {
   shown = [];
   are = none edits;
   edited = same edits;
-  put = appends_nothing old;
+  put = Appends-nil old;
 }
   where
     none : (es : List Edit) → AreShown b series (take 0 es) []
@@ -116,7 +113,7 @@ played_more b series now then' edits old mid new i e u played l is answers next 
       ∙ (ap (λ s. edited_by s e) played.edited
       ∙ (sym (edited_behind series (take i edits) (e ∷ [])) ∙ ap (edited series) (sym (one_more edits i e l is))));
   put = subst (λ (bytes : List ℕ). Appends old new bytes) (sym (bytes_behind b played.shown answers.0))
-      (Appends-then old mid new _ _ played.put answers.2);
+      (Appends-trans old mid new _ _ played.put answers.2);
 }
 
 -- months shown by the line at i, and those before it
@@ -165,16 +162,7 @@ played_stops b series now edits old mid new i e stop.OutOfMemory played l is ans
   played.shown ++ answers.0,
   have_more b series now edits old mid i e answers.0 played l is answers.1,
   subst (λ (bytes : List ℕ). Appends old new bytes) (sym (bytes_behind b played.shown answers.0))
-      (Appends-then old mid new _ _ played.put answers.2),
-)
-
-pub played_all : (b : Basin) (series now : Inflows) (edits : List Edit) (old new : Option (List ℕ)) (i : ℕ)
-    (u : Unit {0}) → IsPlayed b series now edits old new i →
-    length edits ≤ i → Answers b series edits (Ok u) old new
-played_all b series now edits old new i u played l = (
-  played.shown,
-  subst (λ (es : List Edit). AreShown b series es played.shown) (take_all i edits l) played.are,
-  played.put,
+      (Appends-trans old mid new _ _ played.put answers.2),
 )
 
 -- the pushes, by the cost of the lines to come
@@ -244,27 +232,14 @@ show_failed b series index m old new is put = (
 
 pub nothing_shown : (b : Basin) (series : Inflows) (edits : List Edit) (old : Option (List ℕ)) →
     Answers b series edits (Err stop.OutOfMemory) old old
-nothing_shown b series edits old = ([], record { count = 0; are = none edits }, appends_nothing old)
+nothing_shown b series edits old = ([], record { count = 0; are = none edits }, Appends-nil old)
   where
     none : (es : List Edit) → AreShown b series (take 0 es) []
     none [] = refl
     none (e ∷ es) = refl
-
--- the last line
-pub whole_put : (b : Basin) (series : Inflows) (edits : List Edit) (old mid new : Option (List ℕ)) (u v : Unit {0}) →
-    Answers b series edits (Ok u) old mid →
-    Appends mid new (done_bytes (shows_in edits)) → AnswersWhole b series edits (Ok v) old new
-whole_put b series edits old mid new u v answers put =
-    (answers.0, answers.1, Appends-then old mid new _ _ answers.2 put)
 
 pub whole_failed : (b : Basin) (series : Inflows) (edits : List Edit) (old mid new : Option (List ℕ)) (u : Unit {0}) →
     Answers b series edits (Ok u) old mid →
     PutsFront mid new (done_bytes (shows_in edits)) → AnswersWhole b series edits (Err stop.SinkFailed) old new
 whole_failed b series edits old mid new u answers put =
     inr (answers.0, answers.1, PutsFront-then old mid new _ _ answers.2 put)
-
-pub whole_stopped : (b : Basin) (series : Inflows) (edits : List Edit) (old new : Option (List ℕ)) (why : EditStop) →
-    Answers b series edits (Err why) old new →
-    AnswersWhole b series edits (Err why) old new
-whole_stopped b series edits old new stop.SinkFailed answers = inl answers
-whole_stopped b series edits old new stop.OutOfMemory answers = answers

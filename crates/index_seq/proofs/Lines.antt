@@ -10,7 +10,7 @@ use Rattle.water_model.proofs.Order.{Has, seniors_below}
 use Rattle.index_seq.specs.Ends.{HaveLines}
 use Rattle.index_seq.specs.Sums.{HaveSums}
 use Rattle.std.specs.Io.KnownBytes.{Appends}
-use Rattle.result_text.proofs.Puts.{PutsFront}
+use Rattle.water_edge.proofs.Puts.{PutsFront}
 use Rattle.water_model.specs.declared.types.MonthRecord.{MonthRecord}
 use Rattle.index_seq.specs.Entries.{whole_line}
 use Rattle.index_seq.specs.declared.entry.Entry.{Entry}

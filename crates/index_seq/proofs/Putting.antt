@@ -8,12 +8,13 @@ use Rattle.std.specs.Io.KnownBytes.{Appends}
 use Rattle.std.proofs.lemmas.List.Sorted.{IsNonDecreasingBy-drop}
 use Rattle.water_edge.specs.Edge.{Puts}
 use Rattle.water_model.specs.declared.types.Basin.{Basin}
-use Rattle.result_text.proofs.Puts.{Appends-then, PutsFront, PutsFront-fails, PutsFront-then, PutsFront-cut}
+use Rattle.water_edge.proofs.Puts.{PutsFront, PutsFront-fails, PutsFront-then, PutsFront-cut}
 use Rattle.index_seq.specs.Entries.{whole_line}
 use Rattle.index_seq.specs.Text.{yearly_lines, right_lines, ensemble_lines}
 use Rattle.index_seq.specs.Traces.{years_of}
 use Rattle.index_seq.specs.declared.entry.Entry.{Entry}
 use Rattle.std.proofs.lemmas.Grind.{flat_map-append}
+use Rattle.std.proofs.KnownBytes.{Appends-trans}
 use Rattle.water_model.specs.Places.{seniors_first}
 use Rattle.index_seq.specs.declared.entry.Entry.TheVariants as line
 use Rattle.index_seq.proofs.Counting.{first_of_rest}
@@ -53,7 +54,7 @@ pub put_next : (b : Basin) (amounts rest : List ℕ) (count : ℕ) (old mid new 
     IsPutSoFar b amounts (drop count rest) old new before after
 put_next b amounts rest count old mid new before between after s l is here later = record {
   done = s.done ++ piece;
-  put = Appends-then old mid new s.done piece s.put here;
+  put = Appends-trans old mid new s.done piece s.put here;
   whole = s.whole
       ∙ (ap (λ t. s.done ++ t) (rest_lines b rest count s.sorted l is)
       ∙ sym (append_assoc s.done piece (flat_map (whole_line b) (yearly_lines (drop count rest)))));

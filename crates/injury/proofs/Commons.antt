@@ -1,11 +1,10 @@
 -- The pairs of common rights are those of one name.
 use Rattle.std.proofs.Common.{◌≡◌, ℕ, zero, suc, ◌<◌, Bool, true, cond, refl, sym, ◌∙◌, ap, subst, arith, List, [], ◌∷◌}
 use Rattle.std.proofs.Common.{length, get_or, inl, inr}
-use Rattle.std.proofs.lemmas.Bool.{cases_order}
-use Rattle.std.proofs.lemmas.Bool.Decides.{nat_tests}
+use Rattle.std.proofs.lemmas.Bool.{cases_order, lt-ltb}
 use Rattle.std.proofs.lemmas.Option.{get_or_from_slice_get, slice_get_within}
 use Rattle.std.specs.List.{cons_option, position_or_len}
-use Rattle.std.specs.Prelude.{slice_get, nat_lt, Option, Some, None, unwrap_or, option_map, position, filter_map}
+use Rattle.std.specs.Prelude.{slice_get, Option, Some, None, unwrap_or, option_map, position, filter_map}
 use Rattle.std.specs.Prelude.{bytes_eq, Contains}
 use Rattle.water_model.specs.Basin.{right_name}
 use Rattle.water_model.specs.Places.{seniors_first}
@@ -36,11 +35,8 @@ found_at p xs k x at h =
     let within = slice_get_within xs k x at in (
       position_or_len p xs,
       ap (λ t. cond t (Some (position_or_len p xs)) None)
-          (less (position_or_len p xs) (length xs) (omega arith)),
+          (lt-ltb (position_or_len p xs) (length xs) (omega arith)),
     )
-  where
-    less : (i n : ℕ) → i < n → nat_lt i n ≡ true
-    less i n l = grind (arith, nat_tests)
 
 module _ (first second : Basin) where
   -- by its name the right of the second basin is found

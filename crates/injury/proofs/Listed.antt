@@ -1,10 +1,10 @@
 -- The list of injuries has each of them, and nothing else.
-use Rattle.std.proofs.Common.{◌≡◌, ℕ, zero, suc, ◌<◌, Bool, true, false, refl, sym, ◌∙◌, ap, subst, arith, List, []}
-use Rattle.std.proofs.Common.{◌∷◌, ◌++◌, length, map, inl, inr, ◌⊎◌, if◌then◌else◌}
+use Rattle.std.proofs.Common.{◌≡◌, ℕ, zero, suc, ◌<◌, Bool, true, false, refl, ◌∙◌, ap, subst, arith, List, []}
+use Rattle.std.proofs.Common.{◌∷◌, map, inl, inr, if◌then◌else◌}
 use Rattle.std.proofs.lemmas.Bool.Decides.{nat_tests}
 use Rattle.std.proofs.lemmas.List.Elements.{Contains-append_left, Contains-append_right, Contains-append_cases}
 use Rattle.std.specs.Prelude.{slice_get, slice_index, Some, filter, nat_lt, Contains}
-use Rattle.water_text.specs.declared.month.Month.{Month}
+use Rattle.std.proofs.lemmas.Bool.{lt-ltb}
 use Rattle.water_model.specs.Valid.{IsValidBasin}
 use Rattle.water_model.specs.declared.types.Basin.{Basin}
 use Rattle.water_model.specs.declared.types.MonthRecord.{MonthRecord}
@@ -72,10 +72,8 @@ module _ (first second : Basin) (valid : IsValidBasin second) where
       subst (λ (i : Injury). Contains (injuries_of (common_rights first second) m n) i) same
       (kept (injury_of m n) (is_injured m n) (common_rights first second) p
       ((common_rights_have_one_name first second injury.right s valid).0 common)
-      (test (slice_index n.delivered s) (slice_index m.delivered injury.right) (omega (arith, delivered, left, less))))
-    where
-      test : (y z : ℕ) → y < z → nat_lt y z ≡ true
-      test y z l = grind (arith, nat_tests)
+      (lt-ltb (slice_index n.delivered s) (slice_index m.delivered injury.right)
+      (omega (arith, delivered, left, less))))
 
   of_month : (m n : MonthRecord) (records others : List MonthRecord) (injury : Injury) →
       Contains (injuries_of (common_rights first second) m n) injury →

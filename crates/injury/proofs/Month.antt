@@ -1,8 +1,8 @@
 -- One month: the first basin's plan, with nothing for the new right, delivers to the others what a greatest plan of the
 -- second does.
-use Rattle.std.proofs.Common.{◌≡◌, ℕ, suc, ◌+◌, ◌<◌, ◌≤◌, Bool, true, false, refl, sym, ◌∙◌, ap, ap₂, subst, arith}
+use Rattle.std.proofs.Common.{◌≡◌, ℕ, suc, ◌+◌, ◌<◌, ◌≤◌, Bool, true, refl, sym, ◌∙◌, ap, ap₂, subst, arith}
 use Rattle.std.proofs.Common.{List, length, inl, inr}
-use Rattle.std.proofs.lemmas.Bool.{cases_eq}
+use Rattle.std.proofs.lemmas.Bool.{cases_eq, and_right}
 use Rattle.std.specs.Prelude.{if◌then◌else◌, insert, slice_index, Option, Some, None, ◌&&◌, not, ◌≢◌}
 use Rattle.place_sums.specs.Sums.{total_where}
 use Rattle.place_sums.proofs.Totals.{total_same}
@@ -88,10 +88,6 @@ module _ (b : Basin) (at : ℕ) (x : Right) (more : HasOneMore b (with_right b a
 module _ (b : Basin) (at : ℕ) (x : Right) (more : HasOneMore b (with_right b at x) at x)
     (delivered delivered' : List ℕ) (same : (r : ℕ) → slice_index delivered' (moved at r) ≡ slice_index delivered r)
   where
-    both_fail : (p q : Bool) → q ≡ false → p && q ≡ false
-    both_fail true q h = h
-    both_fail false q h = refl
-
     kept_on_same : (r e : ℕ) → r < length b.rights →
         kept_on (with_right b at x) delivered' (moved at r) e ≡ kept_on b delivered r e
     kept_on_same r e l = greatest_where_moved (length (with_right b at x).rights) (length b.rights) at
@@ -99,7 +95,7 @@ module _ (b : Basin) (at : ℕ) (x : Right) (more : HasOneMore b (with_right b a
         (λ s. is_on_link (with_right b at x) s e && is_senior (with_right b at x) s (moved at r))
         (λ s. slice_index delivered s) (λ s. slice_index delivered' s)
         (one_more_right b at x more.place) more.place
-        (both_fail (is_on_link (with_right b at x) at e) (is_senior (with_right b at x) at (moved at r))
+        (and_right (is_on_link (with_right b at x) at e) (is_senior (with_right b at x) at (moved at r))
         (new_not_senior b at x more r l))
         (λ s k. ap₂ (λ o t. is_at o e && t) (moved_link b at x s more.place) (moved_senior b at x s r more.place))
         (λ s k. same s)
@@ -134,7 +130,7 @@ module _ (b : Basin) (at : ℕ) (x : Right) (more : HasOneMore b (with_right b a
           where
             clash : takes_within (with_right b at x) cut at && is_senior (with_right b at x) at (moved at r) ≡ true → ⊥
             clash h =
-                cc (both_fail (takes_within (with_right b at x) cut at) (is_senior (with_right b at x) at (moved at r))
+                cc (and_right (takes_within (with_right b at x) cut at) (is_senior (with_right b at x) at (moved at r))
                 (new_not_senior b at x more r l))
 
     tight_same : (month : Month) (supply : List ℕ) (r : ℕ) (cut : List Bool) → r < length b.rights →

@@ -1,15 +1,16 @@
 -- The rows of a month's injuries, put one after another.
 use Rattle.std.proofs.Common.{◌≡◌, ℕ, ◌+◌, ◌≤◌, Bool, true, false, cond, refl, sym, ◌∙◌, ap, subst, arith, List, []}
-use Rattle.std.proofs.Common.{◌∷◌, ◌++◌, length, map, take, drop, append-nil, length-append, length-take}
+use Rattle.std.proofs.Common.{◌∷◌, ◌++◌, length, map, take, drop, length-append, length-take}
 use Rattle.std.proofs.lemmas.List.{map-append, take_all, take_more, take-append-drop}
 use Rattle.std.proofs.lemmas.List.Elements.{filter-append}
 use Rattle.std.proofs.lemmas.Option.{get_or_from_slice_get, slice_get_within}
-use Rattle.std.specs.Prelude.{slice_get, filter, flat_map, Option, Some, None, Result, Ok, Err, IsErr}
+use Rattle.std.specs.Prelude.{slice_get, filter, flat_map, Option, Some, Result, Ok, Err, IsErr}
 use Rattle.std.specs.Io.KnownBytes.{Appends}
 use Rattle.std.proofs.lemmas.Grind.{flat_map-append}
+use Rattle.std.proofs.KnownBytes.{Appends-nil, Appends-trans}
 use Rattle.water_model.specs.declared.types.Basin.{Basin}
 use Rattle.water_model.specs.declared.types.MonthRecord.{MonthRecord}
-use Rattle.result_text.proofs.Puts.{Appends-then, PutsFront, PutsFront-then, PutsFront-cut}
+use Rattle.water_edge.proofs.Puts.{PutsFront, PutsFront-then, PutsFront-cut}
 use Rattle.injury.specs.Injuries.{is_injured, injury_of, injuries_of, injured_row, PutsInjuries}
 use Rattle.injury.specs.declared.pair.Pair.{Pair}
 
@@ -51,7 +52,7 @@ module _ (b : Basin) (m n : MonthRecord) (pairs : List Pair) (i : ℕ) (p : Pair
       SoFar b m n pairs (i + 1) old new before after (count + k)
   more old mid new before between after count k s here later = record {
     put = rw (one_more, flat_map-append (injured_row b) (injuries_of (take i pairs) m n) (injuries_of (p ∷ []) m n))
-        (Appends-then old mid new (flat_map (injured_row b) (injuries_of (take i pairs) m n))
+        (Appends-trans old mid new (flat_map (injured_row b) (injuries_of (take i pairs) m n))
         (flat_map (injured_row b) (injuries_of (p ∷ []) m n)) s.put here.1);
     later = omega (arith, s.later);
     number = omega (
@@ -108,11 +109,7 @@ module _ (b : Basin) (m n : MonthRecord) (pairs : List Pair) (i : ℕ) (p : Pair
 -- nothing yet
 pub none : (b : Basin) (m n : MonthRecord) (pairs : List Pair) (old : Option (List ℕ)) (before : ℕ) →
     SoFar b m n pairs 0 old old before before 0
-none b m n pairs old before = record { put = nothing old; later = omega arith; number = refl }
-  where
-    nothing : (old : Option (List ℕ)) → Appends old old []
-    nothing None = tt
-    nothing (Some bytes) = sym (append-nil bytes)
+none b m n pairs old before = record { put = Appends-nil old; later = omega arith; number = refl }
 
 -- all pairs
 pub whole : (b : Basin) (m n : MonthRecord) (pairs : List Pair) (i : ℕ) (old now : Option (List ℕ))

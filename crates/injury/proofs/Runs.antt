@@ -17,7 +17,7 @@ use Rattle.water_model.specs.Hydrology.{delivered_in, delivered_before, returned
 use Rattle.water_model.specs.Hydrology.{cap_by_link, target_of, water_year, used_in_year, used_by_volume, used_of}
 use Rattle.water_model.specs.Hydrology.{want_by_volume, want_of}
 use Rattle.water_model.specs.History.{IsPartialHistory, Follows, is_zone_of, is_zone_of_kind, opening_after}
-use Rattle.water_model.specs.Valid.{IsValidBasin, IsValidReturn, IsValidRight, is_gauged, is_gauged_kind}
+use Rattle.water_model.specs.Valid.{IsValidBasin, IsValidReturn, is_gauged, is_gauged_kind}
 use Rattle.water_model.specs.declared.types.Basin.{Basin}
 use Rattle.water_model.specs.declared.types.Inflow.{Inflow}
 use Rattle.water_model.specs.declared.types.Inflow.TheVariants.{Monthly, Gauged}

@@ -6,8 +6,8 @@ ghost use Rattle.water_text.specs.Months.{IsMonth};
 ghost use Rattle.injury.specs.Common.{HaveDeliveries};
 ghost use Rattle.injury.specs.Injuries.{is_injured, injury_of, injuries_of, injured_row, compared_row, PutsInjuries};
 
-use crate::fields::{add_month, add_name, add_number};
 use crate::pair::Pair;
+use result_text::spelling::{add_month, add_name, add_number, name_of_right};
 use water_edge::{Sink, SinkFailed};
 use water_model::types::{Basin, MonthRecord};
 use water_text::line::Line;
@@ -55,7 +55,7 @@ fn spell_injured(line: &mut Line, basin: &Basin, injury: Injury)
 {
     line.word(b"injured");
     add_month(line, injury.month);
-    add_name(line, basin, injury.right);
+    add_name(line, name_of_right(basin, injury.right));
     add_number(line, injury.first);
     add_number(line, injury.second);
     line.word(b"\n");

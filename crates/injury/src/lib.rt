@@ -1,7 +1,6 @@
 //! Two runs compared: who is delivered less in the second.
 #![tactic(auto)]
 
-mod fields;
 mod injuries;
 pub mod laws;
 mod pair;

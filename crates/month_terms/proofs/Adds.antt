@@ -123,19 +123,7 @@ no_zone_more b take r v sum right e other h =
     of_kind (Instream link) other = refl
     of_kind (Zone at level) other = absurd (other at level refl)
 
--- a sum of n small terms
-pub total_most : (n m : ℕ) (f : ℕ → ℕ) → ((k : ℕ) → k < n → f k ≤ m) → total n f ≤ n * m
-unfolding total
-total_most zero m f h = omega arith
-total_most (suc n) m f h = omega (arith, total_most n m f (λ k l. h k (omega arith)), h n (omega arith))
-
-pub sum_small : (n m : ℕ) (p : ℕ → Bool) (f : ℕ → ℕ) → ((k : ℕ) → k < n → f k ≤ m) → total_where n p f ≤ n * m
-sum_small n m p f h = total_most n m (λ k. if p k then f k else 0) (λ k l. at_most (p k) (f k) (h k l))
-  where
-    at_most : (t : Bool) (x : ℕ) → x ≤ m → (if t then x else 0) ≤ m
-    at_most true x l = l
-    at_most false x l = omega arith
-
+-- numbers that are all 0
 pub no_numbers : (n k : ℕ) → slice_index (replicate n 0) k ≡ 0
 no_numbers zero k = refl
 no_numbers (suc n) zero = refl

@@ -9,7 +9,7 @@ use Rattle.std.proofs.lemmas.List.{get_or_past}
 use Rattle.std.proofs.Math.Nat.{mul-le-mul_right}
 use Rattle.place_sums.specs.Sums.{total, total_where}
 use Rattle.place_sums.proofs.Totals.{total_le, total_same, total_zero, total_exchange, total_at, total_grows}
-use Rattle.place_sums.proofs.Totals.{total_more}
+use Rattle.place_sums.proofs.Totals.{total_more, total_most}
 use Rattle.water_model.specs.Basin.{is_at, node_of_reservoir}
 use Rattle.water_model.specs.Lookups.{of_entry}
 use Rattle.water_model.specs.Hydrology.{inflow_at, inflow_of_kind, in_year, returned_by, returned_at, delivered_in}
@@ -27,7 +27,6 @@ use Rattle.water_model.specs.declared.types.RightKind.TheVariants.{Diversion, In
 use Rattle.water_model.specs.History.{is_zone_of, is_zone_of_kind}
 use Rattle.water_model.proofs.Balance.{entry_holds}
 use Rattle.water_model.proofs.Wants.{entry_most}
-use Rattle.month_terms.proofs.Adds.{total_most}
 
 -- no inflow is more than 10^9
 pub inflow_most : (b : Basin) (series : Inflows) (n i : ℕ) → IsValidBasin b → IsSeriesOf b series → n < length b.nodes →

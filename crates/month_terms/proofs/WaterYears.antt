@@ -12,7 +12,7 @@ use Rattle.water_model.specs.Valid.{IsValidBasin}
 use Rattle.water_model.specs.declared.types.Basin.{Basin}
 use Rattle.water_model.specs.declared.types.Right.{Right}
 use Rattle.water_model.proofs.Balance.{total_where_none_pass}
-use Rattle.month_terms.proofs.Adds.{total_most}
+use Rattle.place_sums.proofs.Totals.{total_most}
 use Rattle.month_terms.specs.Terms.{HasUsed}
 
 -- what was delivered before stays, where one month more is delivered

@@ -4,6 +4,7 @@ use Rattle.std.proofs.Common.{arith, List, [], ◌∷◌, ◌++◌, length, map}
 use Rattle.std.specs.Prelude.{slice_get, Some, option_map, count_by, if◌then◌else◌}
 use Rattle.std.proofs.lemmas.Option.{slice_get-map, slice_get_within}
 use Rattle.std.proofs.lemmas.List.Sums.{sum_by_push}
+use Rattle.water_model.proofs.Lists.{numbers_more}
 use Rattle.water_model.specs.Places.{numbers_from, places_of}
 use Rattle.water_model.proofs.Order.{length-numbers_from, numbers_from-get}
 
@@ -49,13 +50,6 @@ pub list_is : {X Y : Type 0} (f : ℕ → X) (ys : List Y) (xs : List X) → len
 list_is f ys xs count h =
     by_entries f 0 xs (λ k l. h k (omega arith) ∙ ap (λ n. Some (f n)) (omega arith))
     ∙ ap (λ n. map f (numbers_from 0 n)) count
-
--- one place more
-numbers_more : (from n : ℕ) → numbers_from from (suc n) ≡ numbers_from from n ++ (from + n) ∷ []
-unfolding numbers_from
-numbers_more from zero = ap (λ k. k ∷ []) (omega arith)
-numbers_more from (suc n) =
-    ap (λ ns. from ∷ ns) (numbers_more (suc from) n ∙ ap (λ k. numbers_from (suc from) n ++ k ∷ []) (omega arith))
 
 pub count_none : (p : ℕ → Bool) → 0 ≡ count_by p (numbers_from 0 0)
 unfolding numbers_from

@@ -8,6 +8,7 @@ use Rattle.std.proofs.lemmas.List.Sums.{sum_by-le, sum_by_push, sum-map, count_b
 use Rattle.std.proofs.lemmas.Option.{slice_get-get_or}
 use Rattle.place_sums.specs.Sums.{total}
 use Rattle.place_sums.proofs.Totals.{total_same}
+use Rattle.water_model.proofs.Lists.{front_partial, get_behind}
 use Rattle.water_model.specs.Balance.{IsBalanced, whole_inflow, diverted}
 use Rattle.water_model.specs.History.{IsPartialHistory, Follows}
 use Rattle.water_model.specs.Hydrology.{run_month, returned_at}
@@ -30,48 +31,13 @@ use Rattle.reports.specs.declared.waters.Waters.{Waters}
 use Rattle.reports.proofs.Sums.{openings_small}
 
 -- the last of some months follows those before it
-last_is : {X : Type 0} (xs : List X) (y : X) → slice_get (xs ++ y ∷ []) (length xs) ≡ Some y
-last_is [] y = refl
-last_is (x ∷ xs) y = last_is xs y
-
 pub last_follows : (b : Basin) (series : Inflows) (records : List MonthRecord) (m : MonthRecord) →
     IsPartialHistory b series (records ++ m ∷ []) →
     Follows b series records m
 last_follows b series records m partial =
     subst (λ (before : List MonthRecord). Follows b series before m)
     (take-append-le (length records) records (m ∷ []) (omega arith) ∙ take-length records)
-    (partial.each (length records) m (last_is records m))
-
--- The front of a partial history is one.
-
-get_front : {X : Type 0} (xs : List X) (i j : ℕ) (x : X) → slice_get (take i xs) j ≡ Some x → (j < i) ×
-    (slice_get xs j ≡ Some x)
-get_front [] zero j x h = cc
-get_front [] (suc i) j x h = cc
-get_front (y ∷ ys) zero j x h = cc
-get_front (y ∷ ys) (suc i) zero x h = (omega arith, h)
-get_front (y ∷ ys) (suc i) (suc j) x h = let r = get_front ys i j x h in (omega (arith, r.0), r.1)
-
-take_front : {X : Type 0} (xs : List X) (i j : ℕ) → j < i → take j (take i xs) ≡ take j xs
-take_front xs zero j l = absurd (omega arith)
-take_front [] (suc i) zero l = refl
-take_front [] (suc i) (suc j) l = refl
-take_front (y ∷ ys) (suc i) zero l = refl
-take_front (y ∷ ys) (suc i) (suc j) l = ap (λ zs. y ∷ zs) (take_front ys i j (omega arith))
-
-take_fewer : {X : Type 0} (xs : List X) (i : ℕ) → length (take i xs) ≤ length xs
-take_fewer [] zero = omega arith
-take_fewer [] (suc i) = omega arith
-take_fewer (x ∷ xs) zero = omega arith
-take_fewer (x ∷ xs) (suc i) = omega (arith, take_fewer xs i)
-
-front_partial : (b : Basin) (series : Inflows) (records : List MonthRecord) (i : ℕ) →
-    IsPartialHistory b series records → IsPartialHistory b series (take i records)
-front_partial b series records i h = record {
-  within = omega (arith, take_fewer records i, h.within);
-  each = λ j m e. (let r = get_front records i j m e in
-      subst (λ (xs : List MonthRecord). Follows b series xs m) (sym (take_front records i j r.0)) (h.each j m r.1));
-}
+    (partial.each (length records) m (get_behind records [] m))
 
 -- what holds of each month that follows a partial history holds of all months of one
 each_month : (P : MonthRecord → Type 0) (b : Basin) (series : Inflows) (records : List MonthRecord) →

@@ -18,7 +18,7 @@ use Rattle.water_model.specs.declared.types.Basin.{Basin}
 use Rattle.water_model.specs.declared.types.Inflows.{Inflows}
 use Rattle.water_model.specs.declared.types.MonthRecord.{MonthRecord}
 use Rattle.water_model.proofs.Order.{Has, seniors_below}
-use Rattle.result_text.proofs.Puts.{PutsFront}
+use Rattle.water_edge.proofs.Puts.{PutsFront}
 use Rattle.result_text.proofs.Whole.{FitsText-follows}
 use Rattle.reports.specs.Ends.{IsRun, Reports}
 use Rattle.reports.specs.Figures.{short_months, wanted, delivered, short_count, all_wanted, all_delivered, called_count}

@@ -3,7 +3,7 @@ use Rattle.std.proofs.Common.{◌≡◌, ℕ, List, [], ◌∷◌, ◌++◌, app
 use Rattle.std.specs.Prelude.{IsErr, slice_get, Some, unwrap_or, option_map}
 use Rattle.std.specs.List.{flat_map}
 use Rattle.water_edge.specs.Edge.{Puts}
-use Rattle.result_text.proofs.Puts.{PutsFront, PutsFront-fails, PutsFront-cut}
+use Rattle.water_edge.proofs.Puts.{PutsFront, PutsFront-fails, PutsFront-cut}
 use Rattle.reports.specs.Reports.{row, balance_row}
 use Rattle.water_model.specs.declared.types.Basin.{Basin}
 use Rattle.reports.specs.Texts.{balance_front, balance_rest, figures_row, row_in}

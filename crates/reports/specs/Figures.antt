@@ -10,6 +10,7 @@ use Rattle.water_model.specs.Text.{calling_right}
 use Rattle.water_model.specs.declared.types.Basin.{Basin}
 use Rattle.water_model.specs.declared.types.Inflows.{Inflows}
 use Rattle.water_model.specs.declared.types.MonthRecord.{MonthRecord}
+use Rattle.calls.specs.Callers.{is_short}
 use Rattle.reports.specs.declared.waters.Waters.{Waters}
 
 -- what a right lacks in a month
@@ -18,7 +19,7 @@ shortage m right = slice_index m.want right - slice_index m.delivered right
 
 -- in how many months a right was short
 abbrev pub short_months : List MonthRecord → ℕ → ℕ
-short_months records right = count_by (λ m. nat_lt (slice_index m.delivered right) (slice_index m.want right)) records
+short_months records right = count_by (λ m. is_short m right) records
 
 -- what a right wanted and what it was delivered, over all months
 abbrev pub wanted : List MonthRecord → ℕ → ℕ

@@ -5,7 +5,6 @@
 #![tactic(auto)]
 
 mod called;
-mod fields;
 mod figures;
 pub mod laws;
 mod months;

@@ -1,18 +1,33 @@
 //! The rows of reports.
-ghost use Rattle.std.specs.Prelude.{◌≡◌, ◌<◌, ◌≤◌, ◌++◌, ◌∷◌, [], length, IfSome, IsErr};
+ghost use Rattle.std.specs.Prelude.{◌≡◌, ◌+◌, ◌<◌, ◌≤◌, ◌++◌, ◌∷◌, [], length, IfSome, IsErr};
 ghost use Rattle.std.specs.Fmt.{decimal};
 ghost use Rattle.water_edge.specs.Edge.{HasCause, Puts};
 ghost use Rattle.water_model.specs.Valid.{IsValidBasin};
 ghost use Rattle.water_text.specs.Months.{IsMonth};
-ghost use Rattle.reports.specs.Reports.{row, balance_row, done_row};
+ghost use Rattle.reports.specs.Reports.{row, balance_row, done_row, month_or_dash};
 ghost use Rattle.reports.specs.Texts.{run_row, figures_row, trial_row, size_row, balance_front, balance_rest};
 
-use crate::fields::{add_month, add_month_or_dash, add_name, add_number};
 use crate::figures::RightFigures;
 use crate::waters::Waters;
+use result_text::spelling::{add_month, add_name, add_number, name_of_right};
 use water_edge::{Sink, SinkFailed};
 use water_model::types::Basin;
 use water_text::line::Line;
+use water_text::month::Month;
+
+/// Appends a month, or `-` for none, behind a space.
+#[tactic(auto, unfolding(crate::specs::Reports::month_or_dash))]
+fn add_month_or_dash(line: &mut Line, month: Option<Month>)
+    requires room { length line.old + 8 ≤ 128 }
+    requires month { IfSome month IsMonth }
+    ensures text { line.new ≡ line.old ++ 32 ∷ month_or_dash month }
+    ensures room { length line.new ≤ length line.old + 8 }
+{
+    match month {
+        Some(month) => add_month(line, month),
+        None => line.word(b" -"),
+    }
+}
 
 /// Makes a row of a word and a number.
 #[tactic(auto, unfolding(crate::specs::Reports::row))]
@@ -71,7 +86,7 @@ fn spell_right(line: &mut Line, basin: &Basin, right: u32, figures: &RightFigure
     ensures { line.new ≡ figures_row basin.now right figures.now }
 {
     line.word(b"right");
-    add_name(line, basin, right);
+    add_name(line, name_of_right(basin, right));
     add_number(line, u64::from(figures.short_months));
     add_number(line, figures.wanted);
     add_number(line, figures.delivered);

@@ -3,6 +3,7 @@ pub mod Opposites
 pub mod Changes
 pub mod Frees
 pub mod Grows
+pub mod Seeds
 pub mod Outgoing
 pub mod Overs
 pub mod Dry

@@ -7,7 +7,7 @@ use Rattle.std.proofs.lemmas.Bool.{cases_eq}
 use Rattle.std.proofs.lemmas.List.{length-replicate}
 use Rattle.water_model.specs.Lookups.{of_entry}
 use Rattle.water_model.proofs.Order.{Has}
-use Rattle.result_reader.proofs.Telling.{Sets, entry_set}
+use Rattle.water_model.proofs.SetEntries.{Sets, entry_set}
 
 -- the sets of the rights that have one
 abbrev pub put_sets : List ℕ → (ℕ → Option (List Bool)) → List (Option (List Bool)) → List (Option (List Bool))

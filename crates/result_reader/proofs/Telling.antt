@@ -16,6 +16,7 @@ use Rattle.water_model.specs.CutSets.{set_of, with_set}
 use Rattle.water_model.specs.Lookups.{of_entry}
 use Rattle.water_model.specs.declared.item.Item.TheVariants as line
 use Rattle.water_model.proofs.Order.{Has}
+use Rattle.water_model.proofs.SetEntries.{entry_set, set_entry, set_twice}
 
 -- a list with the numbers of a set at some places
 abbrev pub set_all : List ℕ → (ℕ → ℕ) → List ℕ → List ℕ
@@ -76,26 +77,6 @@ slice_set-behind : (front rest : List Bool) (x y : Bool) →
     slice_set (front ++ x ∷ rest) (length front) y ≡ front ++ y ∷ rest
 slice_set-behind [] rest x y = refl
 slice_set-behind (z ∷ front) rest x y = ap (λ xs. z ∷ xs) (slice_set-behind front rest x y)
-
-abbrev pub Sets : Type 0
-Sets = List (Option (List Bool))
-
-pub entry_set : (xs : Sets) (k : ℕ) (v : Option (List Bool)) → k < length xs →
-    of_entry (slice_set xs k v) k (λ s. s) None ≡ v
-entry_set [] k v l = absurd (omega arith)
-entry_set (x ∷ xs) zero v l = refl
-entry_set (x ∷ xs) (suc k) v l = entry_set xs k v (omega arith)
-
-set_entry : (xs : Sets) (k : ℕ) (v : Option (List Bool)) → k < length xs → of_entry xs k (λ s. s) None ≡ v →
-    slice_set xs k v ≡ xs
-set_entry [] k v l h = absurd (omega arith)
-set_entry (x ∷ xs) zero v l h = ap (λ y. y ∷ xs) (sym h)
-set_entry (x ∷ xs) (suc k) v l h = ap (λ ys. x ∷ ys) (set_entry xs k v (omega arith) h)
-
-set_twice : (xs : Sets) (k : ℕ) (u v : Option (List Bool)) → slice_set (slice_set xs k u) k v ≡ slice_set xs k v
-set_twice [] k u v = refl
-set_twice (x ∷ xs) zero u v = refl
-set_twice (x ∷ xs) (suc k) u v = ap (λ ys. x ∷ ys) (set_twice xs k u v)
 
 -- a month with a right's set
 abbrev pub put_cut : Told → ℕ → List Bool → Told

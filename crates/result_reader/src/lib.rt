@@ -10,6 +10,7 @@ mod bad_line;
 mod dues;
 mod fields;
 pub mod laws;
+mod likely;
 mod names;
 mod place;
 mod progress;

@@ -1,5 +1,5 @@
 //! Names, and what they name.
-ghost use Rattle.std.specs.Prelude.{◌≡◌, ◌<◌, List, ℕ, OnOk, IfOk, Some, None, if◌then◌else◌};
+ghost use Rattle.std.specs.Prelude.{◌≡◌, ◌<◌, List, ℕ, true, OnOk, IfOk, Some, None, if◌then◌else◌};
 ghost use Rattle.std.specs.Option.{option_or};
 ghost use Rattle.std.specs.Str.{bytes_eq};
 ghost use Rattle.water_model.specs.Valid.{IsValidBasin};
@@ -68,6 +68,7 @@ pub struct Names<'b> {
     links: IndexMap<&'b [u8], u32>,
     reservoirs: IndexMap<&'b [u8], u32>,
     rights: IndexMap<&'b [u8], u32>,
+    ghost valid: { IsValidBasin basin.now },
     ghost nodes_kept: { KeepsNames nodes basin.now Nodes },
     ghost links_kept: { KeepsNames links basin.now Links },
     ghost reservoirs_kept: { KeepsNames reservoirs basin.now Reservoirs },
@@ -92,15 +93,34 @@ impl<'b> Names<'b> {
         })
     }
 
-    /// The place of the entry that has the name, or `None` where none has it.
-    pub fn named(&self, space: Space, name: &[u8]) -> Option<u32>
-        ensures value { result ≡ named self.now.basin.now space name.now }
+    /// Whether the entry at a place has the name.
+    fn has_name(&self, space: Space, at: u32, name: &[u8]) -> bool
+        ensures { result ≡ true → named self.now.basin.now space name.now ≡ Some at }
+    {
+        at < count_in(space, self.basin) && name_in(space, self.basin, at as usize) == name
+    }
+
+    /// The place of the entry that has the name, or `None` where none has it, by a look-up in the map.
+    fn look_up(&self, space: Space, name: &[u8]) -> Option<u32>
+        ensures { result ≡ named self.now.basin.now space name.now }
     {
         match space {
             Space::Nodes => self.nodes.get(name).copied(),
             Space::Links => self.links.get(name).copied(),
             Space::Reservoirs => self.reservoirs.get(name).copied(),
             Space::Rights => self.rights.get(name).copied(),
+        }
+    }
+
+    /// The place of the entry that has the name, or `None` where none has it. Where it is the entry at the likely place,
+    /// which may be any number, the name isn't looked up.
+    pub fn named(&self, space: Space, likely: u32, name: &[u8]) -> Option<u32>
+        ensures value { result ≡ named self.now.basin.now space name.now }
+    {
+        if self.has_name(space, likely, name) {
+            Some(likely)
+        } else {
+            self.look_up(space, name)
         }
     }
 }

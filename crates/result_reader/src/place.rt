@@ -1,16 +1,15 @@
 //! The place of a line among those that are due.
 ghost use Rattle.std.specs.Prelude.{◌≡◌, ◌<◌, ◌≤◌, length};
 ghost use Rattle.water_model.specs.OfBasin.{IsOfBasin};
-ghost use Rattle.water_model.specs.Hydrology.{run_month};
 ghost use Rattle.water_model.specs.Valid.{IsValidBasin};
 ghost use Rattle.result_reader.specs.Form as form;
 ghost use Rattle.result_reader.specs.Progress.{IsFound, months_due, due_at, IsNextPlace, IsPlaceOf};
 
 use crate::shape::{Shape, is_optional, is_same_shape, shape_of};
 use rights_roll::priority::is_senior;
+use water_model::calls::month_at;
 use water_model::item::Item;
 use water_model::types::Basin;
-use water_text::month::Month;
 
 /// Where a line was found among those that are due: at a place, or not, because a line that is due stands before it, or
 /// because all that are left may be left out.
@@ -67,18 +66,6 @@ fn find_due(basin: &Basin, dues: &[Shape], from: usize, item: &Item) -> Found
         }
     }
     Found::Passed
-}
-
-/// The month of the run with this index.
-fn month_at(basin: &Basin, index: u32) -> Month
-    requires basin { IsValidBasin basin.now }
-    requires index { index < basin.now.months }
-    ensures { result ≡ run_month basin.now index }
-{
-    match basin.first.plus(index) {
-        Some(month) => month,
-        None => unreachable!(),
-    }
 }
 
 /// The place behind the line of the next month, or behind the last line, if the line is the one that is due.

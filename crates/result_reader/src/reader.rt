@@ -11,6 +11,7 @@ ghost use Rattle.result_reader.specs.Standing.{StandsFor, most_lines};
 
 use crate::bad_line::BadLine;
 use crate::dues::dues_of;
+use crate::likely::{follow, likely_entries};
 use crate::names::Names;
 use crate::place::Place;
 use crate::progress::{Progress, next_progress};
@@ -30,6 +31,7 @@ pub struct ResultReader<'b> {
     names: Names<'b>,
     dues: Vec<Shape>,
     progress: Progress,
+    followers: Vec<u32>,
     left: u64,
 }
 
@@ -78,6 +80,7 @@ impl<'b> ResultReader<'b> {
         let dues = dues_of(alloc, basin, roll)?;
         let left = most_lines(basin, &dues);
         let names = Names::of(alloc, basin)?;
+        let followers = vec![in alloc; 0; basin.nodes.len() + 1]?;
         Ok(ResultReader {
             names,
             dues,
@@ -86,6 +89,7 @@ impl<'b> ResultReader<'b> {
                 next_member: None,
                 must: false,
             },
+            followers,
             left,
         })
     }
@@ -99,8 +103,8 @@ impl<'b> ResultReader<'b> {
     /// the basin doesn't have, or the lines accepted so far and this one aren't the front of a whole text. A refused
     /// line changes nothing.
     ///
-    /// No memory is taken. The cost is the line's length, a look-up of each name, and a step for each line that is due,
-    /// may be left out and is passed over.
+    /// No memory is taken. The cost is the line's length, a look-up of each name that isn't the likely one, and a step for
+    /// each line that is due, may be left out and is passed over.
     pub fn line(&mut self, text: &[u8]) -> Result<Item, BadLine>
         ensures answer { (items : List Item) → StandsFor self.old items →
             result ≡ read_line self.old.basin items text.now }
@@ -112,9 +116,11 @@ impl<'b> ResultReader<'b> {
         ensures basin { self.new.basin ≡ self.old.basin }
         ensures left { OnOk result (self.new.left + 1 ≡ self.old.left) }
     {
-        let item = item_of(&self.names, text)?;
+        let likely = likely_entries(&self.dues, &self.followers, self.progress);
+        let item = item_of(&self.names, likely, text)?;
         match next_progress(self.names.basin, &self.dues, self.progress, &item) {
             Some(progress) => {
+                follow(self.followers.as_mut_slice(), self.progress, &item);
                 self.progress = progress;
                 self.left -= 1;
                 Ok(item)

@@ -8,17 +8,18 @@ use crate::fields::{
     amount_field, count_field, cut, month_field, name_field, no_field, one_field, three_fields,
     two_fields,
 };
+use crate::likely::Likely;
 use crate::names::Names;
 use crate::words::Word;
 use water_model::item::Item;
 use water_model::quantity::Quantity;
 use water_model::space::Space;
 
-/// The entry that has the name. Where none has it, no such line may come.
-fn entry_named(names: &Names, space: Space, name: &[u8]) -> Result<u32, BadLine>
+/// The entry that has the name, which is likely this one. Where none has it, no such line may come.
+fn entry_named(names: &Names, space: Space, likely: u32, name: &[u8]) -> Result<u32, BadLine>
     ensures { result ≡ reading.entry_named names.now.basin.now space name.now }
 {
-    names.named(space, name).ok_or(BadLine::OutOfPlace)
+    names.named(space, likely, name).ok_or(BadLine::OutOfPlace)
 }
 
 #[tactic(auto, unfolding(crate::specs::Reading::item_with))]
@@ -51,13 +52,18 @@ fn month(names: &Names, rest: Option<&[u8]>) -> Result<Item, BadLine>
 }
 
 #[tactic(auto, unfolding(crate::specs::Reading::item_with))]
-fn amount(names: &Names, quantity: Quantity, rest: Option<&[u8]>) -> Result<Item, BadLine>
+fn amount(
+    names: &Names,
+    likely: Likely,
+    quantity: Quantity,
+    rest: Option<&[u8]>,
+) -> Result<Item, BadLine>
     ensures { result ≡ reading.item_with names.now.basin.now (word.Amount quantity) (reading.pieces_behind rest.entry) }
 {
     let (name, amount) = two_fields(rest)?;
     let name = name_field(name)?;
     let amount = amount_field(amount)?;
-    let entry = entry_named(names, quantity.space(), name)?;
+    let entry = entry_named(names, quantity.space(), likely.entry, name)?;
     Ok(Item::Amount {
         quantity,
         entry,
@@ -66,14 +72,14 @@ fn amount(names: &Names, quantity: Quantity, rest: Option<&[u8]>) -> Result<Item
 }
 
 #[tactic(auto, unfolding(crate::specs::Reading::item_with))]
-fn delivery(names: &Names, rest: Option<&[u8]>) -> Result<Item, BadLine>
+fn delivery(names: &Names, likely: Likely, rest: Option<&[u8]>) -> Result<Item, BadLine>
     ensures { result ≡ reading.item_with names.now.basin.now word.Deliver (reading.pieces_behind rest.entry) }
 {
     let (name, amount, want) = three_fields(rest)?;
     let name = name_field(name)?;
     let amount = amount_field(amount)?;
     let want = amount_field(want)?;
-    let right = entry_named(names, Space::Rights, name)?;
+    let right = entry_named(names, Space::Rights, likely.entry, name)?;
     Ok(Item::Deliver {
         right,
         amount,
@@ -82,32 +88,32 @@ fn delivery(names: &Names, rest: Option<&[u8]>) -> Result<Item, BadLine>
 }
 
 #[tactic(auto, unfolding(crate::specs::Reading::item_with))]
-fn call(names: &Names, rest: Option<&[u8]>) -> Result<Item, BadLine>
+fn call(names: &Names, likely: Likely, rest: Option<&[u8]>) -> Result<Item, BadLine>
     ensures { result ≡ reading.item_with names.now.basin.now word.Call (reading.pieces_behind rest.entry) }
 {
     let name = name_field(one_field(rest)?)?;
-    let right = entry_named(names, Space::Rights, name)?;
+    let right = entry_named(names, Space::Rights, likely.entry, name)?;
     Ok(Item::Call { right })
 }
 
 #[tactic(auto, unfolding(crate::specs::Reading::item_with))]
-fn member(names: &Names, rest: Option<&[u8]>) -> Result<Item, BadLine>
+fn member(names: &Names, likely: Likely, rest: Option<&[u8]>) -> Result<Item, BadLine>
     ensures { result ≡ reading.item_with names.now.basin.now word.Member (reading.pieces_behind rest.entry) }
 {
     let name = name_field(one_field(rest)?)?;
-    let node = entry_named(names, Space::Nodes, name)?;
+    let node = entry_named(names, Space::Nodes, likely.member, name)?;
     Ok(Item::Member { node })
 }
 
 #[tactic(auto, unfolding(crate::specs::Reading::item_with))]
-fn called(names: &Names, rest: Option<&[u8]>) -> Result<Item, BadLine>
+fn called(names: &Names, likely: Likely, rest: Option<&[u8]>) -> Result<Item, BadLine>
     ensures { result ≡ reading.item_with names.now.basin.now word.Called (reading.pieces_behind rest.entry) }
 {
     let (name, other) = two_fields(rest)?;
     let name = name_field(name)?;
     let other = name_field(other)?;
-    let right = entry_named(names, Space::Rights, name)?;
-    let by = entry_named(names, Space::Rights, other)?;
+    let right = entry_named(names, Space::Rights, likely.entry, name)?;
+    let by = entry_named(names, Space::Rights, likely.entry, other)?;
     Ok(Item::Called { right, by })
 }
 
@@ -128,26 +134,31 @@ fn end(names: &Names, rest: Option<&[u8]>) -> Result<Item, BadLine>
 }
 
 /// What a line of this word says, with the fields behind it.
-fn item_with(names: &Names, word: Word, rest: Option<&[u8]>) -> Result<Item, BadLine>
+fn item_with(
+    names: &Names,
+    likely: Likely,
+    word: Word,
+    rest: Option<&[u8]>,
+) -> Result<Item, BadLine>
     ensures { result ≡ reading.item_with names.now.basin.now word (reading.pieces_behind rest.entry) }
 {
     match word {
         Word::Title => title(names, rest),
         Word::Run => run(names, rest),
         Word::Month => month(names, rest),
-        Word::Amount(quantity) => amount(names, quantity, rest),
-        Word::Deliver => delivery(names, rest),
-        Word::Call => call(names, rest),
-        Word::Member => member(names, rest),
-        Word::Called => called(names, rest),
+        Word::Amount(quantity) => amount(names, likely, quantity, rest),
+        Word::Deliver => delivery(names, likely, rest),
+        Word::Call => call(names, likely, rest),
+        Word::Member => member(names, likely, rest),
+        Word::Called => called(names, likely, rest),
         Word::End => end(names, rest),
         Word::Done => done(names, rest),
     }
 }
 
-/// What a line says, whatever stands before it.
+/// What a line says, whatever stands before it. It likely names these entries.
 #[tactic(auto, unfolding(crate::specs::Reading::item_of))]
-pub fn item_of(names: &Names, text: &[u8]) -> Result<Item, BadLine>
+pub fn item_of(names: &Names, likely: Likely, text: &[u8]) -> Result<Item, BadLine>
     ensures { result ≡ reading.item_of names.now.basin.now text.now }
 {
     if text.len() > 128 {
@@ -155,7 +166,7 @@ pub fn item_of(names: &Names, text: &[u8]) -> Result<Item, BadLine>
     }
     let (first, rest) = cut(text);
     match Word::of(first) {
-        Some(word) => item_with(names, word, rest),
+        Some(word) => item_with(names, likely, word, rest),
         None => Err(BadLine::UnknownWord),
     }
 }

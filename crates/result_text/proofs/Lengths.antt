@@ -1,20 +1,15 @@
 -- How long fields are.
-use Rattle.std.proofs.Common.{◌≡◌, ℕ, ◌<◌, ◌≤◌, ◌^◌, Bool, true, false, List, length, arith, subst}
-use Rattle.std.specs.Prelude.{slice_get, Some, All, IsTrue, nat_le, ◌&&◌}
-use Rattle.std.specs.Fmt.{decimal}
+use Rattle.std.proofs.Common.{◌≡◌, ℕ, ◌≤◌, Bool, true, false, List, length, arith}
+use Rattle.std.specs.Prelude.{slice_get, Some, IsTrue, nat_le, ◌&&◌}
 use Rattle.std.specs.List.{list_all}
 use Rattle.std.proofs.lemmas.Bool.Decides.{nat_tests}
-use Rattle.std.proofs.lemmas.Fmt.{length-decimal-le}
-use Rattle.std.proofs.lemmas.Option.{get_or_from_slice_get, slice_get_within}
 use Rattle.water_text.specs.Names.{is_name, is_name_byte}
+use Rattle.water_model.proofs.Lists.{all_at}
 use Rattle.water_model.specs.Valid.{IsValidBasin, IsValidNode, IsValidLink, IsValidRight}
 use Rattle.water_model.specs.declared.types.Basin.{Basin}
 use Rattle.water_model.specs.declared.types.Link as link
 use Rattle.water_model.specs.declared.types.Node as node
 use Rattle.water_model.specs.declared.types.Right as right
-
-pub decimal_short : (n : ℕ) → n < 2 ^ 64 → length (decimal n) ≤ 20
-decimal_short n h = length-decimal-le 20 n (omega arith) (omega arith) h
 
 name_short : (text : List ℕ) → IsTrue (is_name text) → length text ≤ 32
 unfolding is_name
@@ -23,9 +18,6 @@ name_short text h = within (nat_le 1 (length text)) (length text) (list_all is_n
     within : (p : Bool) (n : ℕ) (q : Bool) → p && (nat_le n 32 && q) ≡ true → n ≤ 32
     within true n q h = grind (arith, nat_tests)
     within false n q h = cc
-
-all_at : {X : Type 0} (P : X → Type 0) (xs : List X) (k : ℕ) (x : X) → All P xs → slice_get xs k ≡ Some x → P x
-all_at P xs k x h e = subst P (get_or_from_slice_get xs k x x e) (h k x (slice_get_within xs k x e))
 
 pub node_name_short : (b : Basin) (k : ℕ) (n : node.Node) → IsValidBasin b → slice_get b.nodes k ≡ Some n →
     length n.name ≤ 32

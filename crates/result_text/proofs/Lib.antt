@@ -1,5 +1,4 @@
 pub mod Lengths
-pub mod Puts
 pub mod Entries
 pub mod Members
 pub mod MonthLines

@@ -1,9 +1,10 @@
 -- The lines of a right's set.
 use Rattle.std.proofs.Common.{◌≡◌, ℕ, zero, suc, ◌+◌, ◌-◌, ◌<◌, ◌≤◌, Bool, true, false, List, [], ◌∷◌, length, refl, sym, ap}
-use Rattle.std.proofs.Common.{◌∙◌, arith, map, Option, Some, None, ◌&&◌, append-nil, subst}
+use Rattle.std.proofs.Common.{◌∙◌, arith, map, Option, Some, ◌&&◌, subst}
 use Rattle.std.specs.Prelude.{if◌then◌else◌}
 use Rattle.std.specs.List.{flat_map}
 use Rattle.std.specs.Io.KnownBytes.{Appends}
+use Rattle.std.proofs.KnownBytes.{Appends-nil}
 use Rattle.bit_words.specs.Marks.{is_marked, in_both, marks, IsNextInBoth}
 use Rattle.bit_words.proofs.Marks.{get_or-marks, length-marks}
 use Rattle.water_model.specs.Lookups.{has}
@@ -15,7 +16,7 @@ use Rattle.water_model.specs.declared.item.Item.TheVariants as line
 use Rattle.water_model.specs.declared.types.Basin.{Basin}
 use Rattle.water_model.proofs.Order.{length-numbers_from, numbers_from-get}
 use Rattle.result_text.specs.Members.{member_at, members_of}
-use Rattle.result_text.proofs.Puts.{SoFar, SoFar-next, SoFar-whole}
+use Rattle.water_edge.proofs.Puts.{SoFar, SoFar-next, SoFar-whole}
 
 -- a line for each place that a set has, told place by place
 members : (g : ℕ → Bool) (set : List Bool) (from : ℕ) → ((k : ℕ) → k < length set → g (from + k) ≡ has set k) →
@@ -80,11 +81,7 @@ skip b words nodes from (suc count) {old} {now} {before} {after} s l h =
     (skip b words nodes from count s (omega (arith, l)) (λ n above below. h n above (omega (arith, below))))
     (numbers_from-get 0 nodes (from + count) (from + count) (omega (arith, l)) (omega arith))
     (subst (λ (items : List Item). Appends now now (flat_map (whole_line b) items))
-    (sym (unmarked words (from + count) (h (from + count) (omega arith) (omega arith)))) (nothing now)) (omega arith))
-  where
-    nothing : (bytes : Option (List ℕ)) → Appends bytes bytes []
-    nothing None = tt
-    nothing (Some bytes) = sym (append-nil bytes)
+    (sym (unmarked words (from + count) (h (from + count) (omega arith) (omega arith)))) (Appends-nil now)) (omega arith))
 
 -- all lines in front of the next node that is marked
 pub SoFar-at : (b : Basin) (words : List ℕ) (nodes from node : ℕ) {old now : Option (List ℕ)} {before after : ℕ} →

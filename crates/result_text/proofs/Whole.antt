@@ -19,7 +19,7 @@ use Rattle.water_model.specs.declared.types.MonthRecord.{MonthRecord}
 use Rattle.water_model.proofs.Histories.{IsMonth-run_month}
 use Rattle.result_text.specs.Begun.{begun_bytes}
 use Rattle.result_text.specs.Range.{FitsText}
-use Rattle.result_text.proofs.Puts.{Puts-then}
+use Rattle.water_edge.proofs.Puts.{Puts-then}
 
 -- a head is the beginning of every text
 pub begun-head : (b : Basin) → begun_bytes b [] ≡ flat_map (whole_line b) (items_of_head b)

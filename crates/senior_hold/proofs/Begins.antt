@@ -28,34 +28,6 @@ use Rattle.water_model.specs.Plans.{IsPlan, carry_of, carry_of_kind}
 use Rattle.senior_hold.specs.Solved.{FitsPlan, AreSupplies, AreWants}
 use Rattle.senior_hold.specs.Arcs.{AreAmounts, AreBounds}
 
--- a month has at most 31 days
-days_most : (m : Month) → IsMonth m → days_of m ≤ 31
-days_most m is = subst (λ d. d ≤ 31) (sym (days_in-days_in_month m.year m.month is.month.0 is.month.1))
-    (days_in_month-le (pos m.year) m.month)
-
-pub carry_most : (b : Basin) (month : Month) (e : ℕ) → IsMonth month → IsValidBasin b → e < length b.links →
-    carry_of b month e ≤ 10 ^ 15
-carry_most b month e is_month valid l =
-    let entry = entry_holds (λ l. IsValidLink b l) b.links e valid.links l in
-    let link : Link = entry.0 in
-    let is : carry_of b month e ≡ carry_of_kind link.carry month =
-    ap (λ o. unwrap_or (option_map (λ x. carry_of_kind x.carry month) o) 0) entry.1 in
-    let most = of_kind link.carry entry.2.carry in
-    omega arith
-  where
-    product : (x d : ℕ) → x ≤ 10 ^ 9 → d ≤ 31 → x * d ≤ 10 ^ 15
-    product x d h i = grind arith
-
-    open_or_shut : (t : Bool) (x : ℕ) → x ≤ 10 ^ 15 → (if t then 0 else x) ≤ 10 ^ 15
-    open_or_shut true x h = omega arith
-    open_or_shut false x h = h
-
-    of_kind : (c : Carry) → IsValidCarry c → carry_of_kind c month ≤ 10 ^ 15
-    of_kind River h = omega arith
-    of_kind (Canal per_day shut) h =
-        open_or_shut (unwrap_or (slice_get shut (month.month - 1)) false) (per_day * days_of month)
-        (product per_day (days_of month) h.0 (days_most month is_month))
-
 pub begun_small : {most : ℕ → ℕ} (b : Basin) (month : Month) (want upper : List ℕ) →
     ((e : ℕ) → e < length b.links → carry_of b month e ≤ 10 ^ 15) →
     AreBounds b month want most (λ a. slice_index upper a) → ((n : ℕ) → n < length b.nodes → most n ≤ 10 ^ 15) →

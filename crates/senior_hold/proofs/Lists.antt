@@ -5,24 +5,6 @@ use Rattle.std.specs.Prelude.{slice_index, slice_get, slice_set, Some}
 use Rattle.std.proofs.lemmas.Bool.{cases_lt}
 use Rattle.std.proofs.lemmas.Grind.{common_steps}
 
-pub get_set : {X : Type 0} (xs : List X) (i : ℕ) (x : X) → i < length xs → slice_get (slice_set xs i x) i ≡ Some x
-get_set [] i x l = absurd (omega arith)
-get_set (y ∷ xs) zero x l = refl
-get_set (y ∷ xs) (suc i) x l = get_set xs i x (omega arith)
-
-pub get_set_other : {X : Type 0} (xs : List X) (i j : ℕ) (x : X) → j ≢ i →
-    slice_get (slice_set xs i x) j ≡ slice_get xs j
-get_set_other [] i j x ne = refl
-get_set_other (y ∷ xs) zero zero x ne = absurd (ne refl)
-get_set_other (y ∷ xs) zero (suc j) x ne = refl
-get_set_other (y ∷ xs) (suc i) zero x ne = refl
-get_set_other (y ∷ xs) (suc i) (suc j) x ne = get_set_other xs i j x (λ e. ne (ap suc e))
-
-pub set_twice : {X : Type 0} (xs : List X) (i : ℕ) (x z : X) → slice_set (slice_set xs i x) i z ≡ slice_set xs i z
-set_twice [] i x z = refl
-set_twice (y ∷ xs) zero x z = refl
-set_twice (y ∷ xs) (suc i) x z = ap (λ (ys : List _). y ∷ ys) (set_twice xs i x z)
-
 pub get_before : {X : Type 0} (xs ys : List X) (k : ℕ) (x : X) → slice_get xs k ≡ Some x →
     slice_get (xs ++ ys) k ≡ Some x
 get_before [] ys k x h = cc

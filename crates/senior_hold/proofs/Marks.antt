@@ -11,14 +11,8 @@ use Rattle.std.specs.Prelude.{option_map, IfSome, IsSome, IsTrue, ◌↔◌}
 use Rattle.bit_words.specs.Marks.{is_marked, marks}
 use Rattle.water_model.specs.CutSets.{CutSets, set_of, with_set}
 use Rattle.senior_hold.specs.MonthNetwork.{list_of}
-use Rattle.senior_hold.proofs.Lists.{get_set, get_set_other, set_twice}
+use Rattle.water_model.proofs.SetEntries.{set_entry, set_of_with, set_twice}
 use Rattle.water_model.specs.Lookups.{has}
-
-pub set_of_with : (c : CutSets) (r : ℕ) (s : Option (List Bool)) → r < length c.sets → set_of (with_set c r s) r ≡ s
-set_of_with c r s l = ap (λ o. unwrap_or (option_map (λ set. set) o) None) (get_set c.sets r s l)
-
-pub set_of_other : (c : CutSets) (r q : ℕ) (s : Option (List Bool)) → q ≢ r → set_of (with_set c r s) q ≡ set_of c q
-set_of_other c r q s ne = ap (λ o. unwrap_or (option_map (λ set. set) o) None) (get_set_other c.sets r q s ne)
 
 pub with_twice : (c : CutSets) (r : ℕ) (s t : Option (List Bool)) → with_set (with_set c r s) r t ≡ with_set c r t
 with_twice c r s t = ap (λ (xs : List (Option (List Bool))). let d : CutSets = record c { sets = xs } in
@@ -105,15 +99,10 @@ mark_more c new r n y k l m h added =
     done ∙ (with_twice c r (Some (marked n y k)) (Some (slice_set (marked n y k) k true))
     ∙ ap (λ (xs : List Bool). with_set c r (Some xs)) (marked_more n y k m h))
 
-pub with_same : (c : CutSets) (r : ℕ) (s : List Bool) → set_of c r ≡ Some s → with_set c r (Some s) ≡ c
-with_same c r s h = ap (λ (xs : List (Option (List Bool))). let d : CutSets = record c { sets = xs } in
-    d) (same c.sets r h)
-  where
-    same : (xs : List (Option (List Bool))) (r : ℕ) →
-        unwrap_or (option_map (λ set. set) (slice_get xs r)) None ≡ Some s → slice_set xs r (Some s) ≡ xs
-    same [] r h = refl
-    same (x ∷ xs) zero h = ap (λ (o : Option (List Bool)). o ∷ xs) (sym h)
-    same (x ∷ xs) (suc r) h = ap (λ (ys : List (Option (List Bool))). x ∷ ys) (same xs r h)
+pub with_same : (c : CutSets) (r : ℕ) (s : List Bool) → r < length c.sets → set_of c r ≡ Some s →
+    with_set c r (Some s) ≡ c
+with_same c r s l h = ap (λ (xs : List (Option (List Bool))). let d : CutSets = record c { sets = xs } in
+    d) (set_entry c.sets r (Some s) l h)
 
 pub is_some_set : (c new : CutSets) (r : ℕ) (s : List Bool) → r < length c.sets → new ≡ with_set c r (Some s) →
     IsSome (set_of new r)

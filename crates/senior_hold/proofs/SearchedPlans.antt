@@ -5,7 +5,7 @@ use Rattle.std.proofs.lemmas.Bool.{cases_Bool, le-ltb, false≢true}
 use Rattle.std.proofs.lemmas.List.{length-replicate, get_or-replicate}
 use Rattle.std.specs.Prelude.{slice_index, nat_lt}
 use Rattle.place_sums.specs.Sums.{total, count_where, when}
-use Rattle.place_sums.proofs.Totals.{total_append, total_le}
+use Rattle.place_sums.proofs.Totals.{total_append, total_le, total_most}
 use Rattle.water_model.specs.Basin.{is_outlet}
 use Rattle.water_model.specs.Cuts.{IsTight}
 use Rattle.water_model.specs.CutSets.{CutSets}
@@ -18,7 +18,6 @@ use Rattle.water_model.proofs.Greatest.{cuts_make_plan_greatest}
 use Rattle.water_text.specs.declared.month.Month.{Month}
 use Rattle.circulation.specs.Contents.{Contents, network, flow_of, month_contents}
 use Rattle.circulation.specs.Network.{IsFlow}
-use Rattle.circulation.proofs.RowSums.{total_at_most}
 use Rattle.augment.specs.Raised.{open_arcs}
 use Rattle.rights_roll.specs.SeniorityOrder.{IsSeniorityOrder}
 use Rattle.senior_hold.specs.Arcs.{AreBounds, AreAmounts}
@@ -113,8 +112,8 @@ open_few b c ends outlets =
     let f : ℕ → ℕ = λ a. when (nat_lt 0 (slice_index c.upper a)) 1 in
     let all : open_arcs (network c) ≡ total (links + (takers + nodes)) f =
     ap (λ n. total n f) (ends.arcs ∙ spilled_arcs b) in
-    let first = total_at_most links 1 f (λ k. one (nat_lt 0 (slice_index c.upper k))) in
-    let second = total_at_most takers 1 (λ k. f (links + k)) (λ k. one (nat_lt 0 (slice_index c.upper (links + k)))) in
+    let first = total_most links 1 f (λ k l. one (nat_lt 0 (slice_index c.upper k))) in
+    let second = total_most takers 1 (λ k. f (links + k)) (λ k l. one (nat_lt 0 (slice_index c.upper (links + k)))) in
     let third : total nodes (λ n. f (spill_arc b n)) ≤ count_where nodes (λ n. is_outlet b n) =
     total_le nodes (λ n. f (spill_arc b n)) (λ n. when (is_outlet b n) 1)
     (λ n l. outlet (is_outlet b n) (slice_index c.upper (spill_arc b n)) (outlets n l)) in

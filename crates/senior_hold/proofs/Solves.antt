@@ -19,7 +19,7 @@ use Rattle.senior_hold.proofs.MonthArcs.{AreKinds, take_arc_below, out_arc_below
 use Rattle.senior_hold.proofs.Bridge.{greatest_reach}
 use Rattle.senior_hold.proofs.Plans.{right_arc_in}
 use Rattle.senior_hold.proofs.Sweeps.{got, swept_same, swept_next}
-use Rattle.senior_hold.proofs.Marks.{set_of_with, set_of_other}
+use Rattle.water_model.proofs.SetEntries.{set_of_with, set_of_other}
 use Rattle.water_model.specs.Lookups.{has}
 use Rattle.rights_roll.specs.SeniorityOrder.{IsSeniorityOrder}
 use Rattle.senior_hold.specs.Serving.{IsServed, SameEnds}

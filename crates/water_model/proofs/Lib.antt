@@ -12,6 +12,8 @@ pub mod CutSteps
 pub mod Balance
 pub mod Gauges
 pub mod Wants
+pub mod Carries
+pub mod SetEntries
 pub mod Histories
 pub mod Lists
 pub mod Outcome

@@ -1,7 +1,8 @@
 use Rattle.std.proofs.Common.{arith, true, false}
 use Rattle.water_model.specs.Valid.{IsValidCarry}
 use Rattle.water_model.specs.declared.types.Carry.TheVariants.{Canal}
-use Rattle.cut_cert.proofs.Bounds.{days_carry, canal_carries}
+use Rattle.water_model.proofs.Carries.{days_carry}
+use Rattle.cut_cert.proofs.Bounds.{canal_carries}
 use Rattle.cut_cert.proofs.carry_in_days.Goals as goal
 
 pub overflow_mul-result : goal.overflow_mul-result

@@ -3,7 +3,9 @@ use Rattle.std.specs.Prelude.{◌&&◌, slice_index}
 use Rattle.water_model.specs.Basin.{is_senior}
 use Rattle.water_model.specs.Cuts.{takes_within}
 use Rattle.cut_cert.specs.Sets.{marked_nodes}
-use Rattle.cut_cert.proofs.Bounds.{next_fits, all_most, entry_most}
+use Rattle.place_sums.proofs.Totals.{total_where_most}
+use Rattle.water_model.proofs.Wants.{entry_most}
+use Rattle.cut_cert.proofs.Bounds.{next_fits}
 use Rattle.cut_cert.proofs.kept_by_takes.Goals as goal
 
 pub overflow_add-sum : goal.overflow_add-sum
@@ -28,7 +30,7 @@ returns-clause-small c =
       arith,
       rw all at c.loop-taker.invariant,
       c.requires.basin.few.rights,
-      all_most (length c.args.basin.now.rights) (10 ^ 9)
+      total_where_most (length c.args.basin.now.rights) (10 ^ 9)
           (λ s. takes_within c.args.basin.now (marked_nodes c.args.basin.now c.args.words.now) s
           && is_senior c.args.basin.now s
           c.args.right)

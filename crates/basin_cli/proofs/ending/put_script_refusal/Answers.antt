@@ -1,5 +1,5 @@
 use Rattle.std.proofs.Common.{arith, ap, length, codes, decimal}
-use Rattle.result_text.proofs.Lengths.{decimal_short}
+use Rattle.water_text.proofs.AmountLaws.{decimal_short}
 use Rattle.basin_cli.proofs.Names.{grown, script_fault_short}
 use Rattle.basin_cli.proofs.ending.put_script_refusal.Goals as goal
 

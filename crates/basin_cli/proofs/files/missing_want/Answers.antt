@@ -1,5 +1,5 @@
 use Rattle.std.proofs.Common.{sym, ◌∙◌}
-use Rattle.basin_cli.proofs.Missing.{right_named, never_none, read_short}
+use Rattle.basin_cli.proofs.Missing.{right_named, never_none}
 use Rattle.basin_cli.proofs.files.missing_want.Goals as goal
 
 pub unreachable-requires : goal.unreachable-requires

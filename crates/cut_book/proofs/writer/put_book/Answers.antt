@@ -4,7 +4,7 @@ use Rattle.std.specs.List.{flat_map}
 use Rattle.std.specs.Io.KnownBytes.{Appends}
 use Rattle.water_edge.specs.Edge.{Puts}
 use Rattle.cut_cert.specs.Sets.{cut_at}
-use Rattle.result_text.proofs.Puts.{Puts-then, PutsFront-cut, PutsFront-then, PutsFront-fails}
+use Rattle.water_edge.proofs.Puts.{Puts-then, PutsFront-cut, PutsFront-then, PutsFront-fails}
 use Rattle.cut_book.specs.Book.{terms}
 use Rattle.cut_book.specs.Entries.{whole_line}
 use Rattle.cut_book.specs.declared.entry.Entry.{Entry}

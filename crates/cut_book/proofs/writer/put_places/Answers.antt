@@ -1,7 +1,7 @@
 use Rattle.std.proofs.Common.{arith}
 use Rattle.cut_cert.specs.Sets.{cut_at}
 use Rattle.result_text.proofs.Entries.{place_at, places_end}
-use Rattle.result_text.proofs.Puts.{SoFar-none, SoFar-next, SoFar-fails, SoFar-whole}
+use Rattle.water_edge.proofs.Puts.{SoFar-none, SoFar-next, SoFar-fails, SoFar-whole}
 use Rattle.cut_book.specs.Book.{count_in, lines_at, places_in}
 use Rattle.cut_book.specs.Entries.{whole_line}
 use Rattle.cut_book.proofs.writer.put_places.Goals as goal

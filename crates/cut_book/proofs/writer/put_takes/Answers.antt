@@ -2,7 +2,7 @@ use Rattle.std.proofs.Common.{◌≡◌, arith, ◌∙◌, sym, ap, get_or, leng
 use Rattle.calls.proofs.Search.{order_in_range}
 use Rattle.cut_cert.specs.Sets.{cut_at}
 use Rattle.result_text.proofs.Entries.{right_at}
-use Rattle.result_text.proofs.Puts.{SoFar-none, SoFar-next, SoFar-fails, SoFar-whole}
+use Rattle.water_edge.proofs.Puts.{SoFar-none, SoFar-next, SoFar-fails, SoFar-whole}
 use Rattle.water_model.specs.Places.{seniors_first}
 use Rattle.cut_book.specs.Book.{lines_at}
 use Rattle.cut_book.specs.Entries.{whole_line}

@@ -1,5 +1,5 @@
 use Rattle.cut_cert.specs.Sets.{cut_at}
-use Rattle.result_text.proofs.Puts.{SoFar}
+use Rattle.water_edge.proofs.Puts.{SoFar}
 use Rattle.water_model.specs.Places.{seniors_first}
 use Rattle.cut_book.specs.Book.{lines_at}
 use Rattle.cut_book.specs.Entries.{whole_line}

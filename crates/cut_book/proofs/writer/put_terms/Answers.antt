@@ -1,6 +1,6 @@
 use Rattle.std.proofs.lemmas.Option.{slice_get-get_or}
 use Rattle.cut_cert.specs.Sets.{cut_at}
-use Rattle.result_text.proofs.Puts.{SoFar-none, SoFar-next, SoFar-fails, SoFar-whole}
+use Rattle.water_edge.proofs.Puts.{SoFar-none, SoFar-next, SoFar-fails, SoFar-whole}
 use Rattle.cut_book.specs.Book.{lines_in}
 use Rattle.cut_book.specs.Entries.{whole_line}
 use Rattle.cut_book.specs.declared.part.TheConstants.{PARTS}

@@ -5,7 +5,7 @@ use Rattle.water_model.specs.declared.types.Inflows.{Inflows}
 use Rattle.water_model.specs.declared.types.MonthRecord.{MonthRecord}
 use Rattle.month_fold.specs.Runs.{RunSeen, StandsFor}
 use Rattle.edit_session.specs.Sessions.{IsKept}
-use Rattle.edit_session.proofs.Fronts.{take_front}
+use Rattle.water_model.proofs.Lists.{take_front}
 use Rattle.edit_session.proofs.solving.solve_months.Goals as goal
 use Rattle.senior_hold.specs.MonthNetwork.{month_pushes}
 

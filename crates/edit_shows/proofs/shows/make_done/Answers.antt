@@ -1,5 +1,5 @@
 use Rattle.std.proofs.Common.{◌≡◌, ℕ, ◌+◌, ◌∙◌, ◌++◌, List, arith, ap, length, codes, decimal, length-append}
-use Rattle.result_text.proofs.Lengths.{decimal_short}
+use Rattle.water_text.proofs.AmountLaws.{decimal_short}
 use Rattle.edit_shows.proofs.shows.make_done.Goals as goal
 
 grown : (old new more : List ℕ) → new ≡ old ++ more → length new ≡ length old + length more

@@ -1,7 +1,7 @@
 use Rattle.std.proofs.Common.{ℕ, List, [], subst}
 use Rattle.std.specs.Prelude.{slice_index_or}
 use Rattle.std.specs.List.{flat_map}
-use Rattle.result_text.proofs.Puts.{PutsFront}
+use Rattle.water_edge.proofs.Puts.{PutsFront}
 use Rattle.index_seq.specs.Entries.{whole_line}
 use Rattle.index_seq.specs.Text.{ensemble_lines}
 use Rattle.index_seq.proofs.Lines.{text_cut}

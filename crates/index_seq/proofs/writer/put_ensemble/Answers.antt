@@ -2,7 +2,7 @@ use Rattle.std.proofs.Common.{ℕ, List, [], ◌∷◌, ◌++◌, subst}
 use Rattle.std.specs.Prelude.{slice_index_or}
 use Rattle.std.specs.List.{flat_map}
 use Rattle.water_edge.specs.Edge.{Puts}
-use Rattle.result_text.proofs.Puts.{Puts-then, PutsFront-cut, PutsFront-then, PutsFront-fails}
+use Rattle.water_edge.proofs.Puts.{Puts-then, PutsFront-cut, PutsFront-then, PutsFront-fails}
 use Rattle.water_model.specs.Places.{seniors_first}
 use Rattle.index_seq.specs.Entries.{whole_line}
 use Rattle.index_seq.specs.Text.{right_lines}

@@ -1,7 +1,7 @@
 use Rattle.index_seq.specs.Entries.{whole_line}
 use Rattle.index_seq.specs.Text.{yearly_lines}
 use Rattle.index_seq.specs.declared.entry.Entry.TheVariants as line
-use Rattle.result_text.proofs.Puts.{Puts-first}
+use Rattle.water_edge.proofs.Puts.{Puts-first}
 use Rattle.index_seq.proofs.writer.put_right.Goals as goal
 
 pub returns-clause-text : goal.returns-clause-text

@@ -5,7 +5,7 @@ use Rattle.std.specs.List.Sorted.{IsNonDecreasingBy}
 use Rattle.std.specs.Io.KnownBytes.{Appends}
 use Rattle.calls.proofs.Search.{order_in_range}
 use Rattle.result_text.proofs.Entries.{right_at}
-use Rattle.result_text.proofs.Puts.{SoFar-none, SoFar-next, SoFar-fails, SoFar-whole, PutsFront}
+use Rattle.water_edge.proofs.Puts.{SoFar-none, SoFar-next, SoFar-fails, SoFar-whole, PutsFront}
 use Rattle.water_model.specs.Places.{seniors_first}
 use Rattle.index_seq.specs.Entries.{whole_line}
 use Rattle.index_seq.specs.Text.{right_lines, yearly_lines}

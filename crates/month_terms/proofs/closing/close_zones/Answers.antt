@@ -2,7 +2,8 @@ use Rattle.std.proofs.Common.{◌<◌, ◌^◌, ◌∙◌, sym, ap, arith, lengt
 use Rattle.std.specs.Prelude.{slice_index}
 use Rattle.place_sums.proofs.Totals.{total_where_start}
 use Rattle.water_model.specs.History.{is_zone_of}
-use Rattle.month_terms.proofs.Adds.{zone_more, no_zone_more, zone_within, sum_small, no_numbers}
+use Rattle.place_sums.proofs.Totals.{total_where_most}
+use Rattle.month_terms.proofs.Adds.{zone_more, no_zone_more, zone_within, no_numbers}
 use Rattle.month_terms.proofs.closing.close_zones.Goals as goal
 use Rattle.month_terms.proofs.closing.close_zones.Goals.{in-Zone, in_default}
 
@@ -23,7 +24,7 @@ add_at-requires-clause-small c =
     let below : c.loop-right.right < length c.args.basin.now.rights =
     omega (arith, c.loop-right-test.true, c.len-right-end.ensures) in
     let sum =
-    sum_small c.loop-right.right (10 ^ 9) (λ r. is_zone_of c.args.basin.now r c.in-Zone.reservoir)
+    total_where_most c.loop-right.right (10 ^ 9) (λ r. is_zone_of c.args.basin.now r c.in-Zone.reservoir)
     (λ r. slice_index c.args.take.now r)
     (λ k l. c.requires.small k (omega arith)) in
     omega (

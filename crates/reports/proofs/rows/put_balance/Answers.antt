@@ -1,7 +1,7 @@
 use Rattle.std.proofs.Common.{List, ℕ, subst}
 use Rattle.water_edge.specs.Edge.{Puts}
 use Rattle.reports.specs.Texts.{balance_front, balance_rest}
-use Rattle.result_text.proofs.Puts.{Puts-then}
+use Rattle.water_edge.proofs.Puts.{Puts-then}
 use Rattle.reports.proofs.Written.{Puts-cut, balance_split}
 use Rattle.reports.proofs.rows.put_balance.Goals as goal
 

@@ -1,4 +1,4 @@
-use Rattle.result_text.proofs.Puts.{Puts-then}
+use Rattle.water_edge.proofs.Puts.{Puts-then}
 use Rattle.reports.specs.Reports.{balance_row, done_row}
 use Rattle.reports.proofs.rows.put_end.Goals as goal
 

@@ -1,7 +1,7 @@
 use Rattle.std.proofs.Common.{codes, [], ◌∷◌}
 use Rattle.std.specs.Fmt.{decimal}
 use Rattle.reports.specs.Reports.{row}
-use Rattle.result_text.proofs.Puts.{Puts-then}
+use Rattle.water_edge.proofs.Puts.{Puts-then}
 use Rattle.reports.proofs.texts.put_counts.Goals as goal
 
 pub returns-clause-text : goal.returns-clause-text

@@ -1,5 +1,5 @@
 use Rattle.reports.specs.Texts.{trial_row, size_row}
-use Rattle.result_text.proofs.Puts.{Puts-then}
+use Rattle.water_edge.proofs.Puts.{Puts-then}
 use Rattle.reports.proofs.texts.put_made.Goals as goal
 
 pub returns-clause-text : goal.returns-clause-text

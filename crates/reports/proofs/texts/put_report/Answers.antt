@@ -1,7 +1,8 @@
 use Rattle.std.proofs.Common.{List, ℕ, ◌++◌}
 use Rattle.std.specs.List.{flat_map}
+use Rattle.std.proofs.KnownBytes.{Appends-trans}
 use Rattle.water_model.specs.Places.{seniors_first}
-use Rattle.result_text.proofs.Puts.{Appends-then, PutsFront-then, Puts-then}
+use Rattle.water_edge.proofs.Puts.{PutsFront-then, Puts-then}
 use Rattle.reports.specs.Reports.{balance_row, done_row}
 use Rattle.reports.specs.Texts.{run_row, row_in}
 use Rattle.reports.proofs.Written.{Puts-cut}
@@ -23,7 +24,7 @@ returns-clause-text g c =
     Puts-then (g.K.Sink.taken c.args.sink.now) (g.K.Sink.taken c.put_rights.new.sink)
     (g.K.Sink.taken c.put_end.new.sink) c.put_end.result
     (run_row c.args.basin.now ++ rights) (balance_row c.args.tally.now.waters ++ done_row c.args.basin.now)
-    (Appends-then (g.K.Sink.taken c.args.sink.now) (g.K.Sink.taken c.put_run.new.sink)
+    (Appends-trans (g.K.Sink.taken c.args.sink.now) (g.K.Sink.taken c.put_run.new.sink)
     (g.K.Sink.taken c.put_rights.new.sink)
     (run_row c.args.basin.now) rights c.in_ok-put_run.ensures.text c.in_ok-put_rights.ensures.text)
     c.put_end.ensures.text

@@ -3,7 +3,7 @@ use Rattle.std.specs.Io.KnownBytes.{Appends}
 use Rattle.std.proofs.lemmas.Option.{slice_get-get_or}
 use Rattle.water_edge.specs.Edge.{Puts}
 use Rattle.calls.proofs.Search.{order_in_range}
-use Rattle.result_text.proofs.Puts.{PutsFront-cut, SoFar-next, SoFar-fails, SoFar-whole}
+use Rattle.water_edge.proofs.Puts.{PutsFront-cut, SoFar-next, SoFar-fails, SoFar-whole}
 use Rattle.reports.specs.Texts.{row_in}
 use Rattle.reports.proofs.Written.{rows_of}
 use Rattle.reports.proofs.texts.put_rights.Goals as goal

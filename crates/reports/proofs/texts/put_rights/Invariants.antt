@@ -1,5 +1,5 @@
 use Rattle.std.proofs.Common.{[], ◌∷◌}
-use Rattle.result_text.proofs.Puts.{SoFar}
+use Rattle.water_edge.proofs.Puts.{SoFar}
 use Rattle.reports.specs.Texts.{row_in}
 use Rattle.reports.proofs.texts.put_rights.Given as goal
 

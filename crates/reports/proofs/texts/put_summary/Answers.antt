@@ -1,5 +1,6 @@
 use Rattle.std.proofs.Common.{◌++◌}
-use Rattle.result_text.proofs.Puts.{Appends-then, PutsFront-then, Puts-then}
+use Rattle.std.proofs.KnownBytes.{Appends-trans}
+use Rattle.water_edge.proofs.Puts.{PutsFront-then, Puts-then}
 use Rattle.reports.specs.Reports.{balance_row, done_row}
 use Rattle.reports.specs.Texts.{made_rows, amount_rows, count_rows}
 use Rattle.reports.proofs.Written.{Puts-cut}
@@ -22,7 +23,7 @@ returns-clause-text g c =
     (made_rows c.args.number c.args.size
     c.args.basin.now ++ (amount_rows c.args.totals.now ++ count_rows c.args.totals.now c.args.called))
     (balance_row c.args.waters.now ++ done_row c.args.basin.now)
-    (Appends-then (g.K.Sink.taken c.args.sink.now) (g.K.Sink.taken c.put_made.new.sink)
+    (Appends-trans (g.K.Sink.taken c.args.sink.now) (g.K.Sink.taken c.put_made.new.sink)
     (g.K.Sink.taken c.put_totals.new.sink)
     (made_rows c.args.number c.args.size c.args.basin.now)
     (amount_rows c.args.totals.now ++ count_rows c.args.totals.now c.args.called)

@@ -1,5 +1,5 @@
 use Rattle.reports.specs.Texts.{amount_rows, count_rows}
-use Rattle.result_text.proofs.Puts.{Puts-then}
+use Rattle.water_edge.proofs.Puts.{Puts-then}
 use Rattle.reports.proofs.texts.put_totals.Goals as goal
 
 pub returns-clause-text : goal.returns-clause-text

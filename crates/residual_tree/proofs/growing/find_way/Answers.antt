@@ -1,7 +1,7 @@
 use Rattle.std.proofs.Common.{ℕ, ◌+◌, arith, ap}
 use Rattle.residual_tree.specs.Growth.{IsShut}
 use Rattle.circulation.proofs.Scans.{scan_start, scan_inside, scan_at, scan_next, scan_end}
-use Rattle.residual_tree.proofs.Grows.{found_way, found_none, shut_end}
+use Rattle.residual_tree.proofs.Seeds.{found_way, found_none, shut_end}
 use Rattle.residual_tree.proofs.growing.find_way.Goals as goal
 
 pub loop-place-init : goal.loop-place-init

@@ -1,5 +1,6 @@
 use Rattle.residual_tree.specs.Growth.{no_step}
-use Rattle.residual_tree.proofs.Grows.{growing_start, lent_none, seeded}
+use Rattle.residual_tree.proofs.Grows.{growing_start, lent_none}
+use Rattle.residual_tree.proofs.Seeds.{seeded}
 use Rattle.residual_tree.proofs.growing.grow.Goals as goal
 
 pub seed-size-requires-clause-tree : goal.seed-size-requires-clause-tree

@@ -1,5 +1,6 @@
 use Rattle.std.proofs.Common.{refl}
-use Rattle.residual_tree.proofs.Grows.{growing_room, seeding_start, seeding_next}
+use Rattle.residual_tree.proofs.Grows.{growing_room}
+use Rattle.residual_tree.proofs.Seeds.{seeding_start, seeding_next}
 use Rattle.residual_tree.proofs.growing.seed.Goals as goal
 
 pub loop-at-init : goal.loop-at-init

@@ -1,4 +1,4 @@
-use Rattle.residual_tree.proofs.Grows.{IsSeeding}
+use Rattle.residual_tree.proofs.Seeds.{IsSeeding}
 use Rattle.residual_tree.proofs.growing.seed.Given as goal
 
 abbrev pub invariant-loop-at : goal.invariant-loop-at

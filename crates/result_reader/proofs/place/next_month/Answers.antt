@@ -7,7 +7,7 @@ use Rattle.result_reader.proofs.place.next_month.Goals as goal
 pub returns-then-fits : goal.returns-then-fits
 returns-then-fits c = (
   month_taken c.args.basin.now c.args.begun c.args.item.now c.if-begun-basin.true
-      (ap (λ m. fits c.args.basin.now (shape.Month m) c.args.item.now) (sym c.month_at.ensures)
+      (ap (λ m. fits c.args.basin.now (shape.Month m) c.args.item.now) (sym c.month_at.ensures.month)
       ∙ (sym c.fits.ensures ∙ c.if-fits.true)),
   (omega arith, omega arith),
 )
@@ -15,7 +15,7 @@ returns-then-fits c = (
 pub returns-else-fits : goal.returns-else-fits
 returns-else-fits c =
     month_refused c.args.basin.now c.args.begun c.args.item.now c.if-begun-basin.true
-    (ap (λ m. fits c.args.basin.now (shape.Month m) c.args.item.now) (sym c.month_at.ensures)
+    (ap (λ m. fits c.args.basin.now (shape.Month m) c.args.item.now) (sym c.month_at.ensures.month)
     ∙ (sym c.fits.ensures ∙ c.if-fits.false))
 
 pub returns-then-fits-2 : goal.returns-then-fits-2

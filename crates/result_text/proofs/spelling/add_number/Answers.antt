@@ -1,5 +1,5 @@
 use Rattle.std.proofs.Common.{length, ap, arith, length-append, ℕ}
-use Rattle.result_text.proofs.Lengths.{decimal_short}
+use Rattle.water_text.proofs.AmountLaws.{decimal_short}
 use Rattle.result_text.proofs.spelling.add_number.Goals as goal
 
 pub amount-requires : goal.amount-requires

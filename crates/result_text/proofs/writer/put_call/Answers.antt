@@ -8,7 +8,7 @@ use Rattle.water_model.specs.declared.item.Item.{Item}
 use Rattle.water_model.specs.declared.item.Item.TheVariants as line
 use Rattle.result_text.specs.Members.{members_of}
 use Rattle.result_text.proofs.Members.{call_lines}
-use Rattle.result_text.proofs.Puts.{Puts-first}
+use Rattle.water_edge.proofs.Puts.{Puts-first}
 use Rattle.result_text.proofs.writer.put_call.Goals as goal
 
 pub returns-in_ok-put_item-in-Some-clause-text : goal.returns-in_ok-put_item-in-Some-clause-text

@@ -7,7 +7,7 @@ use Rattle.water_model.specs.declared.item.Item.{Item}
 use Rattle.water_model.proofs.Order.{numbers_from-get}
 use Rattle.result_text.specs.Members.{member_at}
 use Rattle.result_text.proofs.Members.{line_of_next, SoFar-at, SoFar-rest}
-use Rattle.result_text.proofs.Puts.{SoFar-none, SoFar-next, SoFar-fails, PutsFront}
+use Rattle.water_edge.proofs.Puts.{SoFar-none, SoFar-next, SoFar-fails, PutsFront}
 use Rattle.result_text.proofs.writer.put_members.Goals as goal
 
 pub loop-turn-init : goal.loop-turn-init

@@ -2,7 +2,7 @@ use Rattle.std.proofs.Common.{◌≤◌}
 use Rattle.water_model.specs.Places.{numbers_from}
 use Rattle.water_model.specs.Spelling.{whole_line}
 use Rattle.result_text.specs.Members.{member_at}
-use Rattle.result_text.proofs.Puts.{SoFar}
+use Rattle.water_edge.proofs.Puts.{SoFar}
 use Rattle.result_text.proofs.writer.put_members.Given as goal
 
 abbrev pub invariant-loop-turn : goal.invariant-loop-turn

@@ -3,7 +3,7 @@ use Rattle.water_edge.specs.Edge.{Puts}
 use Rattle.water_model.specs.Spelling.{whole_line}
 use Rattle.water_model.specs.Text.{calling_right}
 use Rattle.result_text.proofs.MonthLines.{month_pieces}
-use Rattle.result_text.proofs.Puts.{Puts-cut, Puts-second, Puts-third}
+use Rattle.water_edge.proofs.Puts.{Puts-cut, Puts-second, Puts-third}
 use Rattle.result_text.proofs.writer.put_month.Goals as goal
 
 pub returns-in_err-put_item-clause-text : goal.returns-in_err-put_item-clause-text

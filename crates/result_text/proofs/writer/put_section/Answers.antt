@@ -4,7 +4,7 @@ use Rattle.water_model.specs.Entries.{count_in, in_order}
 use Rattle.water_model.specs.Spelling.{whole_line}
 use Rattle.water_model.specs.Text.{calling_right, lines_at, section_space}
 use Rattle.water_model.proofs.Entries.{length-in_order}
-use Rattle.result_text.proofs.Puts.{SoFar-none, SoFar-next, SoFar-fails, SoFar-whole}
+use Rattle.water_edge.proofs.Puts.{SoFar-none, SoFar-next, SoFar-fails, SoFar-whole}
 use Rattle.result_text.proofs.writer.put_section.Goals as goal
 
 pub loop-place-init : goal.loop-place-init

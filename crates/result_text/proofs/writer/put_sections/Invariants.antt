@@ -1,6 +1,6 @@
 use Rattle.water_model.specs.Spelling.{whole_line}
 use Rattle.water_model.specs.Text.{calling_right, lines_in}
-use Rattle.result_text.proofs.Puts.{SoFar}
+use Rattle.water_edge.proofs.Puts.{SoFar}
 use Rattle.result_text.proofs.writer.put_sections.Given as goal
 
 abbrev pub invariant-loop-section : goal.invariant-loop-section

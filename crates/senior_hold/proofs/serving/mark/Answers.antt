@@ -10,7 +10,7 @@ use Rattle.augment.specs.Raised.{not_reached, position_of}
 pub loop-node-init : goal.loop-node-init
 loop-node-init c =
     let none = marked_none c.args.circ.now.nodes (not_reached c.args.circ.now) in
-    sym (with_same c.args.cuts.now c.args.right _ (c.requires.empty
+    sym (with_same c.args.cuts.now c.args.right _ c.requires.right (c.requires.empty
     ∙ ap (λ (n : ℕ). Some (replicate n false)) c.requires.nodes ∙ ap (λ (xs : List Bool). Some xs) none))
 
 pub add-requires-clause-held : goal.add-requires-clause-held

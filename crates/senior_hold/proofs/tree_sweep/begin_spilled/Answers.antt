@@ -3,7 +3,8 @@ use Rattle.std.proofs.lemmas.List.{with_items_is, get_or-replicate}
 use Rattle.senior_hold.specs.Spilled.{spilled}
 use Rattle.senior_hold.proofs.Lists.{whole_rows}
 use Rattle.senior_hold.proofs.SpilledArcs.{spilled_count}
-use Rattle.senior_hold.proofs.Begins.{start_is, carry_most, bounds_over, amounts_over}
+use Rattle.water_model.proofs.Carries.{carry_most}
+use Rattle.senior_hold.proofs.Begins.{start_is, bounds_over, amounts_over}
 use Rattle.senior_hold.proofs.Spilled.{spilled_wants, spilled_start}
 use Rattle.senior_hold.proofs.tree_sweep.begin_spilled.Goals as goal
 
@@ -27,7 +28,7 @@ begin_month-requires c =
     (omega (arith, l, ap length c.as_mut_slice.ensures.value, c.requires.room.fits_most.out)) in
     start_is (spilled c.args.basin.now) c.args.month c.args.supply.now c.args.want.now c.deref.result.now
     c.deref-2.result.now c.args.circ.now c.spill_all.new.plan
-    (λ e l. carry_most c.args.basin.now c.args.month e c.requires.month c.requires.valid l)
+    (λ e l. carry_most c.args.basin.now c.args.month e c.requires.valid c.requires.month l)
     c.requires.ends (c.requires.supply.count
     ∙ sym count) (spilled_wants c.args.basin.now c.args.month c.args.want.now c.requires.want)
     (ap length is ∙ (size ∙ c.requires.room.uppers)) (ap length is2 ∙ (size2 ∙ c.requires.room.starts))

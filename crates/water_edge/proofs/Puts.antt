@@ -5,18 +5,11 @@ use Rattle.std.proofs.Common.{length-append, take_all}
 use Rattle.std.specs.Prelude.{slice_get, IsErr}
 use Rattle.std.specs.List.{flat_map}
 use Rattle.std.specs.Io.KnownBytes.{Appends}
+use Rattle.std.proofs.KnownBytes.{Appends-nil, Appends-trans}
 use Rattle.std.proofs.Math.Seq.{take-append-add}
 use Rattle.std.proofs.lemmas.Grind.{flat_map-append}
 use Rattle.std.proofs.lemmas.List.{take-append-le}
 use Rattle.water_edge.specs.Edge.{Puts}
-
--- two pieces make one
-pub Appends-then : (old mid new : Option (List ℕ)) (a b : List ℕ) → Appends old mid a → Appends mid new b →
-    Appends old new (a ++ b)
-Appends-then None mid new a b h k = tt
-Appends-then (Some xs) None new a b h k = absurd h
-Appends-then (Some xs) (Some ys) None a b h k = absurd k
-Appends-then (Some xs) (Some ys) (Some zs) a b h k = k ∙ ap (λ t. t ++ b) h ∙ append_assoc xs a b
 
 -- a front of a piece was put
 abbrev pub PutsFront : Option (List ℕ) → Option (List ℕ) → List ℕ → Type 0
@@ -34,7 +27,7 @@ pub PutsFront-then : (old mid new : Option (List ℕ)) (a b : List ℕ) → Appe
 PutsFront-then old mid new a b h k = (
   length a + k.0,
   omega (arith, length-append a b, k.1),
-  rw (take-append-add a b k.0) (Appends-then old mid new a (take k.0 b) h k.2),
+  rw (take-append-add a b k.0) (Appends-trans old mid new a (take k.0 b) h k.2),
 )
 
 -- a front of a piece is a front of whatever goes on with it
@@ -44,7 +37,7 @@ PutsFront-cut old new a b k = (k.0, omega (arith, length-append a b, k.1), rw (t
 -- a piece that was put whole, and then another
 pub Puts-then : {E : Type 0} (old mid new : Option (List ℕ)) (r : Result (Unit {0}) E) (a b : List ℕ) →
     Appends old mid a → Puts mid new r b → Puts old new r (a ++ b)
-Puts-then old mid new (Ok u) a b h k = Appends-then old mid new a b h k
+Puts-then old mid new (Ok u) a b h k = Appends-trans old mid new a b h k
 Puts-then old mid new (Err e) a b h k = PutsFront-then old mid new a b h k
 
 -- the piece of the first item, and then those of the others
@@ -97,11 +90,7 @@ pub record SoFar {X Y : Type 0} (h : Y → List ℕ) (f : X → List Y) (xs : Li
 -- nothing yet
 pub SoFar-none : {X Y : Type 0} (h : Y → List ℕ) (f : X → List Y) (xs : List X) (old : Option (List ℕ)) (before : ℕ) →
     SoFar h f xs 0 old old before before
-SoFar-none h f xs old before = record { put = nothing old; later = omega arith }
-  where
-    nothing : (old : Option (List ℕ)) → Appends old old []
-    nothing None = tt
-    nothing (Some bytes) = sym (append-nil bytes)
+SoFar-none h f xs old before = record { put = Appends-nil old; later = omega arith }
 
 -- one element more
 pub SoFar-next : {X Y : Type 0} {h : Y → List ℕ} {f : X → List Y} {xs : List X} {k : ℕ} {old mid new : Option (List ℕ)}
@@ -111,7 +100,7 @@ pub SoFar-next : {X Y : Type 0} {h : Y → List ℕ} {f : X → List Y} {xs : Li
     SoFar h f xs (k + 1) old new before after
 SoFar-next {h} {f} {xs} {k} {old} {mid} {new} x s at here later = record {
   put = rw (add-one k, more f xs k x at, flat_map-append h (flat_map f (take k xs)) (f x))
-      (Appends-then old mid new (flat_map h (flat_map f (take k xs))) (flat_map h (f x)) s.put here);
+      (Appends-trans old mid new (flat_map h (flat_map f (take k xs))) (flat_map h (f x)) s.put here);
   later = omega (arith, s.later);
 }
 

@@ -1,0 +1,207 @@
+-- Ways into freed nodes are found, and then taken.
+use Rattle.std.proofs.Common.{ℕ, ◌≢◌, ◌≡◌, ◌+◌, ◌-◌, ◌*◌, ◌<◌, ◌≤◌, ◌⊎◌, List, [], length, slice_index, slice_set, refl}
+use Rattle.std.proofs.Common.{arith, ap, sym, subst, inl, inr, ◌∙◌}
+use Rattle.std.proofs.lemmas.Bool.{cases_eq}
+use Rattle.std.proofs.lemmas.List.{get_or-set_other, get_or-set_same, length-set}
+use Rattle.circulation.specs.Contents.{Contents, network, flow_of, arcs, IsCirculation}
+use Rattle.circulation.specs.Residual.{arc_of, start_of, end_of, room_of}
+use Rattle.residual_tree.specs.declared.TheConstants.{ROOT}
+use Rattle.residual_tree.specs.Steps.{opposite}
+use Rattle.residual_tree.specs.Tree.{word_of, IsReached, IsResidualTree}
+use Rattle.residual_tree.specs.Growth.{Stands, none, only, no_step, IsFound, IsShut, IsFreeing, IsGrowing, IsWayIn}
+use Rattle.residual_tree.specs.Growth.{IsLentTree}
+use Rattle.residual_tree.proofs.Changes.{count_most, count_attached, stands_more, stands_here, stands_or}
+use Rattle.residual_tree.proofs.Changes.{stands_nowhere, IsLooseWay, tree_attach, tree_map}
+use Rattle.circulation.proofs.Scans.{end_within}
+use Rattle.residual_tree.proofs.Opposites.{opposite_is}
+use Rattle.residual_tree.proofs.Overs.{over_backward}
+use Rattle.residual_tree.proofs.Grows.{IsLentWay, growing_attach}
+
+-- where none of the steps that leave a node is a way in when turned, there is none
+pub shut_end : (c : Contents) (way : List ℕ) (v : ℕ) →
+    ((s : ℕ) → arc_of s < arcs c → start_of (network c) s ≡ v → IsShut c way s) → (s : ℕ) → IsWayIn c way v s → ⊥
+shut_end c way v shut s in_s =
+    let o = opposite_is (network c) s in
+    let none = shut (opposite s) (omega (arith, o.arc, in_s.arc)) (o.starts ∙ in_s.enters)
+    (subst (λ (u : ℕ). IsReached way u) (sym o.enters) in_s.marked) in
+    omega (arith, ap (room_of (network c) (flow_of c)) o.back, none, in_s.room)
+
+-- a step that was turned is a way in
+pub way_in : (c : Contents) (way : List ℕ) (v s : ℕ) → arc_of s < arcs c → start_of (network c) s ≡ v →
+    IsReached way (end_of (network c) s) → 0 < room_of (network c) (flow_of c) (opposite s) →
+    IsWayIn c way v (opposite s)
+way_in c way v s b starts m room =
+    let o = opposite_is (network c) s in
+    record {
+      arc = omega (arith, o.arc, b);
+      enters = o.enters ∙ starts;
+      marked = subst (λ (u : ℕ). IsReached way u) (sym o.starts) m;
+      room = room;
+    }
+
+-- what was found by a step that was turned
+pub found_way : (c : Contents) (way : List ℕ) (v s word : ℕ) → arc_of s < arcs c → start_of (network c) s ≡ v →
+    IsReached way (end_of (network c) s) → 0 < room_of (network c) (flow_of c) (opposite s) → word ≡ opposite s + 1 →
+    IsFound c way v word
+found_way c way v s word b starts m room is = record {
+  none = λ e. absurd (omega (arith, is, e));
+  some = λ t e.
+      let same : opposite s ≡ t = omega (arith, is, e) in
+      subst (λ (x : ℕ). IsWayIn c way v x) same (way_in c way v s b starts m room);
+}
+
+-- what was found where there is no way
+pub found_none : (c : Contents) (way : List ℕ) (v : ℕ) → ((s : ℕ) → IsWayIn c way v s → ⊥) → IsFound c way v 0
+found_none c way v shut = record { none = λ e. shut; some = λ s e. absurd (omega (arith, e)) }
+
+-- a way in has room
+pub way_lent : (c : Contents) (lent : ℕ) (way : List ℕ) (v s : ℕ) → IsWayIn c way v s → IsLentWay c lent way v s
+way_lent c lent way v s h = record { arc = h.arc; enters = h.enters; marked = h.marked; room = inl h.room }
+
+-- freed nodes are reached by the ways that were found when the words were those of `old`
+pub record IsSeeding (c : Contents) (old way freed queue found : List ℕ) (next count size : ℕ) : Type 0 where
+  pub grows : IsGrowing c (no_step c) way freed queue next count 0 size
+  pub ways : (k : ℕ) → k < count → IsFound c old (slice_index freed k) (slice_index found k)
+  pub kept : (u : ℕ) → IsReached old u → IsReached way u
+  pub fresh : (u : ℕ) → IsReached way u → IsReached old u ⊎ Stands queue 0 size u
+
+-- before the first way is taken
+pub seeding_start : (c : Contents) (way freed queue found : List ℕ) (count : ℕ) →
+    IsGrowing c (no_step c) way freed queue 0 count 0 0 →
+    ((k : ℕ) → k < count → IsFound c way (slice_index freed k) (slice_index found k)) →
+    IsSeeding c way way freed queue found 0 count 0
+seeding_start c way freed queue found count g ways =
+    record { grows = g; ways = ways; kept = λ u m. m; fresh = λ u m. inl m }
+
+-- a freed node was tried: it is reached, or had no way in
+seed_past : (c : Contents) (old way freed queue found : List ℕ) (next count size v : ℕ) → slice_index freed next ≡ v →
+    IsSeeding c old way freed queue found next count size → (IsReached way v ⊎ ((s : ℕ) → IsWayIn c old v s → ⊥)) →
+    IsSeeding c old way freed queue found (next + 1) count size
+seed_past c old way freed queue found next count size v is s tried = record {
+  grows = record {
+    tree = tree_map c way (only (no_step c)) none (Stands freed next count) (Stands queue 0 size)
+        (only (no_step c)) none (Stands freed (next + 1) count) (Stands queue 0 size) s.grows.tree
+        (λ u d m e o. inr o)
+        (λ u x d e b f o. o)
+        (λ x b r m o. elim o [
+          | inl free ↦ elim (stands_or freed next count (end_of (network c) x) free) [
+            | inl here ↦
+                let same : v ≡ end_of (network c) x = sym is ∙ here in
+                elim tried [
+                  | inl reached ↦ inl (subst (λ (u : ℕ). IsReached way u) same reached)
+                  | inr shut ↦ elim (s.fresh (start_of (network c) x) m) [
+                    | inl before ↦ absurd (shut x record { arc = b; enters = sym same; marked = before; room = r })
+                    | inr raw ↦ inr (inr raw)
+                  ]
+                ]
+            | inr later ↦ inr (inl later)
+          ]
+          | inr raw ↦ inr (inr raw)
+        ]);
+    order = s.grows.order;
+    places = s.grows.places;
+    within = s.grows.within;
+    marked = s.grows.marked;
+    few = s.grows.few;
+  };
+  ways = s.ways;
+  kept = s.kept;
+  fresh = s.fresh;
+}
+
+-- a freed node is reached by the way that was found
+seed_fresh : (c : Contents) (old way freed queue found : List ℕ) (next count size v word : ℕ) → next < count →
+    slice_index freed next ≡ v → slice_index found next ≡ word → IsSeeding c old way freed queue found next count size →
+    word_of way v ≡ 0 → 0 < word →
+    IsSeeding c old (slice_set way v word) freed (slice_set queue size v) found (next + 1) count (size + 1)
+seed_fresh c old way freed queue found next count size v word b is is_word s dry some =
+    let inner : v < c.nodes = omega (arith, s.grows.within next b, is) in
+    let long : v < length way = omega (arith, s.grows.tree.words, inner) in
+    let room = growing_room c (no_step c) way freed queue next count 0 size v inner s.grows dry in
+    let step : word ≡ word - 1 + 1 = omega arith in
+    let before = subst (λ (u : ℕ). IsWayIn c old u (word - 1)) is ((s.ways next b).some (word - 1) (is_word ∙ step)) in
+    let grows = growing_attach c (no_step c) way freed queue next count 0 size v (word - 1) inner s.grows dry
+    record {
+      arc = before.arc;
+      enters = before.enters;
+      marked = s.kept (start_of (network c) (word - 1)) before.marked;
+      room = inl before.room;
+    } in
+    let here = get_or-set_same way v word 0 long in
+    seed_past c old (slice_set way v word) freed (slice_set queue size v) found next count (size + 1) v is
+    record {
+      grows = subst (λ (n : ℕ). IsGrowing c (no_step c) (slice_set way v n) freed (slice_set queue size v) next count 0
+          (size + 1)) (sym step) grows;
+      ways = s.ways;
+      kept = λ u m. elim (cases_eq u v) [
+        | inl e ↦ omega (arith, ap (word_of (slice_set way v word)) e, here, some)
+        | inr ne ↦ omega (arith, get_or-set_other way v u word 0 ne, s.kept u m)
+      ];
+      fresh = λ u m. elim (cases_eq u v) [
+        | inl e ↦ inr (subst (λ (x : ℕ). Stands (slice_set queue size v) 0 (size + 1) x) (sym e)
+            (stands_here queue 0 size v (omega arith) room))
+        | inr ne ↦ elim (s.fresh u (omega (arith, get_or-set_other way v u word 0 ne, m))) [
+          | inl reached ↦ inl reached
+          | inr stands ↦ inr (stands_more queue 0 size v u stands)
+        ]
+      ];
+    }
+    (inl (omega (arith, here, some)))
+
+-- one more freed node was tried
+pub seeding_next : (c : Contents) (old way way' freed queue queue' found : List ℕ) (next count size size' v word : ℕ) →
+    next < count → slice_index freed next ≡ v → slice_index found next ≡ word →
+    IsSeeding c old way freed queue found next count size →
+    (word ≡ 0 → (size' ≡ size) × (way' ≡ way) × (queue' ≡ queue)) →
+    (IsReached way v → (size' ≡ size) × (way' ≡ way) × (queue' ≡ queue)) →
+    (0 < word → word_of way v ≡ 0 → (size' ≡ size + 1) × (way' ≡ slice_set way v word)
+    × (queue' ≡ slice_set queue size v)) →
+    IsSeeding c old way' freed queue' found (next + 1) count size'
+seeding_next c old way way' freed queue queue' found next count size size' v word b is is_word s skipped seen fresh =
+    elim (cases_eq (word_of way v) 0) [
+      | inl dry ↦ elim (cases_eq word 0) [
+        | inl empty ↦
+            let e = skipped empty in
+            seed_same c old way way' freed queue queue' found (next + 1) count size size' e
+            (seed_past c old way freed queue found next count size v is s
+            (inr (subst (λ (u : ℕ). (x : ℕ) → IsWayIn c old u x → ⊥) is ((s.ways next b).none (is_word ∙ empty)))))
+        | inr some ↦
+            let e = fresh (omega arith) dry in
+            subst (λ (x : List ℕ). IsSeeding c old x freed queue' found (next + 1) count size') (sym e.1)
+            (subst (λ (x : List ℕ). IsSeeding c old (slice_set way v word) freed x found (next + 1) count size')
+            (sym e.2)
+            (subst (λ (n : ℕ). IsSeeding c old (slice_set way v word) freed (slice_set queue size v) found (next + 1)
+            count n) (sym e.0)
+            (seed_fresh c old way freed queue found next count size v word b is is_word s dry (omega arith))))
+      ]
+      | inr ne ↦
+          seed_same c old way way' freed queue queue' found (next + 1) count size size' (seen (omega arith))
+          (seed_past c old way freed queue found next count size v is s (inl (omega arith)))
+    ]
+  where
+    seed_same : (c : Contents) (old way way' freed queue queue' found : List ℕ) (next count size size' : ℕ) →
+        (size' ≡ size) × (way' ≡ way) × (queue' ≡ queue) → IsSeeding c old way freed queue found next count size →
+        IsSeeding c old way' freed queue' found next count size'
+    seed_same c old way way' freed queue queue' found next count size size' e s =
+        subst (λ (x : List ℕ). IsSeeding c old x freed queue' found next count size') (sym e.1)
+        (subst (λ (x : List ℕ). IsSeeding c old way freed x found next count size') (sym e.2)
+        (subst (λ (n : ℕ). IsSeeding c old way freed queue found next count n) (sym e.0) s))
+
+-- all freed nodes were tried, so that they count no more
+pub seeded : (c : Contents) (lent : ℕ) (way freed queue : List ℕ) (count done size : ℕ) →
+    IsGrowing c lent way freed queue count count done size → IsGrowing c lent way [] queue 0 0 done size
+seeded c lent way freed queue count done size g = record {
+  tree = tree_map c way (only lent) none (Stands freed count count) (Stands queue done size)
+      (only lent) none (Stands [] 0 0) (Stands queue done size) g.tree
+      (λ u d m e o. inr o)
+      (λ u s d e b f o. o)
+      (λ s b r m o. elim o [
+        | inl free ↦ stands_nowhere freed count count (end_of (network c) s) free (omega arith)
+        | inr raw ↦ inr (inr raw)
+      ]);
+  order = g.order;
+  places = g.places;
+  within = λ k b. absurd (omega arith);
+  marked = g.marked;
+  few = g.few;
+}

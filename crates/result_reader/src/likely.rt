@@ -1,0 +1,61 @@
+//! The entries that the next line most likely names. Where they are right, no name is looked up; what a line says does
+//! not depend on them.
+
+use crate::place::Place;
+use crate::progress::Progress;
+use crate::shape::Shape;
+use water_model::item::Item;
+
+/// The entries that a line most likely names. They may be any numbers.
+#[derive(Clone, Copy)]
+pub struct Likely {
+    /// The node of an `in` line.
+    pub member: u32,
+    /// The first entry of any other line.
+    pub entry: u32,
+}
+
+/// The first entry that a line which is due names, or 0.
+fn entry_of(shape: &Shape) -> u32 {
+    match *shape {
+        Shape::Amount { entry, .. } => entry,
+        Shape::Deliver { right } | Shape::Call { right } | Shape::Called { right } => right,
+        Shape::Member { node } => node,
+        Shape::Title | Shape::Run | Shape::Month { .. } | Shape::End | Shape::Done { .. } => 0,
+    }
+}
+
+/// The first entry that the line at a place among those of a month names.
+fn due_entry(dues: &[Shape], place: Place) -> u32 {
+    match place {
+        Place::Month { at, .. } => dues.get(at).map_or(0, |shape| entry_of(shape)),
+        Place::Title | Place::Run | Place::After => 0,
+    }
+}
+
+/// The node that a list has at a number, or 0.
+fn node_at(nodes: &[u32], at: Option<u32>) -> u32 {
+    match at {
+        Some(at) => nodes.get(at as usize).copied().unwrap_or(0),
+        None => 0,
+    }
+}
+
+/// The entries that the next line most likely names: the one that is due, and of an `in` line the node that came behind
+/// the last line's before. The sets of a month, and of one month and the next, differ little. `followers` has this node
+/// for each node one place behind its own, and for a `call` line at the first.
+pub fn likely_entries(dues: &[Shape], followers: &[u32], progress: Progress) -> Likely {
+    Likely {
+        member: node_at(followers, progress.next_member),
+        entry: due_entry(dues, progress.place),
+    }
+}
+
+/// Keeps the node of an `in` line as that which came behind the line before it.
+pub fn follow(followers: &mut [u32], progress: Progress, item: &Item) {
+    if let (Some(next), Item::Member { node }) = (progress.next_member, *item)
+        && (next as usize) < followers.len()
+    {
+        followers[next as usize] = node;
+    }
+}
