@@ -15,7 +15,7 @@ use Rattle.residual_tree.proofs.Changes.{stands_nowhere, IsLooseWay, tree_attach
 use Rattle.circulation.proofs.Scans.{end_within}
 use Rattle.residual_tree.proofs.Opposites.{opposite_is}
 use Rattle.residual_tree.proofs.Overs.{over_backward}
-use Rattle.residual_tree.proofs.Grows.{IsLentWay, growing_attach}
+use Rattle.residual_tree.proofs.Grows.{IsLentWay, growing_attach, growing_room}
 
 -- where none of the steps that leave a node is a way in when turned, there is none
 pub shut_end : (c : Contents) (way : List ℕ) (v : ℕ) →

@@ -14,7 +14,7 @@ use circulation::Lent;
 
 /// Whether the opposite of a step to a node is a way into the node that the step leaves: it has room, and comes from a
 /// node that is reached.
-fn is_way_back(circ: &Lent<'_>, way: &Words<'_>, step: u64, node: u32) -> bool
+pub fn is_way_back(circ: &Lent<'_>, way: &Words<'_>, step: u64, node: u32) -> bool
     requires arc { arc_of step < arcs circ.now }
     requires node { end_of (network circ.now) step ≡ node }
     requires inside { node ≤ circ.now.nodes }

@@ -18,6 +18,7 @@ ghost use Rattle.residual_tree.specs.TreeWords.{tree_words};
 
 mod freeing;
 mod growing;
+mod hanging;
 pub mod laws;
 mod parts;
 mod raising;
