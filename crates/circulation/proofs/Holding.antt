@@ -4,7 +4,7 @@ use Rattle.word_region.specs.Words.{Words, words_at, with_words, zeroed}
 use Rattle.word_region.proofs.Words.{LiesOutside, words_at-set_other, words_at-with_words_other}
 use Rattle.circulation.specs.declared.Circulation.{Circulation}
 use Rattle.circulation.specs.Contents.{Contents}
-use Rattle.circulation.specs.Places.{fixed_count, AreWordsOf, HasWords, Holds}
+use Rattle.circulation.specs.Places.{fixed_count, AreFixedOf, AreWordsOf, HasWords, Holds, HoldsArcs}
 use Rattle.circulation.proofs.Lends.{zeroed_other}
 
 -- what it holds depends on the words of its place alone
@@ -47,3 +47,26 @@ held_parts r circ c words fixed moving h is front back =
     let one = subst (λ (xs : List ℕ). AreWordsOf circ c xs (drop n (words_at r.words circ.place)))
     (sym (front ∙ ap (take n) is)) h.words in
     subst (λ (xs : List ℕ). AreWordsOf circ c fixed xs) (sym (back ∙ ap (drop n) is)) one
+
+-- the words that never change are those of the contents whose words they are
+pub fixed_of : (circ : Circulation) (c : Contents) (kept moved : List ℕ) → AreWordsOf circ c kept moved →
+    AreFixedOf circ c kept
+fixed_of circ c kept moved w = record {
+  pairs = w.pairs;
+  nodes = w.nodes;
+  arcs = w.arcs;
+  from = w.from;
+  to = w.to;
+  steps = w.steps;
+  small = w.small;
+  fixed = w.fixed;
+  circulation = w.circulation;
+}
+
+-- a region that holds a circulation holds its arcs
+pub holds_arcs : (r : Words) (circ : Circulation) (c : Contents) → Holds r circ c → HoldsArcs r circ c
+holds_arcs r circ c h = record {
+  used = h.used;
+  size = h.size;
+  fixed = fixed_of circ c _ _ h.words;
+}

@@ -25,7 +25,7 @@ flow-kept c flow k same f = record {
 }
 
 -- a month starts with the flow that was given
-month-kept : (c : Contents) (supply upper start : List ℕ) → IsCirculation c → IsStart c supply upper start →
+pub month-kept : (c : Contents) (supply upper start : List ℕ) → IsCirculation c → IsStart c supply upper start →
     IsCirculation (month_contents c supply upper start)
 month-kept c supply upper start k s = record {
   shape = record {

@@ -9,3 +9,4 @@ pub mod Kept
 pub mod RowLists
 pub mod RowSums
 pub mod Scans
+pub mod Starts

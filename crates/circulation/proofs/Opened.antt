@@ -9,7 +9,7 @@ use Rattle.circulation.specs.declared.Ends.{Ends}
 use Rattle.place_sums.specs.Sums.{when}
 use Rattle.circulation.specs.Network.{HasEnds, inflow, outflow}
 use Rattle.circulation.specs.Rows.{Rows, AreRows}
-use Rattle.circulation.specs.Contents.{Contents, network, flow_of, IsCirculation, empty_contents, emptied}
+use Rattle.circulation.specs.Contents.{Contents, network, flow_of, IsCirculation, empty_contents}
 use Rattle.circulation.specs.declared.Circulation.{Circulation}
 use Rattle.circulation.specs.Places.{tail_of, head_of, tails, heads, word_count, fixed_count, AreWordsOf, HasWords}
 use Rattle.circulation.specs.Chains.{tails_of}
@@ -160,104 +160,4 @@ laid-words circ es words arcs few_nodes few_arcs within laid none =
           refl (omega (arith, count, arcs)) kept refl none laid.pairs (omega (arith, laid.count, arcs)) (sym laid.from)
           (sym laid.to) (omega (arith, laid.laid.steps, laid.count, arcs)) laid.laid.small
           (laid.words ∙ ap (λ (xs : List ℕ). laid.pairs ++ xs) laid.laid.is),
-    )
-
--- other scratch words in place of those
-scratch-kept : (c : Contents) (scratch : List ℕ) → length scratch ≡ 4 * c.nodes + 8 → IsCirculation c →
-    IsCirculation (record c { scratch = scratch })
-scratch-kept c scratch long k = record {
-  shape = record {
-    few_nodes = k.shape.few_nodes;
-    few_arcs = k.shape.few_arcs;
-    to = k.shape.to;
-    supply = k.shape.supply;
-    lower = k.shape.lower;
-    upper = k.shape.upper;
-    flow = k.shape.flow;
-    scratch = long;
-    small = k.shape.small;
-  };
-  ends = k.ends;
-  flow = k.flow;
-  rows = k.rows;
-}
-
--- how many words change
-pub moving_count : (circ : Circulation) (c : Contents) (kept moved : List ℕ) → (w : AreWordsOf circ c kept moved) →
-    length moved ≡ 3 * circ.arcs + circ.nodes + (4 * circ.nodes + 8 + length w.unused)
-moving_count circ c kept moved w =
-    let shape = w.circulation.shape in
-    let arcs : length c.from ≡ circ.arcs = ap length w.from ∙ (length-map w.pairs tail_of ∙ w.arcs) in
-    omega (
-      arith,
-      ap length w.moving,
-      length-append c.flow (c.upper ++ (c.lower ++ (c.supply ++ (c.scratch ++ w.unused)))),
-      length-append c.upper (c.lower ++ (c.supply ++ (c.scratch ++ w.unused))),
-      length-append c.lower (c.supply ++ (c.scratch ++ w.unused)),
-      length-append c.supply (c.scratch ++ w.unused),
-      length-append c.scratch w.unused,
-      shape.flow,
-      shape.upper,
-      shape.lower,
-      shape.supply,
-      shape.scratch,
-      arcs,
-      w.nodes,
-    )
-
--- zeros in front, in parts
-zeros_in_front : (arcs nodes count : ℕ) (rest : List ℕ) → count ≡ arcs + (arcs + (arcs + nodes)) →
-    replicate {A = ℕ} count 0 ++ rest
-    ≡ replicate arcs 0 ++ (replicate arcs 0 ++ (replicate arcs 0 ++ (replicate nodes 0 ++ rest)))
-zeros_in_front arcs nodes count rest is =
-    ap (λ (n : ℕ). replicate {A = ℕ} n 0 ++ rest) is
-    ∙ one arcs (arcs + (arcs + nodes)) rest
-    ∙ ap (λ (xs : List ℕ). replicate arcs 0 ++ xs) (one arcs (arcs + nodes) rest
-    ∙ ap (λ (xs : List ℕ). replicate arcs 0 ++ xs) (one arcs nodes rest))
-  where
-    one : (m n : ℕ) (rest : List ℕ) →
-        replicate {A = ℕ} (m + n) 0 ++ rest ≡ replicate m 0 ++ (replicate n 0 ++ rest)
-    one m n rest =
-        ap (λ (xs : List ℕ). xs ++ rest) (sym (replicate-append-replicate {A = ℕ} m n 0))
-        ∙ append_assoc (replicate m 0) (replicate n 0) rest
-
--- the words of a circulation that was emptied
-pub emptied-words : (circ : Circulation) (c : Contents) (kept moved old cleared : List ℕ) →
-    AreWordsOf circ c kept moved →
-    length old ≡ length moved →
-    cleared ≡ replicate (3 * circ.arcs + circ.nodes) 0 ++ drop (3 * circ.arcs + circ.nodes) old →
-    (scratch : List ℕ) × AreWordsOf circ (emptied c scratch) kept cleared
-emptied-words circ c kept moved old cleared w same is =
-    let shape = w.circulation.shape in
-    let arcs : length c.from ≡ circ.arcs = ap length w.from ∙ (length-map w.pairs tail_of ∙ w.arcs) in
-    let rest = drop (3 * circ.arcs + circ.nodes) old in
-    let scratch = take (4 * c.nodes + 8) rest in
-    let long : length scratch ≡ 4 * c.nodes + 8 =
-    length-take-le (4 * c.nodes + 8) rest
-    (omega (arith, length-drop (3 * circ.arcs + circ.nodes) old, same, moving_count circ c kept moved w, w.nodes)) in (
-      scratch,
-      record {
-        pairs = w.pairs;
-        unused = drop (4 * c.nodes + 8) rest;
-        nodes = w.nodes;
-        arcs = w.arcs;
-        from = w.from;
-        to = w.to;
-        steps = w.steps;
-        small = w.small;
-        fixed = w.fixed;
-        moving = is
-            ∙ zeros_in_front (length c.from) c.nodes (3 * circ.arcs + circ.nodes) rest (omega (arith, arcs, w.nodes))
-            ∙ ap (λ (xs : List ℕ). replicate (length c.from) 0
-            ++ (replicate (length c.from) 0 ++ (replicate (length c.from) 0 ++ (replicate c.nodes 0 ++ xs))))
-            (sym (take-append-drop (4 * c.nodes + 8) rest));
-        circulation = scratch-kept (empty_contents c.nodes c.from c.to c.rows) scratch long
-            (empty-circulation c.nodes c.from c.to c.rows shape.few_nodes shape.few_arcs shape.to
-            record {
-              from_in = w.circulation.ends.from_in;
-              to_in = w.circulation.ends.to_in;
-              apart = w.circulation.ends.apart;
-            }
-            w.circulation.rows);
-      },
     )

@@ -1,5 +1,6 @@
 -- What a circulation holds, as contracts see it.
-use Rattle.std.specs.Prelude.{ℕ, ◌≡◌, ◌+◌, ◌*◌, ◌^◌, ◌<◌, ◌≤◌, List, length, slice_index, slice_set, max, replicate}
+use Rattle.std.specs.Prelude.{ℕ, ◌≡◌, ◌+◌, ◌-◌, ◌*◌, ◌^◌, ◌<◌, ◌≤◌, List, ◌++◌, length, slice_index, slice_set, max}
+use Rattle.std.specs.Prelude.{replicate}
 use Rattle.circulation.specs.Network.{Network, IsFlow, HasEnds}
 use Rattle.circulation.specs.Rows.{Rows, AreRows}
 
@@ -72,10 +73,6 @@ empty_contents nodes from to rows = record {
   rows = rows;
 }
 
--- the contents without supplies, bounds and flow, and with these scratch words
-abbrev pub emptied : Contents → List ℕ → Contents
-emptied c scratch = record (empty_contents c.nodes c.from c.to c.rows) { scratch = scratch }
-
 -- the contents with an amount held on an arc, which raises its lower bound if it is greater
 abbrev pub held_contents : Contents → ℕ → ℕ → Contents
 held_contents c arc amount = record c { lower = slice_set c.lower arc (max (slice_index c.lower arc) amount) }
@@ -88,6 +85,10 @@ month_contents c supply upper start = record c {
   upper = upper;
   flow = start;
 }
+
+-- the amounts of the last arcs, with nothing on those before them
+abbrev pub on_last : ℕ → List ℕ → List ℕ
+on_last arcs amounts = replicate (arcs - length amounts) 0 ++ amounts
 
 -- what a month may start with: uppers of at most 10^15, and a flow that keeps them and balances the supplies
 pub record IsStart (c : Contents) (supply upper start : List ℕ) : Type 0 where

@@ -27,6 +27,18 @@ tails es = map (λ e. e.from) es
 abbrev pub heads : List Ends → List ℕ
 heads es = map (λ e. e.to) es
 
+-- the words that never change are those of the contents
+pub record AreFixedOf (circ : Circulation) (c : Contents) (kept : List ℕ) : Type 0 where
+  pub pairs : List ℕ
+  pub nodes : c.nodes ≡ circ.nodes
+  pub arcs : length pairs ≡ circ.arcs
+  pub from : c.from ≡ map tail_of pairs
+  pub to : c.to ≡ map head_of pairs
+  pub steps : length c.rows.step ≡ 2 * circ.arcs
+  pub small : (p : ℕ) → slice_index c.rows.end p < 2 ^ 32
+  pub fixed : kept ≡ pairs ++ (c.rows.step ++ (c.rows.end ++ c.rows.first))
+  pub circulation : IsCirculation c
+
 -- the words are those of the contents: first those that never change, and then those that do
 pub record AreWordsOf (circ : Circulation) (c : Contents) (kept moved : List ℕ) : Type 0 where
   pub pairs : List ℕ
@@ -45,6 +57,12 @@ pub record AreWordsOf (circ : Circulation) (c : Contents) (kept moved : List ℕ
 abbrev pub HasWords : Circulation → Contents → List ℕ → Type 0
 HasWords circ c words =
     AreWordsOf circ c (take (fixed_count circ.nodes circ.arcs) words) (drop (fixed_count circ.nodes circ.arcs) words)
+
+-- the region holds the arcs of these contents, and their rows
+pub record HoldsArcs (r : Words) (circ : Circulation) (c : Contents) : Type 0 where
+  pub used : IsUsed circ.place r
+  pub size : circ.place.len ≡ word_count circ.nodes circ.arcs
+  pub fixed : AreFixedOf circ c (take (fixed_count circ.nodes circ.arcs) (words_at r.words circ.place))
 
 -- the region holds the circulation with these contents
 pub record Holds (r : Words) (circ : Circulation) (c : Contents) : Type 0 where

@@ -9,11 +9,11 @@
 //! no call takes memory.
 #![tactic(auto)]
 
-ghost use Rattle.std.specs.Prelude.{IsTrue, ◌↔◌, ◌≡◌, ℕ, ◌+◌, ◌^◌, ◌<◌, ◌≤◌, ◌≢◌, List, length, IfOk, OnOk, OnErr, All};
+ghost use Rattle.std.specs.Prelude.{IsTrue, ◌↔◌, ◌≡◌, ℕ, ◌+◌, ◌-◌, ◌*◌, ◌^◌, ◌<◌, ◌≤◌, ◌≢◌, List, length, IfOk, OnOk, OnErr, All};
 ghost use Rattle.std.specs.Prelude.{◌++◌, drop, replicate};
-ghost use Rattle.circulation.specs.Contents.{Contents, empty_contents, emptied};
+ghost use Rattle.circulation.specs.Contents.{Contents, empty_contents, month_contents, on_last, IsStart};
 ghost use Rattle.circulation.specs.Rows.{Rows};
-ghost use Rattle.circulation.specs.Places.{word_count, fixed_count, tails, heads, AreWordsOf, Holds};
+ghost use Rattle.circulation.specs.Places.{word_count, fixed_count, tails, heads, AreFixedOf, AreWordsOf, Holds};
 ghost use Rattle.word_region.specs.Words.{words_at};
 ghost use Rattle.word_region.specs.declared.Place.{Place};
 
@@ -127,26 +127,55 @@ impl Circulation {
         }
     }
 
-    /// Gives back words that were lent: the supplies, the bounds and the flow are 0 again. The other words stay.
-    pub fn give_back(&self, fixed: &[u64], moving: &mut [u64])
-        requires { (c : Contents) × ((moved : List ℕ) ×
-            (AreWordsOf self.now c fixed.now moved × (length moving.old ≡ length moved))) }
-        ensures { (c : Contents) (moved : List ℕ) → AreWordsOf self.now c fixed.now moved →
-            length moving.old ≡ length moved →
-            (scratch : List ℕ) × AreWordsOf self.now (emptied c scratch) fixed.now moving.new }
+    /// The circulation at the start of a month, in its words: those that never change, and those that do, which may be
+    /// any. No arc is held. Supplies by node and upper bounds by arc are those given, and so is the flow of the last
+    /// arcs; on those before them there is none. All are in units of 1,000 cubic metres.
+    pub fn lend_month<'r>(
+        &self,
+        fixed: &'r [u64],
+        moving: &'r mut [u64],
+        supply: &[u64],
+        upper: &[u64],
+        start: &[u64],
+    ) -> Lent<'r>
+        requires count { length moving.old ≡
+            word_count self.now.nodes self.now.arcs - fixed_count self.now.nodes self.now.arcs }
+        requires few { length start.now ≤ self.now.arcs }
+        requires start { (c : Contents) × (AreFixedOf self.now c fixed.now ×
+            IsStart c supply.now upper.now (on_last self.now.arcs start.now)) }
+        ensures { (c : Contents) → AreFixedOf self.now c fixed.now → result ≡
+            record (month_contents c supply.now upper.now (on_last self.now.arcs start.now)) { scratch = result.scratch } }
     {
-        // The words that never change stand only in the contract.
-        let _fixed = fixed;
-        clear_front(moving, 3 * self.arcs as usize + self.nodes as usize);
+        write_month(moving, self.arcs as usize, supply, upper, start);
+        self.lend(fixed, moving)
     }
 }
 
-/// Writes 0 into so many words, the first.
-fn clear_front(words: &mut [u64], count: usize)
-    requires { count ≤ length words.old }
-    ensures { words.new ≡ replicate count 0 ++ drop count words.old }
+/// Writes nothing for the first arcs, and for the last ones their amounts.
+fn write_flow(flow: &mut [u64], amounts: &[u64])
+    requires { length amounts.now ≤ length flow.old }
+    ensures { flow.new ≡ on_last (length flow.old) amounts.now }
 {
-    words[..count].fill(0);
+    let (first, last) = flow.split_at_mut(flow.len() - amounts.len());
+    first.fill(0);
+    last.copy_from_slice(amounts);
+}
+
+/// Writes the flow, the upper and lower bounds and the supplies with which a month starts.
+fn write_month(words: &mut [u64], arcs: usize, supply: &[u64], upper: &[u64], start: &[u64])
+    requires start { length start.now ≤ arcs }
+    requires upper { length upper.now ≡ arcs }
+    requires fits { 3 * arcs + length supply.now ≤ length words.old }
+    ensures { words.new ≡ on_last arcs start.now
+        ++ (upper.now ++ (replicate arcs 0 ++ (supply.now ++ drop (3 * arcs + length supply.now) words.old))) }
+{
+    let (flow, words) = words.split_at_mut(arcs);
+    let (uppers, words) = words.split_at_mut(arcs);
+    let (lowers, words) = words.split_at_mut(arcs);
+    write_flow(flow, start);
+    uppers.copy_from_slice(upper);
+    lowers.fill(0);
+    words[..supply.len()].copy_from_slice(supply);
 }
 
 #[cfg(test)]

@@ -138,8 +138,7 @@ fn run<L: Ledger, R: Abort>(
     hold_all(rt, &mut circ, case);
     let nodes = circ.nodes();
     let mut words = vec![in alloc; 0; tree_words(nodes)]?;
-    let mut tree = ResidualTree::over(nodes, &mut words);
-    tree.plant(&circ);
+    let mut tree = ResidualTree::plant(&circ, &mut words);
     let mut searches: Steps<L> = Steps::new(blank);
     let raises = play_all(rt, &mut circ, &mut tree, case, most_pushes, &mut searches);
     compare_dry(rt, &circ, &tree, case);

@@ -39,6 +39,18 @@ count_freed nodes v way b long m = omega (
   counts_not (word_of (slice_set way v 0) v) (get_or-set_same way v 0 0 long),
 )
 
+-- a node that is reached by another step is still one
+pub count_kept : (nodes v x : ℕ) (way : List ℕ) → v < nodes → v < length way → IsReached way v → 0 < x →
+    reached_count nodes (slice_set way v x) ≡ reached_count nodes way
+count_kept nodes v x way b long m some =
+    let here = get_or-set_same way v x 0 long in
+    omega (
+      arith,
+      count_written nodes v x way b,
+      counts (word_of way v) m,
+      counts (word_of (slice_set way v x) v) (omega (arith, here)),
+    )
+
 -- one node more is reached
 pub count_attached : (nodes v x : ℕ) (way : List ℕ) → v < nodes → v < length way → word_of way v ≡ 0 → 0 < x →
     reached_count nodes (slice_set way v x) ≡ reached_count nodes way + 1

@@ -1,5 +1,5 @@
 -- Nodes are freed, one after another.
-use Rattle.std.proofs.Common.{ℕ, nat_lt, ◌≡◌, ◌≢◌, ◌+◌, ◌-◌, ◌<◌, ◌≤◌, List, length, replicate, slice_index, slice_set}
+use Rattle.std.proofs.Common.{ℕ, nat_lt, ◌≡◌, ◌≢◌, ◌+◌, ◌-◌, ◌<◌, ◌≤◌, ◌⊎◌, List, length, replicate, slice_index, slice_set}
 use Rattle.std.proofs.Common.{refl, arith, ap, sym, subst, inl, inr, ◌∙◌}
 use Rattle.std.proofs.lemmas.Bool.{cases_eq, cases_lt}
 use Rattle.std.proofs.lemmas.List.{get_or-set_other, get_or-set_same, get_or-replicate, length-set, length-replicate}
@@ -9,9 +9,11 @@ use Rattle.circulation.specs.Contents.{Contents, network, flow_of, arcs, step_of
 use Rattle.circulation.specs.Residual.{arc_of, start_of, end_of, room_of}
 use Rattle.residual_tree.specs.declared.TheConstants.{ROOT}
 use Rattle.residual_tree.specs.Tree.{word_of, IsReached}
-use Rattle.residual_tree.specs.Growth.{Stands, none, IsFreeing, IsWornTree}
+use Rattle.residual_tree.specs.Growth.{Stands, none, IsFreeing, IsWornTree, IsWayIn}
+use Rattle.residual_tree.specs.Hanging.{IsClear, IsHung, IsFreedNode}
 use Rattle.circulation.proofs.Scans.{end_within}
-use Rattle.residual_tree.proofs.Changes.{count_most, count_freed, stands_more, stands_here, stands_or, freed_word}
+use Rattle.residual_tree.proofs.Hangs.{tree_hang}
+use Rattle.residual_tree.proofs.Changes.{count_most, count_freed, count_kept, stands_more, stands_here, stands_or, freed_word}
 use Rattle.residual_tree.proofs.Changes.{tree_free, tree_map}
 
 -- a node with a step is a basin node
@@ -152,22 +154,78 @@ past_firm c way freed at last done size s is f firm = record {
   few = f.few;
 }
 
--- a scratch word was tried, and the end of its step freed if it was reached by it and it has no room
+-- a node that hangs on another step is not freed
+hung_state : (c : Contents) (way freed : List ℕ) (at last size v t : ℕ) → IsFreeing c way freed at last 0 size →
+    v < c.nodes → IsReached way v → IsWayIn c way v t → IsClear c way v (start_of (network c) t) →
+    IsFreeing c (slice_set way v (t + 1)) freed at last 0 size
+hung_state c way freed at last size v t f b m in_t clear = record {
+  tree = tree_hang c way (Stands c.scratch at last) (Stands freed 0 size) (Stands freed 0 size) none v t f.tree b m in_t
+      clear;
+  order = f.order;
+  places = f.places;
+  within = f.within;
+  few = omega (
+    arith,
+    count_kept c.nodes v (t + 1) way b (omega (arith, f.tree.words, b)) m (omega arith),
+    f.few,
+  );
+}
+
+-- a step has no room, and the node that hung on it hangs on another one
+hung_next : (c : Contents) (way freed way' freed' : List ℕ) (at last size size' s : ℕ) → IsCirculation c →
+    arc_of s < arcs c → s ≡ step_of c at → IsFreeing c way freed at last 0 size →
+    word_of way (end_of (network c) s) ≡ s + 1 → IsHung c way way' freed freed' size size' (end_of (network c) s) →
+    IsFreeing c way' freed' (at + 1) last 0 size'
+hung_next c way freed way' freed' at last size size' s k b is f on h =
+    let v = end_of (network c) s in
+    let t = h.step in
+    let inner : v < c.nodes = basin_end c way s v k b (end_within c s k b) f.tree.root on in
+    let long : v < length way = omega (arith, f.tree.words, inner) in
+    let here : word_of (slice_set way v (t + 1)) v ≡ t + 1 = get_or-set_same way v (t + 1) 0 long in
+    let hung = hung_state c way freed at last size v t f inner (omega (arith, on)) h.in_step h.clear in
+    let next = past_firm c (slice_set way v (t + 1)) freed at last 0 size s is hung (λ u d m e same.
+    let node : u ≡ v = sym e ∙ ap (end_of (network c)) same in
+    let own : word_of (slice_set way v (t + 1)) u - 1 ≡ t =
+    omega (arith, ap (word_of (slice_set way v (t + 1))) node, here) in
+    subst (λ (x : ℕ). 0 < room_of (network c) (flow_of c) x) (sym own) h.in_step.room) in
+    subst (λ (x : List ℕ). IsFreeing c x freed' (at + 1) last 0 size') (sym h.words)
+    (subst (λ (x : List ℕ). IsFreeing c (slice_set way v (t + 1)) x (at + 1) last 0 size') (sym h.same)
+    (subst (λ (n : ℕ). IsFreeing c (slice_set way v (t + 1)) freed (at + 1) last 0 n) (sym h.none) next))
+
+-- a step has no room, and the node that it enters was freed if it was reached by it
+freed_next : (c : Contents) (way freed way' freed' : List ℕ) (at last size size' s : ℕ) → IsCirculation c →
+    arc_of s < arcs c → s ≡ step_of c at → IsFreeing c way freed at last 0 size →
+    (word_of way (end_of (network c) s) ≡ s + 1 → (size' ≡ size + 1) × (way' ≡ slice_set way (end_of (network c) s) 0) ×
+    (freed' ≡ slice_set freed size (end_of (network c) s))) →
+    (word_of way (end_of (network c) s) ≢ s + 1 → (size' ≡ size) × (way' ≡ way) × (freed' ≡ freed)) →
+    IsFreeing c way' freed' (at + 1) last 0 size'
+freed_next c way freed way' freed' at last size size' s k b is f child other =
+    let done = freeing_end c way freed way' freed' at last 0 size size' s k b f child other in
+    past_firm c way' freed' at last 0 size' s is done.next
+    (λ u d m e same. absurd (done.gone
+    (ap (word_of way') (sym (ap (end_of (network c)) same) ∙ e) ∙ omega (arith, m, same))))
+
+-- a scratch word was tried: where its step has no room, the node that it reached hangs on another one or was freed
 pub loosen_next : (c : Contents) (way freed way' freed' : List ℕ) (at last size size' s : ℕ) → IsCirculation c →
     arc_of s < arcs c → s ≡ step_of c at → IsFreeing c way freed at last 0 size →
     (word_of way (end_of (network c) s) ≡ s + 1 → room_of (network c) (flow_of c) s ≡ 0 →
-    (size' ≡ size + 1) × (way' ≡ slice_set way (end_of (network c) s) 0) ×
-    (freed' ≡ slice_set freed size (end_of (network c) s))) →
+    IsHung c way way' freed freed' size size' (end_of (network c) s) ⊎
+    IsFreedNode way way' freed freed' size size' (end_of (network c) s)) →
     (word_of way (end_of (network c) s) ≢ s + 1 → (size' ≡ size) × (way' ≡ way) × (freed' ≡ freed)) →
     (0 < room_of (network c) (flow_of c) s → (size' ≡ size) × (way' ≡ way) × (freed' ≡ freed)) →
     IsFreeing c way' freed' (at + 1) last 0 size'
 loosen_next c way freed way' freed' at last size size' s k b is f worn other firm =
     elim (cases_eq (room_of (network c) (flow_of c) s) 0) [
-      | inl empty ↦
-          let done = freeing_end c way freed way' freed' at last 0 size size' s k b f (λ e. worn e empty) other in
-          past_firm c way' freed' at last 0 size' s is done.next
-          (λ u d m e same. absurd (done.gone
-          (ap (word_of way') (sym (ap (end_of (network c)) same) ∙ e) ∙ omega (arith, m, same))))
+      | inl empty ↦ elim (cases_eq (word_of way (end_of (network c) s)) (s + 1)) [
+        | inl on ↦ elim (worn on empty) [
+          | inl hung ↦ hung_next c way freed way' freed' at last size size' s k b is f on hung
+          | inr gone ↦
+              freed_next c way freed way' freed' at last size size' s k b is f
+              (λ e. (gone.more, gone.words, gone.last)) other
+        ]
+        | inr ne ↦
+            freed_next c way freed way' freed' at last size size' s k b is f (λ e. absurd (ne e)) other
+      ]
       | inr some ↦
           let e = firm (omega arith) in
           let next = past_firm c way freed at last 0 size s is f

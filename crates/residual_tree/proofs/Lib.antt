@@ -1,6 +1,7 @@
 pub mod Marked
 pub mod Opposites
 pub mod Changes
+pub mod Hangs
 pub mod Frees
 pub mod Grows
 pub mod Seeds

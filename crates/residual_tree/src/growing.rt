@@ -14,7 +14,7 @@ use circulation::Lent;
 
 /// Whether the opposite of a step to a node is a way into the node that the step leaves: it has room, and comes from a
 /// node that is reached.
-fn is_way_back(circ: &Lent<'_>, way: &Words<'_>, step: u64, node: u32) -> bool
+pub fn is_way_back(circ: &Lent<'_>, way: &Words<'_>, step: u64, node: u32) -> bool
     requires arc { arc_of step < arcs circ.now }
     requires node { end_of (network circ.now) step ≡ node }
     requires inside { node ≤ circ.now.nodes }
@@ -223,14 +223,13 @@ fn spread_out(circ: &Lent<'_>, way: &mut Words<'_>, queue: &mut [u64]) -> usize
     count
 }
 
-/// Reaches all nodes to which steps lead from the outside, and no others.
+/// Reaches all nodes to which steps lead from the outside, where none is reached.
 pub fn grow_out(circ: &Lent<'_>, way: &mut Words<'_>, queue: &mut [u64])
-    requires words { length way.old ≡ circ.now.nodes + 1 }
+    requires bare { way.old ≡ replicate (circ.now.nodes + 1) 0 }
     requires places { length queue.old ≡ circ.now.nodes }
     requires kept { IsCirculation circ.now }
     ensures { IsResidualTree circ.now way.new }
 {
-    way.clear();
     way.set(circ.nodes(), ROOT);
     let size = spread_out(circ, way, queue);
     spread(circ, way, queue, size);

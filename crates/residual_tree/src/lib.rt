@@ -18,6 +18,7 @@ ghost use Rattle.residual_tree.specs.TreeWords.{tree_words};
 
 mod freeing;
 mod growing;
+mod hanging;
 pub mod laws;
 mod parts;
 mod raising;
@@ -63,25 +64,17 @@ impl<'t> Model for ResidualTree<'t> {
 }
 
 impl<'t> ResidualTree<'t> {
-    /// A tree for so many basin nodes, which reaches none yet, in these words.
-    pub fn over(nodes: u32, words: &'t mut [u64]) -> ResidualTree<'t>
-        requires { length words.old ≡ tree_words nodes }
-        ensures { result ≡ replicate (nodes + 1) 0 }
+    /// The tree that grows from the outside alone, over all steps with room, in these words, which may be any.
+    pub fn plant(circ: &Lent<'_>, words: &'t mut [u64]) -> ResidualTree<'t>
+        requires { length words.old ≡ tree_words circ.now.nodes }
+        ensures { IsResidualTree circ.now result }
     {
+        let nodes = circ.nodes();
         let (way, words) = words.split_at_mut(nodes as usize + 1);
         let (dry, room) = words.split_at_mut(words_for(nodes));
-        let way = Words::over(way, dry);
+        let mut way = Words::over(way, dry);
+        grow_all(circ, room, &mut way);
         ResidualTree { way, room }
-    }
-
-    /// Grows the tree from the outside alone, over all steps with room.
-    pub fn plant(&mut self, circ: &Lent<'_>)
-        requires { length self.old ≡ circ.now.nodes + 1 }
-        ensures { IsResidualTree circ.now self.new }
-    {
-        // This call tells that the circulation is kept.
-        let _nodes = circ.nodes();
-        grow_all(circ, self.room, &mut self.way);
     }
 
     /// Repairs the tree after steps may have lost their room: those that stand in `count` scratch words from word

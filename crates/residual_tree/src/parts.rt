@@ -1,6 +1,6 @@
 //! What is done in the three parts of a tree's room: the nodes that are freed, those that are reached again, and the
 //! ways that are found.
-ghost use Rattle.std.specs.Prelude.{◌≡◌, ℕ, ◌+◌, ◌*◌, ◌<◌, ◌≤◌, length, slice_index};
+ghost use Rattle.std.specs.Prelude.{◌≡◌, ℕ, ◌+◌, ◌*◌, ◌<◌, ◌≤◌, length, replicate, slice_index};
 ghost use Rattle.circulation.specs.Contents.{arcs, step_of, IsCirculation};
 ghost use Rattle.circulation.specs.Residual.{arc_of};
 ghost use Rattle.residual_tree.specs.Tree.{word_of, IsReached, IsResidualTree};
@@ -14,7 +14,7 @@ use circulation::Lent;
 /// Grows the tree from the outside alone.
 pub fn grow_all(circ: &Lent<'_>, room: &mut [u64], way: &mut Words<'_>)
     requires room { length room.old ≡ 3 * circ.now.nodes }
-    requires words { length way.old ≡ circ.now.nodes + 1 }
+    requires bare { way.old ≡ replicate (circ.now.nodes + 1) 0 }
     requires kept { IsCirculation circ.now }
     ensures { IsResidualTree circ.now way.new }
 {

@@ -57,14 +57,6 @@ impl<'t> Words<'t> {
         }
     }
 
-    /// Gives each node the word 0.
-    pub fn clear(&mut self)
-        ensures { self.new ≡ replicate (length self.old) 0 }
-    {
-        self.way.fill(0);
-        self.dry.fill(u64::MAX);
-    }
-
     /// The marks of the basin nodes, 64 to a word: a node is marked where its word is 0. The bits above the last one's
     /// mean nothing.
     pub fn dry(&self) -> &[u64]

@@ -16,6 +16,7 @@ pub mod Solves
 pub mod Turns
 pub mod Rivers
 pub mod Spilled
+pub mod SpilledStarts
 pub mod TreeServes
 pub mod SettledPlans
 pub mod Budget

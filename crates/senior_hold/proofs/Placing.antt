@@ -1,6 +1,6 @@
 -- The places of the circulation and the tree, and their words while they are lent.
 use Rattle.std.proofs.Common.{ℕ, ◌≡◌, ◌≢◌, ◌+◌, ◌-◌, ◌^◌, ◌<◌, ◌≤◌, List, ◌++◌, length, take, drop, refl, arith, ap}
-use Rattle.std.proofs.Common.{sym, subst, ◌∙◌}
+use Rattle.std.proofs.Common.{sym, subst, ◌∙◌, length-drop, length-take-le}
 use Rattle.std.specs.Prelude.{All}
 use Rattle.std.proofs.lemmas.List.{take_at, take_all, take-take, drop_at, length-append}
 use Rattle.word_region.specs.Words.{Words, words_at, with_words, zeroed}
@@ -13,15 +13,15 @@ use Rattle.water_model.proofs.Balance.{ends}
 use Rattle.circulation.specs.declared.Circulation.{Circulation}
 use Rattle.circulation.specs.declared.Ends.{Ends}
 use Rattle.circulation.specs.Rows.{Rows}
-use Rattle.circulation.specs.Contents.{Contents, network, emptied, empty_contents}
-use Rattle.circulation.specs.Places.{tails, heads, fixed_count, AreWordsOf, HasWords, Holds}
+use Rattle.circulation.specs.Contents.{empty_contents}
+use Rattle.circulation.specs.Places.{tails, heads, fixed_count, AreFixedOf, Holds}
 use Rattle.circulation.proofs.Lends.{written_place}
-use Rattle.circulation.proofs.Holding.{held_when_taken}
+use Rattle.circulation.proofs.Holding.{held_when_taken, holds_arcs}
 use Rattle.residual_tree.specs.TreeWords.{tree_words}
 use Rattle.senior_hold.specs.MonthNetwork.{arc_count, takes, HasBasinEnds}
 use Rattle.senior_hold.specs.Arcs.{AreEnds}
 use Rattle.senior_hold.specs.Spilled.{spilled}
-use Rattle.senior_hold.specs.Places.{HasParts, HasPlaces}
+use Rattle.senior_hold.specs.Places.{HasArcs, HasParts, HasPlaces}
 use Rattle.senior_hold.specs.declared.places.Places.{Places}
 use Rattle.senior_hold.proofs.Laid.{laid_ends, laid_fits, links_apart}
 use Rattle.senior_hold.proofs.MonthArcs.{right_kind}
@@ -53,7 +53,8 @@ places_opened b es r circ tree nodes rows laid count held fits at next =
     let len = ap (λ (p : Place). p.len) at in
     record {
       contents = empty_contents nodes (tails es) (heads es) rows;
-      held = held_when_taken r (tree_words nodes) circ (empty_contents nodes (tails es) (heads es) rows) fits held;
+      held = holds_arcs _ circ (empty_contents nodes (tails es) (heads es) rows)
+          (held_when_taken r (tree_words nodes) circ (empty_contents nodes (tails es) (heads es) rows) fits held);
       ends = laid_ends (spilled b) es (empty_contents nodes (tails es) (heads es) rows) laid
           (count ∙ sym (spilled_count b)) refl refl;
       next = from ∙ next;
@@ -80,39 +81,27 @@ parts_lent b r p fixed moving tree h l =
     let n = fixed_count p.circ.nodes p.circ.arcs in
     let held : l.held ≡ words_at r.words p.circ.place = l.front ∙ ap (take p.circ.place.len) l.is
     ∙ place_front r.words p.circ.place p.tree.len in
-    let one = subst (λ (xs : List ℕ). AreWordsOf p.circ h.contents xs (drop n (words_at r.words p.circ.place)))
-    (sym (l.first ∙ ap (take n) held)) h.held.words in
+    let long : length l.held ≡ p.circ.place.len = ap length l.front
+    ∙ length-take-le p.circ.place.len l.words (omega (arith, l.count)) in
     record {
-      contents = h.contents;
-      words = subst (λ (xs : List ℕ). AreWordsOf p.circ h.contents fixed xs) (sym (l.rest ∙ ap (drop n) held)) one;
-      ends = h.ends;
+      arcs = record {
+        contents = h.contents;
+        fixed = subst (λ (xs : List ℕ). AreFixedOf p.circ h.contents xs) (sym (l.first ∙ ap (take n) held)) h.held.fixed;
+        ends = h.ends;
+        count = ap length l.rest ∙ length-drop n l.held ∙ ap (λ (k : ℕ). k - n) (long ∙ h.held.size);
+      };
       size = omega (arith, l.back, l.count, h.size);
     }
 
--- the arcs keep their ends when the circulation is emptied
-ends_emptied : (b : Basin) (c : Contents) (scratch : List ℕ) → HasBasinEnds b (network c) →
-    HasBasinEnds b (network (emptied c scratch))
-ends_emptied b c scratch h = record {
-  nodes = h.nodes;
-  arcs = h.arcs;
-  link_from = h.link_from;
-  link_to = h.link_to;
-  take_from = h.take_from;
-  take_to = h.take_to;
-  out_from = h.out_from;
-  out_to = h.out_to;
-}
-
--- the places when the words were given back
-pub places_again : (b : Basin) (r : Words) (p : Places) (fixed moving new tree scratch : List ℕ) (c : Contents) →
-    HasPlaces b r p → HasBasinEnds (spilled b) (network c) → AreWordsOf p.circ (emptied c scratch) fixed new →
-    length fixed ≡ fixed_count p.circ.nodes p.circ.arcs → length fixed + length new ≡ p.circ.place.len →
-    length tree ≡ p.tree.len →
+-- the places hold the same when the words that change were written
+pub places_again : (b : Basin) (r : Words) (p : Places) (fixed moving new tree : List ℕ) → HasPlaces b r p →
+    HasArcs b p.circ fixed moving → length fixed ≡ fixed_count p.circ.nodes p.circ.arcs →
+    length fixed + length new ≡ p.circ.place.len → length tree ≡ p.tree.len →
     HasPlaces b (record {
       words = take (length r.words) (with_words r.words (both_of p).from ((fixed ++ new) ++ tree));
       used = r.used;
     }) p
-places_again b r p fixed moving new tree scratch c h ends w front all size =
+places_again b r p fixed moving new tree h a front all size =
     let n = fixed_count p.circ.nodes p.circ.arcs in
     let held = fixed ++ new in
     let long : length held ≡ p.circ.place.len = length-append fixed new ∙ all in
@@ -126,18 +115,15 @@ places_again b r p fixed moving new tree scratch c h ends w front all size =
     let place : words_at words p.circ.place ≡ held = sym (place_front words p.circ.place p.tree.len)
     ∙ ap (take p.circ.place.len) (written_place r.words (held ++ tree) (both_of p) whole fits)
     ∙ take_at held tree p.circ.place.len long in
-    let one = subst (λ (xs : List ℕ). AreWordsOf p.circ (emptied c scratch) xs new)
-    (sym (take_at fixed new n front)) w in
-    let two = subst (λ (xs : List ℕ). AreWordsOf p.circ (emptied c scratch) (take n held) xs)
-    (sym (drop_at fixed new n front)) one in
+    let first : take n (words_at words p.circ.place) ≡ fixed = ap (take n) place ∙ take_at fixed new n front in
     record {
-      contents = emptied c scratch;
+      contents = a.contents;
       held = record {
         used = h.held.used;
         size = h.held.size;
-        words = subst (HasWords p.circ (emptied c scratch)) (sym place) two;
+        fixed = subst (λ (xs : List ℕ). AreFixedOf p.circ a.contents xs) (sym first) a.fixed;
       };
-      ends = ends_emptied (spilled b) c scratch ends;
+      ends = a.ends;
       next = h.next;
       size = h.size;
       used = h.used;

@@ -1,10 +1,10 @@
 -- Where the circulation and the tree of a solver lie.
-use Rattle.std.specs.Prelude.{ℕ, ◌≡◌, ◌+◌, ◌≤◌, List, length}
+use Rattle.std.specs.Prelude.{ℕ, ◌≡◌, ◌+◌, ◌-◌, ◌≤◌, List, length}
 use Rattle.water_model.specs.declared.types.Basin.{Basin}
 use Rattle.word_region.specs.Words.{Words, IsUsed}
 use Rattle.circulation.specs.declared.Circulation.{Circulation}
 use Rattle.circulation.specs.Contents.{Contents, network}
-use Rattle.circulation.specs.Places.{word_count, AreWordsOf, Holds}
+use Rattle.circulation.specs.Places.{word_count, fixed_count, AreFixedOf, HoldsArcs}
 use Rattle.residual_tree.specs.TreeWords.{tree_words}
 use Rattle.senior_hold.specs.MonthNetwork.{arc_count, HasBasinEnds}
 use Rattle.senior_hold.specs.Spilled.{spilled}
@@ -14,17 +14,22 @@ use Rattle.senior_hold.specs.declared.places.Places.{Places}
 abbrev pub month_words : Basin → ℕ
 month_words b = word_count (length b.nodes) (arc_count (spilled b)) + tree_words (length b.nodes)
 
--- the words are those of a circulation over the basin's arcs, and those of a tree
-pub record HasParts (b : Basin) (circ : Circulation) (fixed moving tree : List ℕ) : Type 0 where
+-- of these words, those that never change are those of a circulation over the basin's arcs
+pub record HasArcs (b : Basin) (circ : Circulation) (kept moved : List ℕ) : Type 0 where
   pub contents : Contents
-  pub words : AreWordsOf circ contents fixed moving
+  pub fixed : AreFixedOf circ contents kept
   pub ends : HasBasinEnds (spilled b) (network contents)
+  pub count : length moved ≡ word_count circ.nodes circ.arcs - fixed_count circ.nodes circ.arcs
+
+-- and there are the words of a tree
+pub record HasParts (b : Basin) (circ : Circulation) (fixed moving tree : List ℕ) : Type 0 where
+  pub arcs : HasArcs b circ fixed moving
   pub size : length tree ≡ tree_words (length b.nodes)
 
--- the region holds a circulation over the basin's arcs, and behind it lies the tree
+-- the region holds the basin's arcs, and behind them lies the tree
 pub record HasPlaces (b : Basin) (r : Words) (p : Places) : Type 0 where
   pub contents : Contents
-  pub held : Holds r p.circ contents
+  pub held : HoldsArcs r p.circ contents
   pub ends : HasBasinEnds (spilled b) (network contents)
   pub next : p.tree.from ≡ p.circ.place.from + p.circ.place.len
   pub size : p.tree.len ≡ tree_words (length b.nodes)

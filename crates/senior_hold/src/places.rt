@@ -14,7 +14,7 @@ use crate::search_sweep::solve_by_searches;
 use crate::solver::{Layout, Room};
 use crate::tree_sweep::{Sweep, solve_by_tree};
 use circulation::{Circulation, Ends, words};
-use residual_tree::{ResidualTree, tree_words};
+use residual_tree::tree_words;
 use std::sync::ledger::Ledger;
 use steps::Steps;
 use water_model::cut_list::CutList;
@@ -102,19 +102,16 @@ fn sweep_lent<L: Ledger>(
     ensures search_pushes { way ≡ Way.Searches →
         searches.new ≤ searches.old + length basin.now.rights * (30 * (2 * arc_count basin.now + 1)) }
 {
-    let mut circ = circ.lend(fixed, moving);
     match way {
         Way::Tree => {
-            let nodes = circ.nodes();
-            let mut tree = ResidualTree::over(nodes, tree);
             solve_by_tree(
-                basin, layout, room, &mut circ, &mut tree, month, supply, want, plan, cuts,
+                basin, layout, room, circ, fixed, moving, tree, month, supply, want, plan, cuts,
                 searches,
             )
         }
         Way::Searches => {
             solve_by_searches(
-                basin, layout, room, &mut circ, month, supply, want, plan, cuts, searches,
+                basin, layout, room, circ, fixed, moving, month, supply, want, plan, cuts, searches,
             );
             Sweep::Solved
         }
@@ -161,10 +158,8 @@ pub fn sweep<L: Ledger>(
     let words = region.words_mut(both);
     let (held, tree) = words.split_at_mut(circ.place.len);
     let (fixed, moving) = held.split_at_mut(circ.fixed());
-    let answer = sweep_lent(
+    sweep_lent(
         way, basin, layout, room, circ, fixed, moving, tree, month, supply, want, plan, cuts,
         searches,
-    );
-    circ.give_back(fixed, moving);
-    answer
+    )
 }

@@ -10,12 +10,13 @@ ghost use Rattle.river_net.specs.Net.{IsNet};
 ghost use Rattle.senior_hold.specs.MonthNetwork.{arc_count, HasBasinEnds};
 ghost use Rattle.senior_hold.specs.Solved.{FitsPlan, FitsCuts, AreSupplies, AreWants, IsGiven, IsSolved};
 ghost use Rattle.senior_hold.specs.Layouts.{IsLayout, FitsRoom, IsBegun};
+ghost use Rattle.senior_hold.specs.Places.{HasArcs};
 ghost use Rattle.senior_hold.specs.Spilled.{spilled};
 
 use crate::amounts::{lay, read_plan, write_bounds, write_outlets};
 use crate::serving::serve;
 use crate::solver::{Layout, Room};
-use circulation::Lent;
+use circulation::{Circulation, Lent};
 use river_net::Net;
 use std::sync::ledger::Ledger;
 use steps::Steps;
@@ -37,28 +38,31 @@ fn run_river(basin: &Basin, net: &Net, supply: &[u64], plan: &mut Plan)
     net.natural(supply, plan.flow.as_mut_slice(), plan.out.as_mut_slice());
 }
 
-/// Starts a month from the run of the river, with no arc held. Where a node is no outlet, its spill carries nothing.
-fn begin_river(
+/// Starts a month from the run of the river, with no arc held. Where a node is no outlet, its spill carries nothing. The
+/// words that change may be any.
+fn begin_river<'r>(
     basin: &Basin,
     layout: &Layout,
     room: &mut Room,
-    circ: &mut Lent<'_>,
+    held: &Circulation,
+    fixed: &'r [u64],
+    moving: &'r mut [u64],
     month: Month,
     supply: &[u64],
     want: &[u64],
     plan: &mut Plan,
-)
+) -> Lent<'r>
     requires valid { IsValidBasin basin.now }
     requires layout { IsLayout basin.now layout.now }
     requires room { FitsRoom basin.now room.old }
-    requires ends { HasBasinEnds (spilled basin.now) (network circ.old) }
+    requires arcs { HasArcs basin.now held.now fixed.now moving.old }
     requires month { IsMonth month }
     requires supply { AreSupplies basin.now supply.now }
     requires want { AreWants basin.now month want.now }
     requires plan { FitsPlan basin.now plan.old }
     ensures room { FitsRoom basin.now room.new }
     ensures fits { FitsPlan basin.now plan.new }
-    ensures begun { IsBegun basin.now month supply.now want.now circ.new plan.new }
+    ensures begun { IsBegun basin.now month supply.now want.now result plan.new }
 {
     write_outlets(basin, room.most.out.as_mut_slice());
     write_bounds(
@@ -71,7 +75,7 @@ fn begin_river(
     );
     run_river(basin, &layout.net, supply, plan);
     lay(basin, &layout.arcs, plan, &mut room.start);
-    circ.begin_month(supply, &room.upper, &room.start);
+    held.lend_month(fixed, moving, supply, &room.upper, &room.start)
 }
 
 /// Serves the rights, seniors first, and reads the plan.
@@ -79,7 +83,9 @@ pub fn solve_by_searches<L: Ledger>(
     basin: &Basin,
     layout: &Layout,
     room: &mut Room,
-    circ: &mut Lent<'_>,
+    held: &Circulation,
+    fixed: &[u64],
+    moving: &mut [u64],
     month: Month,
     supply: &[u64],
     want: &[u64],
@@ -90,23 +96,24 @@ pub fn solve_by_searches<L: Ledger>(
     requires valid { IsValidBasin basin.now }
     requires layout { IsLayout basin.now layout.now }
     requires room { FitsRoom basin.now room.old }
-    requires ends { HasBasinEnds (spilled basin.now) (network circ.old) }
+    requires arcs { HasArcs basin.now held.now fixed.now moving.old }
     requires month { IsMonth month }
     requires given { IsGiven basin.now month supply.now want.now plan.old cuts.old }
     ensures fits_room { FitsRoom basin.now room.new }
-    ensures ends { HasBasinEnds (spilled basin.now) (network circ.new) }
     ensures plan { FitsPlan basin.now plan.new }
     ensures cuts { FitsCuts basin.now cuts.new }
     ensures solved { IsSolved basin.now month supply.now want.now plan.new cuts.new }
     ensures pushes { searches.new ≤ searches.old + length basin.now.rights * (30 * (2 * arc_count basin.now + 1)) }
 {
-    begin_river(basin, layout, room, circ, month, supply, want, plan);
+    let mut circ = begin_river(
+        basin, layout, room, held, fixed, moving, month, supply, want, plan,
+    );
     let order = layout.roll.by_seniority();
     for turn in 0..order.len() {
         let right = order[turn];
         let place = right as usize;
         serve(
-            circ,
+            &mut circ,
             layout.arcs.rights[place],
             want[place],
             right,
@@ -114,5 +121,5 @@ pub fn solve_by_searches<L: Ledger>(
             searches,
         );
     }
-    read_plan(basin, circ, &layout.arcs, plan);
+    read_plan(basin, &circ, &layout.arcs, plan);
 }

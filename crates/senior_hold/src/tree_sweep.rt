@@ -13,12 +13,13 @@ ghost use Rattle.river_net.specs.Net.{total_of};
 ghost use Rattle.senior_hold.specs.MonthNetwork.{HasBasinEnds};
 ghost use Rattle.senior_hold.specs.Solved.{FitsPlan, FitsCuts, AreSupplies, AreWants, IsGiven, IsSolved};
 ghost use Rattle.senior_hold.specs.Layouts.{IsLayout, FitsRoom};
+ghost use Rattle.senior_hold.specs.Places.{HasArcs, HasParts};
 ghost use Rattle.senior_hold.specs.Spilled.{spilled, spills_of, HasSpills, IsSpilledStart, IsSettledPlan};
 
-use crate::amounts::{RIVER_CARRY, lay, read_links, read_spills, read_takes, write_bounds};
+use crate::amounts::{RIVER_CARRY, read_links, read_spills, read_takes, write_bounds};
 use crate::pulls::{Turn, serve_by_tree};
 use crate::solver::{Layout, Room};
-use circulation::Lent;
+use circulation::{Circulation, Lent};
 use residual_tree::ResidualTree;
 use std::sync::ledger::Ledger;
 use steps::Steps;
@@ -29,44 +30,27 @@ use water_text::month::Month;
 /// The pushes that a month may have for each of its rights.
 const PUSHES_PER_RIGHT: u32 = 30;
 
-/// Writes the plan that lets all supply out where it comes in.
-fn spill_all(basin: &Basin, supply: &[u64], plan: &mut Plan)
-    requires valid { IsValidBasin basin.now }
-    requires supply { AreSupplies basin.now supply.now }
-    requires plan { FitsPlan basin.now plan.old }
-    ensures fits { FitsPlan basin.now plan.new }
-    ensures plan { (month : Month) (want : List ℕ) → IsPlan (spilled basin.now) month supply.now want plan.new }
-    ensures small { (n : ℕ) → n < length basin.now.nodes → slice_index plan.new.out n ≤ 10 ^ 15 }
-    ensures still { (e : ℕ) → e < length basin.now.links → slice_index plan.new.flow e ≡ 0 }
-    ensures all { plan.new.out ≡ supply.now }
-{
-    plan.flow.as_mut_slice().fill(0);
-    plan.take.as_mut_slice().fill(0);
-    plan.out.as_mut_slice().copy_from_slice(supply);
-}
-
-/// Starts a month with all supply spilled where it comes in, and with no arc held.
-fn begin_spilled(
+/// Starts a month with all supply spilled where it comes in, and with no arc held. The words that change may be any.
+fn begin_spilled<'r>(
     basin: &Basin,
     layout: &Layout,
     room: &mut Room,
-    circ: &mut Lent<'_>,
+    held: &Circulation,
+    fixed: &'r [u64],
+    moving: &'r mut [u64],
     month: Month,
     supply: &[u64],
     want: &[u64],
-    plan: &mut Plan,
-)
+) -> Lent<'r>
     requires valid { IsValidBasin basin.now }
     requires layout { IsLayout basin.now layout.now }
     requires room { FitsRoom basin.now room.old }
-    requires ends { HasBasinEnds (spilled basin.now) (network circ.old) }
+    requires arcs { HasArcs basin.now held.now fixed.now moving.old }
     requires month { IsMonth month }
     requires supply { AreSupplies basin.now supply.now }
     requires want { AreWants basin.now month want.now }
-    requires plan { FitsPlan basin.now plan.old }
     ensures room { FitsRoom basin.now room.new }
-    ensures fits { FitsPlan basin.now plan.new }
-    ensures start { IsSpilledStart basin.now month supply.now want.now circ.new }
+    ensures start { IsSpilledStart basin.now month supply.now want.now result }
 {
     room.most.out.as_mut_slice().fill(RIVER_CARRY);
     write_bounds(
@@ -77,9 +61,8 @@ fn begin_spilled(
         &mut room.most,
         &mut room.upper,
     );
-    spill_all(basin, supply, plan);
-    lay(basin, &layout.arcs, plan, &mut room.start);
-    circ.begin_month(supply, &room.upper, &room.start);
+    // The spills are the last arcs, in the order of the nodes.
+    held.lend_month(fixed, moving, supply, &room.upper, supply)
 }
 
 /// An arc from the head of an arc to the outside, unless the head is the outside.
@@ -151,8 +134,10 @@ pub fn solve_by_tree<L: Ledger>(
     basin: &Basin,
     layout: &Layout,
     room: &mut Room,
-    circ: &mut Lent<'_>,
-    tree: &mut ResidualTree<'_>,
+    held: &Circulation,
+    fixed: &[u64],
+    moving: &mut [u64],
+    words: &mut [u64],
     month: Month,
     supply: &[u64],
     want: &[u64],
@@ -163,31 +148,30 @@ pub fn solve_by_tree<L: Ledger>(
     requires valid { IsValidBasin basin.now }
     requires layout { IsLayout basin.now layout.now }
     requires room { FitsRoom basin.now room.old }
-    requires ends { HasBasinEnds (spilled basin.now) (network circ.old) }
-    requires tree { length tree.old ≡ length basin.now.nodes + 1 }
+    requires parts { HasParts basin.now held.now fixed.now moving.old words.old }
     requires month { IsMonth month }
     requires given { IsGiven basin.now month supply.now want.now plan.old cuts.old }
     ensures fits_room { FitsRoom basin.now room.new }
-    ensures ends { HasBasinEnds (spilled basin.now) (network circ.new) }
-    ensures tree { length tree.new ≡ length basin.now.nodes + 1 }
     ensures plan { FitsPlan basin.now plan.new }
     ensures cuts { FitsCuts basin.now cuts.new }
     ensures solved { result ≡ Sweep.Solved → IsSolved basin.now month supply.now want.now plan.new cuts.new }
     ensures pushes { searches.new ≤ searches.old + 30 * length basin.now.rights }
     ensures gave_up { result ≡ Sweep.GaveUp → searches.old + 29 * length basin.now.rights < searches.new }
 {
-    begin_spilled(basin, layout, room, circ, month, supply, want, plan);
-    tree.plant(circ);
+    let mut circ = begin_spilled(
+        basin, layout, room, held, fixed, moving, month, supply, want,
+    );
+    let mut tree = ResidualTree::plant(&circ, words);
     let order = layout.roll.by_seniority();
     let mut left = PUSHES_PER_RIGHT * order.len() as u32;
     for turn in 0..order.len() {
         let right = order[turn];
         let place = right as usize;
         let arc = layout.arcs.rights[place];
-        let exit = exit_of(circ, layout.arcs.spill, arc);
+        let exit = exit_of(&circ, layout.arcs.spill, arc);
         let turn = serve_by_tree(
-            circ,
-            tree,
+            &mut circ,
+            &mut tree,
             arc,
             exit,
             want[place],
@@ -200,6 +184,6 @@ pub fn solve_by_tree<L: Ledger>(
             return Sweep::GaveUp;
         }
     }
-    settle_plan(basin, layout, room, circ, plan);
+    settle_plan(basin, layout, room, &circ, plan);
     Sweep::Solved
 }

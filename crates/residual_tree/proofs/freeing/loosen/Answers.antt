@@ -17,3 +17,6 @@ loop-at-preserved c =
     c.args.last c.loop-at.size c.free_worn-size.result c.scratch_get-step.result c.requires.kept
     (omega (arith, c.scratch_get-step.ensures, arc)) c.scratch_get-step.ensures c.loop-at.invariant e.worn e.other
     e.firm
+
+pub free_worn-size-requires-clause-steps : goal.free_worn-size-requires-clause-steps
+free_worn-size-requires-clause-steps c = λ u d m. (c.loop-at.invariant.tree.branch u d m).arc

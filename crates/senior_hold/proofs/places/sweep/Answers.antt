@@ -2,8 +2,8 @@ use Rattle.std.proofs.Common.{ℕ, take, drop, arith, ap, ◌∙◌}
 use Rattle.senior_hold.proofs.Placing.{parts_lent, places_again}
 use Rattle.senior_hold.proofs.places.sweep.Goals as goal
 
-pub sweep_lent-answer-requires-clause-parts : goal.sweep_lent-answer-requires-clause-parts
-sweep_lent-answer-requires-clause-parts g c = parts_lent c.args.basin.now c.args.region.now c.args.places.now
+pub sweep_lent-requires-clause-parts : goal.sweep_lent-requires-clause-parts
+sweep_lent-requires-clause-parts g c = parts_lent c.args.basin.now c.args.region.now c.args.places.now
     c.split_at_mut-fixed.result.0.now c.split_at_mut-fixed.result.1.now c.split_at_mut-held.result.1.now
     c.requires.places
     record {
@@ -18,25 +18,6 @@ sweep_lent-answer-requires-clause-parts g c = parts_lent c.args.basin.now c.args
       rest = c.split_at_mut-fixed.ensures.back
           ∙ ap (λ (n : ℕ). drop n c.split_at_mut-held.result.0.now) c.fixed.ensures;
     }
-
-pub give_back-requires : goal.give_back-requires
-give_back-requires g c =
-    let parts = parts_lent c.args.basin.now c.args.region.now c.args.places.now
-    c.split_at_mut-fixed.result.0.now c.split_at_mut-fixed.result.1.now c.split_at_mut-held.result.1.now
-    c.requires.places
-    record {
-      held = c.split_at_mut-held.result.0.now;
-      words = c.words_mut-words.result.now;
-      is = c.words_mut-words.ensures.words;
-      count = c.words_mut-words.ensures.count;
-      front = c.split_at_mut-held.ensures.front;
-      back = c.split_at_mut-held.ensures.back_len;
-      first = c.split_at_mut-fixed.ensures.front
-          ∙ ap (λ (n : ℕ). take n c.split_at_mut-held.result.0.now) c.fixed.ensures;
-      rest = c.split_at_mut-fixed.ensures.back
-          ∙ ap (λ (n : ℕ). drop n c.split_at_mut-held.result.0.now) c.fixed.ensures;
-    } in
-    (parts.contents, (c.split_at_mut-fixed.result.1.now, (parts.words, c.sweep_lent-answer.auto.moving)))
 
 pub returns-clause-places : goal.returns-clause-places
 returns-clause-places g c =
@@ -55,19 +36,16 @@ returns-clause-places g c =
       rest = c.split_at_mut-fixed.ensures.back
           ∙ ap (λ (n : ℕ). drop n c.split_at_mut-held.result.0.now) c.fixed.ensures;
     } in
-    let moved = c.sweep_lent-answer.auto.moving in
-    let cleared = c.give_back.auto.moving in
+    let moved = c.sweep_lent.auto.moving in
     let long = c.split_at_mut-held.ensures.front_len in
     let front = c.split_at_mut-fixed.ensures.front_len in
     let back = c.split_at_mut-fixed.ensures.back_len in
-    let back_again = c.give_back.ensures parts.contents c.split_at_mut-fixed.result.1.now parts.words moved in
     places_again c.args.basin.now c.args.region.now c.args.places.now c.split_at_mut-fixed.result.0.now
-    c.split_at_mut-fixed.result.1.now c.give_back.new.moving c.sweep_lent-answer.new.tree back_again.0 parts.contents
-    c.requires.places parts.ends back_again.1
-    (front ∙ c.fixed.ensures) (omega (arith, moved, cleared, long, front, back))
+    c.split_at_mut-fixed.result.1.now c.sweep_lent.new.moving c.sweep_lent.new.tree c.requires.places parts.arcs
+    (front ∙ c.fixed.ensures) (omega (arith, moved, long, front, back))
     (omega (
       arith,
-      c.sweep_lent-answer.auto.tree,
+      c.sweep_lent.auto.tree,
       c.split_at_mut-held.ensures.back_len,
       c.words_mut-words.ensures.count,
     ))

@@ -15,9 +15,9 @@ use Rattle.senior_hold.proofs.search_sweep.solve_by_searches.Goals as goal
 pub loop-turn-init : goal.loop-turn-init
 loop-turn-init g c = record {
   standing = standing_start c.args.basin.now c.args.month c.args.supply.now c.args.want.now c.args.layout.now.roll.order
-      c.begin_river.new.circ c.args.cuts.now c.begin_river.new.plan c.args.plan.now c.begin_river.ensures.begun
+      c.begin_river-circ.result c.args.cuts.now c.begin_river-circ.new.plan c.args.plan.now c.begin_river-circ.ensures.begun
       c.requires.given;
-  outlets = c.begin_river.ensures.begun.outlets;
+  outlets = c.begin_river-circ.ensures.begun.outlets;
   first = λ e. refl;
   cost = omega arith;
 }
@@ -101,11 +101,11 @@ returns-clause-solved g c =
       o.count,
     ) in
     searched_solved c.args.basin.now c.args.month c.args.supply.now c.args.want.now c.args.layout.now.roll.order
-    c.loop-turn.circ c.begin_river.new.circ c.loop-turn.cuts c.read_plan.new.plan c.begin_river.new.plan
+    c.loop-turn.circ c.begin_river-circ.result c.loop-turn.cuts c.read_plan.new.plan c.begin_river-circ.new.plan
     (right_kind c.args.basin.now c.requires.valid) o
     (subst (λ n. IsStanding (spilled c.args.basin.now) c.args.month c.args.supply.now c.args.want.now
     c.args.layout.now.roll.order n c.loop-turn.circ c.loop-turn.cuts) all c.loop-turn.invariant.standing)
-    c.loop-turn.invariant.outlets c.read_plan.ensures c.begin_river.ensures.begun
+    c.loop-turn.invariant.outlets c.read_plan.ensures c.begin_river-circ.ensures.begun
     (λ h. c.loop-turn.invariant.first (all ∙ h))
 
 pub index-requires : goal.index-requires

@@ -1,65 +1,56 @@
-use Rattle.std.proofs.Common.{◌≡◌, ◌∙◌, ◌^◌, ◌<◌, ℕ, List, length, slice_index, arith, ap, sym}
+use Rattle.std.proofs.Common.{◌≡◌, ◌∙◌, ◌^◌, ◌<◌, ℕ, List, length, slice_index, arith, ap}
 use Rattle.std.proofs.lemmas.List.{with_items_is, get_or-replicate}
 use Rattle.senior_hold.specs.Spilled.{spilled}
 use Rattle.senior_hold.proofs.Lists.{whole_rows}
-use Rattle.senior_hold.proofs.SpilledArcs.{spilled_count}
-use Rattle.water_model.proofs.Carries.{carry_most}
-use Rattle.senior_hold.proofs.Begins.{start_is, bounds_over, amounts_over}
-use Rattle.senior_hold.proofs.Spilled.{spilled_wants, spilled_start}
+use Rattle.senior_hold.proofs.Begins.{bounds_over}
+use Rattle.senior_hold.proofs.SpilledStarts.{held_arcs, supplies_few, spilled_begins, spilled_begun}
 use Rattle.senior_hold.proofs.tree_sweep.begin_spilled.Goals as goal
 
-pub begin_month-requires : goal.begin_month-requires
-begin_month-requires c =
+pub lend_month-requires-clause-few : goal.lend_month-requires-clause-few
+lend_month-requires-clause-few c = supplies_few c.args.basin.now c.args.supply.now _
+    (held_arcs c.args.basin.now c.args.held.now c.args.fixed.now c.args.moving.now c.requires.arcs) c.requires.supply
+
+pub lend_month-requires-clause-start : goal.lend_month-requires-clause-start
+lend_month-requires-clause-start c =
+    let b = c.args.basin.now in
     let size : length c.write_bounds.new.upper ≡ length c.args.room.now.upper.items = c.write_bounds.auto.upper
     ∙ ap length c.deref_mut.ensures.value in
     let is : c.deref.result.now ≡ c.write_bounds.new.upper = c.deref.ensures.value
     ∙ with_items_is c.args.room.now.upper c.write_bounds.new.upper
     (omega (arith, size, c.args.room.now.upper.ok.0)) in
-    let size2 : length c.lay.new.into ≡ length c.args.room.now.start.items = c.lay.auto.into
-    ∙ ap length c.deref_mut-2.ensures.value in
-    let is2 : c.deref-2.result.now ≡ c.lay.new.into = c.deref-2.ensures.value
-    ∙ with_items_is c.args.room.now.start c.lay.new.into (omega (arith, size2, c.args.room.now.start.ok.0)) in
-    let count = spilled_count c.args.basin.now in
     let filled = c.fill.ensures.after (λ y h. h) in
     let wide = c.fill.ensures.len ∙ ap length c.as_mut_slice.ensures.value in
-    let most = λ (n : ℕ) (l : n < length c.args.basin.now.nodes).
+    let most = λ (n : ℕ) (l : n < length b.nodes).
     ap (λ (xs : List ℕ). slice_index xs n) (whole_rows _ _ wide ∙ filled)
     ∙ get_or-replicate {A = ℕ} _ n (10 ^ 15) 0
     (omega (arith, l, ap length c.as_mut_slice.ensures.value, c.requires.room.fits_most.out)) in
-    start_is (spilled c.args.basin.now) c.args.month c.args.supply.now c.args.want.now c.deref.result.now
-    c.deref-2.result.now c.args.circ.now c.spill_all.new.plan
-    (λ e l. carry_most c.args.basin.now c.args.month e c.requires.valid c.requires.month l)
-    c.requires.ends (c.requires.supply.count
-    ∙ sym count) (spilled_wants c.args.basin.now c.args.month c.args.want.now c.requires.want)
-    (ap length is ∙ (size ∙ c.requires.room.uppers)) (ap length is2 ∙ (size2 ∙ c.requires.room.starts))
-    (bounds_over (spilled c.args.basin.now) c.args.month c.args.want.now _ _ _ is c.write_bounds.ensures.upper)
-    (amounts_over (spilled c.args.basin.now) c.spill_all.new.plan _ _ is2 c.lay.ensures)
-    (c.spill_all.ensures.plan c.args.month c.args.want.now)
-    (λ n l. omega (arith, most n (omega (arith, l, count))))
-    (λ n l. omega (arith, most n (omega (arith, l, count)), c.spill_all.ensures.small n (omega (arith, l, count))))
+    let h = c.requires.arcs in (
+      h.contents,
+      (
+        h.fixed,
+        spilled_begins b c.args.month c.args.supply.now c.args.want.now c.deref.result.now h.contents _ _ h.ends
+            (held_arcs b c.args.held.now c.args.fixed.now c.args.moving.now h) c.requires.valid c.requires.month
+            c.requires.supply c.requires.want (ap length is ∙ (size ∙ c.requires.room.uppers))
+            (bounds_over (spilled b) c.args.month c.args.want.now _ _ _ is c.write_bounds.ensures.upper) most,
+      ),
+    )
 
 pub returns-clause-start : goal.returns-clause-start
 returns-clause-start c =
+    let b = c.args.basin.now in
     let size : length c.write_bounds.new.upper ≡ length c.args.room.now.upper.items = c.write_bounds.auto.upper
     ∙ ap length c.deref_mut.ensures.value in
     let is : c.deref.result.now ≡ c.write_bounds.new.upper = c.deref.ensures.value
     ∙ with_items_is c.args.room.now.upper c.write_bounds.new.upper
     (omega (arith, size, c.args.room.now.upper.ok.0)) in
-    let size2 : length c.lay.new.into ≡ length c.args.room.now.start.items = c.lay.auto.into
-    ∙ ap length c.deref_mut-2.ensures.value in
-    let is2 : c.deref-2.result.now ≡ c.lay.new.into = c.deref-2.ensures.value
-    ∙ with_items_is c.args.room.now.start c.lay.new.into (omega (arith, size2, c.args.room.now.start.ok.0)) in
-    let count = spilled_count c.args.basin.now in
     let filled = c.fill.ensures.after (λ y h. h) in
     let wide = c.fill.ensures.len ∙ ap length c.as_mut_slice.ensures.value in
-    let most = λ (n : ℕ) (l : n < length c.args.basin.now.nodes).
+    let most = λ (n : ℕ) (l : n < length b.nodes).
     ap (λ (xs : List ℕ). slice_index xs n) (whole_rows _ _ wide ∙ filled)
     ∙ get_or-replicate {A = ℕ} _ n (10 ^ 15) 0
     (omega (arith, l, ap length c.as_mut_slice.ensures.value, c.requires.room.fits_most.out)) in
-    spilled_start c.args.basin.now c.args.month c.args.supply.now c.args.want.now c.deref.result.now
-    c.deref-2.result.now c.args.circ.now c.begin_month.new.self c.spill_all.new.plan _
-    c.requires.ends (bounds_over (spilled c.args.basin.now) c.args.month c.args.want.now _ _ _ is
-    c.write_bounds.ensures.upper)
-    most c.spill_all.ensures.fits (c.spill_all.ensures.plan c.args.month c.args.want.now)
-    (amounts_over (spilled c.args.basin.now) c.spill_all.new.plan _ _ is2 c.lay.ensures)
-    c.spill_all.ensures.small c.spill_all.ensures.still c.spill_all.ensures.all c.begin_month.ensures.month
+    let h = c.requires.arcs in
+    spilled_begun b c.args.month c.args.supply.now c.args.want.now c.deref.result.now h.contents c.lend_month.result _ _
+    h.ends (held_arcs b c.args.held.now c.args.fixed.now c.args.moving.now h) c.requires.supply
+    (bounds_over (spilled b) c.args.month c.args.want.now _ _ _ is c.write_bounds.ensures.upper) most
+    (c.lend_month.ensures h.contents h.fixed)

@@ -37,12 +37,12 @@ loop-turn-init g c =
     let o = order_of_roll c.args.basin.now c.args.layout.now.roll c.requires.valid c.requires.layout.is_roll in
     record {
       standing = spilled_standing c.args.basin.now c.args.month c.args.supply.now c.args.want.now
-          c.args.layout.now.roll.order c.begin_spilled.new.circ c.args.plan.now c.args.cuts.now
-          c.begin_spilled.ensures.start c.requires.given;
-      tree = c.plant.ensures;
+          c.args.layout.now.roll.order c.begin_spilled-circ.result c.args.plan.now c.args.cuts.now
+          c.begin_spilled-circ.ensures.start c.requires.given;
+      tree = c.plant-tree.ensures;
       first = λ e. refl;
       cost = omega (arith, ap length c.by_seniority-order.ensures, o.count);
-      wide = c.begin_spilled.ensures.start.wide;
+      wide = c.begin_spilled-circ.ensures.start.wide;
       used = omega (arith, ap length c.by_seniority-order.ensures, o.count);
     }
 
@@ -116,15 +116,6 @@ serve_by_tree-turn-requires-clause-free g c =
     turn_free (spilled c.args.basin.now) c.args.month c.args.supply.now c.args.want.now _ o c.loop-turn.turn _
     c.index-arc.result.now c.loop-turn.circ c.loop-turn.cuts t c.loop-turn.invariant.standing
 
-pub returns-then-eq-clause-tree : goal.returns-then-eq-clause-tree
-returns-then-eq-clause-tree g c =
-    omega (
-      arith,
-      c.serve_by_tree-turn.ensures.words,
-      c.loop-turn.invariant.standing.net.ends.nodes,
-      spilled_count c.args.basin.now,
-    )
-
 pub loop-turn-preserved : goal.loop-turn-preserved
 loop-turn-preserved g c =
     let o = order_of_roll c.args.basin.now c.args.layout.now.roll c.requires.valid c.requires.layout.is_roll in
@@ -193,8 +184,8 @@ returns-clause-solved g c =
       o.count,
     ) in
     λ _. tree_solved c.args.basin.now c.args.month c.args.supply.now c.args.want.now c.args.layout.now.roll.order
-    c.loop-turn.circ c.begin_spilled.new.circ c.loop-turn.cuts c.settle_plan.new.plan
+    c.loop-turn.circ c.begin_spilled-circ.result c.loop-turn.cuts c.settle_plan.new.plan
     c.requires.valid o (let few = c.requires.given.supplies.small in omega arith)
     (subst (λ n. IsStanding (spilled c.args.basin.now) c.args.month c.args.supply.now c.args.want.now
     c.args.layout.now.roll.order n c.loop-turn.circ c.loop-turn.cuts) all c.loop-turn.invariant.standing)
-    c.settle_plan.ensures.settled c.begin_spilled.ensures.start (λ h. c.loop-turn.invariant.first (all ∙ h))
+    c.settle_plan.ensures.settled c.begin_spilled-circ.ensures.start (λ h. c.loop-turn.invariant.first (all ∙ h))

@@ -1,0 +1,66 @@
+//! A node whose step lost its room hangs on another step, where one is near: with room, and from a node to which the tree
+//! comes from the outside by few steps and not through the node itself. So what is below the node stays in the tree.
+//!
+//! That is the adoption of orphans of Boykov and Kolmogorov (2004), as far as a short look goes.
+ghost use Rattle.std.specs.Prelude.{◌≡◌, true, ℕ, ◌+◌, ◌-◌, ◌<◌, ◌≤◌, length};
+ghost use Rattle.circulation.specs.Contents.{arcs, network, IsCirculation};
+ghost use Rattle.circulation.specs.Residual.{arc_of, start_of};
+ghost use Rattle.residual_tree.specs.Tree.{word_of, IsReached};
+ghost use Rattle.residual_tree.specs.Growth.{IsWayIn};
+ghost use Rattle.residual_tree.specs.Hanging.{HasSteps, IsClear};
+
+use crate::growing::is_way_back;
+use crate::residual::{start, turned};
+use crate::words::Words;
+use circulation::Lent;
+
+/// By how many steps, at most, a node is reached that is near.
+const NEAR: u32 = 2;
+
+/// Whether the outside reaches a node by few steps, none of which leaves or enters another node.
+fn is_near(circ: &Lent<'_>, way: &Words<'_>, node: u32, other: u32) -> bool
+    requires node { node ≤ circ.now.nodes }
+    requires other { other < circ.now.nodes }
+    requires words { length way.now ≡ circ.now.nodes + 1 }
+    requires steps { HasSteps circ.now way.now }
+    requires kept { IsCirculation circ.now }
+    ensures { result ≡ true → IsClear circ.now way.now other node }
+{
+    let outside = circ.nodes();
+    let mut at = node;
+    for _steps in 0..NEAR {
+        if at == outside {
+            return true;
+        }
+        let word = way.get(at);
+        if word == 0 {
+            return false;
+        }
+        if at == other {
+            return false;
+        }
+        at = start(circ, word - 1);
+    }
+    at == outside
+}
+
+/// One more than a step on which a node may hang, from a node that is near, or 0 where there is none.
+pub fn find_near(circ: &Lent<'_>, way: &Words<'_>, node: u32) -> u64
+    requires node { node < circ.now.nodes }
+    requires words { length way.now ≡ circ.now.nodes + 1 }
+    requires steps { HasSteps circ.now way.now }
+    requires kept { IsCirculation circ.now }
+    ensures { (s : ℕ) → result ≡ s + 1 →
+        IsWayIn circ.now way.now node s × IsClear circ.now way.now node (start_of (network circ.now) s) }
+{
+    for place in circ.row_first(node)..circ.row_last(node) {
+        let step = circ.step_at(place);
+        let end = circ.end_at(place);
+        if is_way_back(circ, way, step, end) {
+            if is_near(circ, way, end, node) {
+                return turned(circ, step) + 1;
+            }
+        }
+    }
+    0
+}
