@@ -68,7 +68,6 @@ pub struct Names<'b> {
     links: IndexMap<&'b [u8], u32>,
     reservoirs: IndexMap<&'b [u8], u32>,
     rights: IndexMap<&'b [u8], u32>,
-    ghost valid: { IsValidBasin basin.now },
     ghost nodes_kept: { KeepsNames nodes basin.now Nodes },
     ghost links_kept: { KeepsNames links basin.now Links },
     ghost reservoirs_kept: { KeepsNames reservoirs basin.now Reservoirs },
@@ -95,6 +94,7 @@ impl<'b> Names<'b> {
 
     /// Whether the entry at a place has the name.
     fn has_name(&self, space: Space, at: u32, name: &[u8]) -> bool
+        requires { IsValidBasin self.now.basin.now }
         ensures { result ≡ true → named self.now.basin.now space name.now ≡ Some at }
     {
         at < count_in(space, self.basin) && name_in(space, self.basin, at as usize) == name
@@ -115,6 +115,7 @@ impl<'b> Names<'b> {
     /// The place of the entry that has the name, or `None` where none has it. Where it is the entry at the likely place,
     /// which may be any number, the name isn't looked up.
     pub fn named(&self, space: Space, likely: u32, name: &[u8]) -> Option<u32>
+        requires { IsValidBasin self.now.basin.now }
         ensures value { result ≡ named self.now.basin.now space name.now }
     {
         if self.has_name(space, likely, name) {

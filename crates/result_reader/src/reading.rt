@@ -1,5 +1,6 @@
 //! What a line says.
 ghost use Rattle.std.specs.Prelude.{◌≡◌};
+ghost use Rattle.water_model.specs.Valid.{IsValidBasin};
 ghost use Rattle.result_reader.specs.Reading as reading;
 ghost use Rattle.result_reader.specs.declared.words.Word.TheVariants as word;
 
@@ -17,6 +18,7 @@ use water_model::space::Space;
 
 /// The entry that has the name, which is likely this one. Where none has it, no such line may come.
 fn entry_named(names: &Names, space: Space, likely: u32, name: &[u8]) -> Result<u32, BadLine>
+    requires { IsValidBasin names.now.basin.now }
     ensures { result ≡ reading.entry_named names.now.basin.now space name.now }
 {
     names.named(space, likely, name).ok_or(BadLine::OutOfPlace)
@@ -58,6 +60,7 @@ fn amount(
     quantity: Quantity,
     rest: Option<&[u8]>,
 ) -> Result<Item, BadLine>
+    requires { IsValidBasin names.now.basin.now }
     ensures { result ≡ reading.item_with names.now.basin.now (word.Amount quantity) (reading.pieces_behind rest.entry) }
 {
     let (name, amount) = two_fields(rest)?;
@@ -73,6 +76,7 @@ fn amount(
 
 #[tactic(auto, unfolding(crate::specs::Reading::item_with))]
 fn delivery(names: &Names, likely: Likely, rest: Option<&[u8]>) -> Result<Item, BadLine>
+    requires { IsValidBasin names.now.basin.now }
     ensures { result ≡ reading.item_with names.now.basin.now word.Deliver (reading.pieces_behind rest.entry) }
 {
     let (name, amount, want) = three_fields(rest)?;
@@ -89,6 +93,7 @@ fn delivery(names: &Names, likely: Likely, rest: Option<&[u8]>) -> Result<Item, 
 
 #[tactic(auto, unfolding(crate::specs::Reading::item_with))]
 fn call(names: &Names, likely: Likely, rest: Option<&[u8]>) -> Result<Item, BadLine>
+    requires { IsValidBasin names.now.basin.now }
     ensures { result ≡ reading.item_with names.now.basin.now word.Call (reading.pieces_behind rest.entry) }
 {
     let name = name_field(one_field(rest)?)?;
@@ -98,6 +103,7 @@ fn call(names: &Names, likely: Likely, rest: Option<&[u8]>) -> Result<Item, BadL
 
 #[tactic(auto, unfolding(crate::specs::Reading::item_with))]
 fn member(names: &Names, likely: Likely, rest: Option<&[u8]>) -> Result<Item, BadLine>
+    requires { IsValidBasin names.now.basin.now }
     ensures { result ≡ reading.item_with names.now.basin.now word.Member (reading.pieces_behind rest.entry) }
 {
     let name = name_field(one_field(rest)?)?;
@@ -107,6 +113,7 @@ fn member(names: &Names, likely: Likely, rest: Option<&[u8]>) -> Result<Item, Ba
 
 #[tactic(auto, unfolding(crate::specs::Reading::item_with))]
 fn called(names: &Names, likely: Likely, rest: Option<&[u8]>) -> Result<Item, BadLine>
+    requires { IsValidBasin names.now.basin.now }
     ensures { result ≡ reading.item_with names.now.basin.now word.Called (reading.pieces_behind rest.entry) }
 {
     let (name, other) = two_fields(rest)?;
@@ -140,6 +147,7 @@ fn item_with(
     word: Word,
     rest: Option<&[u8]>,
 ) -> Result<Item, BadLine>
+    requires { IsValidBasin names.now.basin.now }
     ensures { result ≡ reading.item_with names.now.basin.now word (reading.pieces_behind rest.entry) }
 {
     match word {
@@ -159,6 +167,7 @@ fn item_with(
 /// What a line says, whatever stands before it. It likely names these entries.
 #[tactic(auto, unfolding(crate::specs::Reading::item_of))]
 pub fn item_of(names: &Names, likely: Likely, text: &[u8]) -> Result<Item, BadLine>
+    requires { IsValidBasin names.now.basin.now }
     ensures { result ≡ reading.item_of names.now.basin.now text.now }
 {
     if text.len() > 128 {

@@ -27,7 +27,7 @@ overflow_sub-self c =
           c.in_ok-item.item c.self.inside.left
           c.self.invariant.left_is
           (next_along c.self.inside.names.basin.now _ c.self.inside.dues.items c.self.inside.progress
-          c.in_ok-item.item (Some c.in-Some.progress) c.deref.ensures.value c.in-Some.ensures),
+          c.in_ok-item.item (Some c.in-Some.progress) c.deref-3.ensures.value c.in-Some.ensures),
     )
 
 pub invariant_of-self : goal.invariant_of-self
@@ -35,7 +35,7 @@ invariant_of-self c =
     let next : IsNextProgress c.self.inside.names.basin.now c.self.inside.dues.items c.self.inside.progress
     c.in_ok-item.item (Some c.in-Some.progress) =
     next_along c.self.inside.names.basin.now _ c.self.inside.dues.items c.self.inside.progress c.in_ok-item.item
-    (Some c.in-Some.progress) c.deref.ensures.value c.in-Some.ensures in
+    (Some c.in-Some.progress) c.deref-3.ensures.value c.in-Some.ensures in
     record {
       valid = c.self.invariant.valid;
       dues_are = c.self.invariant.dues_are;
@@ -54,7 +54,7 @@ returns-in-Some-clause-answer c = λ items stands.
     c.self.inside.left c.args.self.now c.args.text.now
     c.in_ok-item.item c.self.view_is (sym c.item_of.ensures ∙ c.in_ok-item.was)
     (next_along c.self.inside.names.basin.now _ c.self.inside.dues.items c.self.inside.progress c.in_ok-item.item
-    (Some c.in-Some.progress) c.deref.ensures.value c.in-Some.ensures) items stands).answer
+    (Some c.in-Some.progress) c.deref-3.ensures.value c.in-Some.ensures) items stands).answer
 
 pub returns-in-Some-clause-accepted : goal.returns-in-Some-clause-accepted
 returns-in-Some-clause-accepted c = λ items stands.
@@ -63,7 +63,7 @@ returns-in-Some-clause-accepted c = λ items stands.
     c.self.inside.left c.args.self.now c.args.text.now
     c.in_ok-item.item c.self.view_is (sym c.item_of.ensures ∙ c.in_ok-item.was)
     (next_along c.self.inside.names.basin.now _ c.self.inside.dues.items c.self.inside.progress c.in_ok-item.item
-    (Some c.in-Some.progress) c.deref.ensures.value c.in-Some.ensures) items stands in
+    (Some c.in-Some.progress) c.deref-3.ensures.value c.in-Some.ensures) items stands in
     taken.behind
 
 pub returns-in-Some-clause-left : goal.returns-in-Some-clause-left
@@ -73,7 +73,7 @@ returns-in-Some-clause-left c =
     c.in_ok-item.item c.self.inside.left
     c.self.invariant.left_is
     (next_along c.self.inside.names.basin.now _ c.self.inside.dues.items c.self.inside.progress c.in_ok-item.item
-    (Some c.in-Some.progress) c.deref.ensures.value c.in-Some.ensures) in
+    (Some c.in-Some.progress) c.deref-3.ensures.value c.in-Some.ensures) in
     let back : c.self.inside.left - 1 + 1 ≡ c.self.inside.left = omega arith in
     back ∙ ap (λ r. r.left) c.self.view_is
 
@@ -83,7 +83,7 @@ returns-in-None-clause-answer c = λ items stands.
     c.args.self.now c.args.text.now
     c.in_ok-item.item c.self.view_is (sym c.item_of.ensures ∙ c.in_ok-item.was)
     (next_along c.self.inside.names.basin.now _ c.self.inside.dues.items c.self.inside.progress c.in_ok-item.item None
-    c.deref.ensures.value c.in-None.ensures)
+    c.deref-3.ensures.value c.in-None.ensures)
     items stands
 
 pub returns-in-Some-clause-spelled : goal.returns-in-Some-clause-spelled
