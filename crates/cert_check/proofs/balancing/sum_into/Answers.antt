@@ -2,13 +2,13 @@ use Rattle.std.proofs.Common.{◌≡◌, ◌∙◌, ◌^◌, ap, arith, length}
 use Rattle.std.specs.Prelude.{◌==◌, slice_index}
 use Rattle.water_model.specs.Basin.{head_of}
 use Rattle.water_model.specs.Plans.{inflow_to}
-use Rattle.month_terms.proofs.Adds.{sum_small}
+use Rattle.place_sums.proofs.Totals.{total_where_most}
 use Rattle.cert_check.proofs.balancing.sum_into.Goals as goal
 
 pub add_inflows-requires-clause-small : goal.add_inflows-requires-clause-small
 add_inflows-requires-clause-small c = λ n l.
     let sum =
-    sum_small (length c.args.basin.now.links) (10 ^ 15) (λ e. head_of c.args.basin.now e == n)
+    total_where_most (length c.args.basin.now.links) (10 ^ 15) (λ e. head_of c.args.basin.now e == n)
     (λ e. slice_index c.args.month.now.plan.flow e) c.requires.flow in
     let copied : slice_index c.copy_from_slice.new.self n ≡ slice_index c.args.month.now.supply n =
     ap (λ xs. slice_index xs n) (c.copy_from_slice.ensures.after ∙ c.as_slice.ensures) in

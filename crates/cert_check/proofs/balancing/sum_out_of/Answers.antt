@@ -2,13 +2,14 @@ use Rattle.std.proofs.Common.{◌≡◌, ◌∙◌, ◌^◌, ap, arith, length}
 use Rattle.std.specs.Prelude.{◌==◌, slice_index}
 use Rattle.water_model.specs.Basin.{tail_of, takes_at}
 use Rattle.water_model.specs.Plans.{outflow_from, taken_at}
-use Rattle.month_terms.proofs.Adds.{sum_small, no_numbers}
+use Rattle.place_sums.proofs.Totals.{total_where_most}
+use Rattle.month_terms.proofs.Adds.{no_numbers}
 use Rattle.cert_check.proofs.balancing.sum_out_of.Goals as goal
 
 pub add_outflows-requires-clause-small : goal.add_outflows-requires-clause-small
 add_outflows-requires-clause-small c = λ n l.
     let sum =
-    sum_small (length c.args.basin.now.links) (10 ^ 15) (λ e. tail_of c.args.basin.now e == n)
+    total_where_most (length c.args.basin.now.links) (10 ^ 15) (λ e. tail_of c.args.basin.now e == n)
     (λ e. slice_index c.args.month.now.plan.flow e) c.requires.flow in
     let none : slice_index c.fill.new.self n ≡ 0 =
     ap (λ xs. slice_index xs n) (c.fill.ensures.after (λ y h. h)) ∙ no_numbers (length c.args.out_of.now) n in
@@ -18,10 +19,10 @@ add_outflows-requires-clause-small c = λ n l.
 pub add_takes-requires-clause-small : goal.add_takes-requires-clause-small
 add_takes-requires-clause-small c = λ n l.
     let sum =
-    sum_small (length c.args.basin.now.links) (10 ^ 15) (λ e. tail_of c.args.basin.now e == n)
+    total_where_most (length c.args.basin.now.links) (10 ^ 15) (λ e. tail_of c.args.basin.now e == n)
     (λ e. slice_index c.args.month.now.plan.flow e) c.requires.flow in
     let taken =
-    sum_small (length c.args.basin.now.rights) (10 ^ 9) (λ r. takes_at c.args.basin.now r n)
+    total_where_most (length c.args.basin.now.rights) (10 ^ 9) (λ r. takes_at c.args.basin.now r n)
     (λ r. slice_index c.args.month.now.plan.take r) c.requires.take in
     let none : slice_index c.fill.new.self n ≡ 0 =
     ap (λ xs. slice_index xs n) (c.fill.ensures.after (λ y h. h)) ∙ no_numbers (length c.args.out_of.now) n in
