@@ -48,25 +48,10 @@ held_parts r circ c words fixed moving h is front back =
     (sym (front ∙ ap (take n) is)) h.words in
     subst (λ (xs : List ℕ). AreWordsOf circ c fixed xs) (sym (back ∙ ap (drop n) is)) one
 
--- the words that never change are those of the contents whose words they are
-pub fixed_of : (circ : Circulation) (c : Contents) (kept moved : List ℕ) → AreWordsOf circ c kept moved →
-    AreFixedOf circ c kept
-fixed_of circ c kept moved w = record {
-  pairs = w.pairs;
-  nodes = w.nodes;
-  arcs = w.arcs;
-  from = w.from;
-  to = w.to;
-  steps = w.steps;
-  small = w.small;
-  fixed = w.fixed;
-  circulation = w.circulation;
-}
-
 -- a region that holds a circulation holds its arcs
 pub holds_arcs : (r : Words) (circ : Circulation) (c : Contents) → Holds r circ c → HoldsArcs r circ c
 holds_arcs r circ c h = record {
   used = h.used;
   size = h.size;
-  fixed = fixed_of circ c _ _ h.words;
+  fixed = h.words.fixed;
 }

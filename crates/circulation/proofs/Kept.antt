@@ -1,5 +1,5 @@
 -- What changes a part of a circulation keeps the rest.
-use Rattle.std.proofs.Common.{ℕ, ◌≡◌, List, length, slice_index, replicate, arith, ap, subst, ◌∙◌}
+use Rattle.std.proofs.Common.{ℕ, ◌≡◌, ◌+◌, ◌*◌, List, length, slice_index, replicate, arith, ap, subst, ◌∙◌}
 use Rattle.std.proofs.lemmas.Grind.{common_steps}
 use Rattle.circulation.specs.Network.{IsFlow}
 use Rattle.circulation.specs.Contents.{Contents, network, IsCirculation, IsStart, month_contents}
@@ -21,6 +21,26 @@ flow-kept c flow k same f = record {
   };
   ends = k.ends;
   flow = f;
+  rows = k.rows;
+}
+
+-- other scratch words in place of the scratch words
+pub scratch-kept : (c : Contents) (scratch : List ℕ) → length scratch ≡ 4 * c.nodes + 8 → IsCirculation c →
+    IsCirculation (record c { scratch = scratch })
+scratch-kept c scratch long k = record {
+  shape = record {
+    few_nodes = k.shape.few_nodes;
+    few_arcs = k.shape.few_arcs;
+    to = k.shape.to;
+    supply = k.shape.supply;
+    lower = k.shape.lower;
+    upper = k.shape.upper;
+    flow = k.shape.flow;
+    scratch = long;
+    small = k.shape.small;
+  };
+  ends = k.ends;
+  flow = k.flow;
   rows = k.rows;
 }
 

@@ -10,7 +10,7 @@ use Rattle.circulation.specs.Contents.{Contents}
 use Rattle.circulation.specs.Places.{tail_of, head_of, AreWordsOf}
 
 -- contents by their lists
-abbrev contents_of : ℕ → (a b s l u f x p q r : List ℕ) → Contents
+abbrev pub contents_of : ℕ → (a b s l u f x p q r : List ℕ) → Contents
 contents_of n a b s l u f x p q r = record {
   nodes = n;
   from = a;
@@ -24,7 +24,7 @@ contents_of n a b s l u f x p q r = record {
 }
 
 -- contents are the same where all their lists are
-lists_same : (n n' : ℕ) (a a' b b' s s' l l' u u' f f' x x' p p' q q' r r' : List ℕ) → n ≡ n' → a ≡ a' → b ≡ b' →
+pub lists_same : (n n' : ℕ) (a a' b b' s s' l l' u u' f f' x x' p p' q q' r r' : List ℕ) → n ≡ n' → a ≡ a' → b ≡ b' →
     s ≡ s' → l ≡ l' → u ≡ u' → f ≡ f' → x ≡ x' → p ≡ p' → q ≡ q' → r ≡ r' →
     contents_of n a b s l u f x p q r ≡ contents_of n' a' b' s' l' u' f' x' p' q' r'
 lists_same n n' a a' b b' s s' l l' u u' f f' x x' p p' q q' r r' e₁ e₂ e₃ e₄ e₅ e₆ e₇ e₈ e₉ e₁₀ e₁₁ =
@@ -63,21 +63,22 @@ pub lent_is : (circ : Circulation) (c : Contents)
     contents_of circ.nodes (map tail_of ends) (map head_of ends) supply lower upper flow scratch first step end ≡ c
 lent_is circ c kept moved ends k₁ step k₂ end first flow m₁ upper m₂ lower m₃ supply m₄ scratch w
     e₁ e₂ e₃ e₄ e₅ e₆ e₇ e₈ e₉ e₁₀ e₁₁ e₁₂ e₁₃ e₁₄ e₁₅ =
-    let shape = w.circulation.shape in
-    let from = ap length w.from ∙ (length-map w.pairs tail_of ∙ w.arcs) in
-    let at_ends = cut kept w.pairs _ ends k₁ circ.arcs w.fixed w.arcs e₁ e₂ in
-    let at_step = cut k₁ c.rows.step _ step k₂ (2 * circ.arcs) at_ends.1 w.steps e₃ e₄ in
-    let at_end = cut k₂ c.rows.end c.rows.first end first (2 * circ.arcs) at_step.1 (w.circulation.rows.ends ∙ w.steps)
+    let k = w.fixed in
+    let shape = k.circulation.shape in
+    let from = ap length k.from ∙ (length-map k.pairs tail_of ∙ k.arcs) in
+    let at_ends = cut kept k.pairs _ ends k₁ circ.arcs k.fixed k.arcs e₁ e₂ in
+    let at_step = cut k₁ c.rows.step _ step k₂ (2 * circ.arcs) at_ends.1 k.steps e₃ e₄ in
+    let at_end = cut k₂ c.rows.end c.rows.first end first (2 * circ.arcs) at_step.1 (k.circulation.rows.ends ∙ k.steps)
     e₅ e₆ in
     let at_flow = cut moved c.flow _ flow m₁ circ.arcs w.moving (shape.flow ∙ from) e₇ e₈ in
     let at_upper = cut m₁ c.upper _ upper m₂ circ.arcs at_flow.1 (shape.upper ∙ from) e₉ e₁₀ in
     let at_lower = cut m₂ c.lower _ lower m₃ circ.arcs at_upper.1 (shape.lower ∙ from) e₁₁ e₁₂ in
-    let at_supply = cut m₃ c.supply _ supply m₄ circ.nodes at_lower.1 (shape.supply ∙ w.nodes) e₁₃ e₁₄ in
+    let at_supply = cut m₃ c.supply _ supply m₄ circ.nodes at_lower.1 (shape.supply ∙ k.nodes) e₁₃ e₁₄ in
     let at_scratch : scratch ≡ c.scratch = e₁₅ ∙ ap (take (4 * circ.nodes + 8)) at_supply.1
-    ∙ take_at c.scratch w.unused (4 * circ.nodes + 8) (shape.scratch ∙ ap (λ (n : ℕ). 4 * n + 8) w.nodes) in
-    let tails : map tail_of ends ≡ c.from = ap (map tail_of) at_ends.0 ∙ sym w.from in
-    let heads : map head_of ends ≡ c.to = ap (map head_of) at_ends.0 ∙ sym w.to in
-    let nodes = w.nodes in
+    ∙ take_at c.scratch w.unused (4 * circ.nodes + 8) (shape.scratch ∙ ap (λ (n : ℕ). 4 * n + 8) k.nodes) in
+    let tails : map tail_of ends ≡ c.from = ap (map tail_of) at_ends.0 ∙ sym k.from in
+    let heads : map head_of ends ≡ c.to = ap (map head_of) at_ends.0 ∙ sym k.to in
+    let nodes = k.nodes in
     lists_same circ.nodes c.nodes (map tail_of ends) c.from (map head_of ends) c.to supply c.supply lower c.lower upper
     c.upper flow c.flow scratch c.scratch first c.rows.first step c.rows.step end c.rows.end (sym nodes) tails heads
     at_supply.0 at_lower.0 at_upper.0 at_flow.0 at_scratch at_end.1 at_step.0 at_end.0

@@ -117,22 +117,24 @@ pub empty-words : (circ : Circulation) (c : Contents) (kept moved : List ℕ) �
     length c.rows.step ≡ 2 * circ.arcs → ((p : ℕ) → slice_index c.rows.end p < 2 ^ 32) →
     kept ≡ pairs ++ (c.rows.step ++ (c.rows.end ++ c.rows.first)) → AreWordsOf circ c kept moved
 empty-words circ c kept moved nodes arcs k is none pairs count from to steps small fixed = record {
-  pairs = pairs;
+  fixed = record {
+    pairs = pairs;
+    nodes = nodes;
+    arcs = count;
+    from = from;
+    to = to;
+    steps = steps;
+    small = small;
+    fixed = fixed;
+    circulation = k;
+  };
   unused = replicate (2 * c.nodes + 6) 0;
-  nodes = nodes;
-  arcs = count;
-  from = from;
-  to = to;
-  steps = steps;
-  small = small;
-  fixed = fixed;
   moving = none
       ∙ zeros_in_parts (length c.from) c.nodes (word_count circ.nodes circ.arcs - fixed_count circ.nodes circ.arcs)
       (omega (arith, nodes, arcs))
       ∙ ap (λ (e : Contents).
       e.flow ++ (e.upper ++ (e.lower ++ (e.supply ++ (e.scratch ++ replicate (2 * c.nodes + 6) 0)))))
       (sym is);
-  circulation = k;
 }
 
 -- the words of a circulation that was just opened

@@ -1,32 +1,13 @@
 -- The words of a circulation at the start of a month.
 use Rattle.std.proofs.Common.{ℕ, ◌≡◌, ◌+◌, ◌-◌, ◌*◌, ◌^◌, ◌<◌, ◌≤◌, List, ◌++◌, length, take, drop, map, replicate, arith, ap}
-use Rattle.std.proofs.Common.{sym, subst, ◌∙◌, take-append-drop, length-drop, length-take-le}
+use Rattle.std.proofs.Common.{refl, sym, subst, ◌∙◌, take-append-drop, length-drop, length-take-le}
 use Rattle.std.proofs.lemmas.List.{take_at, drop_at, length-map}
 use Rattle.circulation.specs.Rows.{Rows}
 use Rattle.circulation.specs.declared.Circulation.{Circulation}
-use Rattle.circulation.specs.Contents.{Contents, IsCirculation, IsStart, month_contents}
+use Rattle.circulation.specs.Contents.{Contents, IsStart, month_contents}
 use Rattle.circulation.specs.Places.{tail_of, head_of, word_count, fixed_count, AreFixedOf, AreWordsOf}
-use Rattle.circulation.proofs.Kept.{month-kept}
-
--- other scratch words in place of those
-scratch-kept : (c : Contents) (scratch : List ℕ) → length scratch ≡ 4 * c.nodes + 8 → IsCirculation c →
-    IsCirculation (record c { scratch = scratch })
-scratch-kept c scratch long k = record {
-  shape = record {
-    few_nodes = k.shape.few_nodes;
-    few_arcs = k.shape.few_arcs;
-    to = k.shape.to;
-    supply = k.shape.supply;
-    lower = k.shape.lower;
-    upper = k.shape.upper;
-    flow = k.shape.flow;
-    scratch = long;
-    small = k.shape.small;
-  };
-  ends = k.ends;
-  flow = k.flow;
-  rows = k.rows;
-}
+use Rattle.circulation.proofs.Kept.{scratch-kept, month-kept}
+use Rattle.circulation.proofs.Lends.{contents_of, lists_same}
 
 -- the words of a month that starts
 pub month-words : (circ : Circulation) (c : Contents) (kept old new supply upper start : List ℕ) →
@@ -42,44 +23,32 @@ month-words circ c kept old new supply upper start w count s is =
     (omega (arith, length-drop (3 * circ.arcs + length supply) old, count, s.supplies, w.nodes)) in (
       scratch,
       record {
-        pairs = w.pairs;
+        fixed = record {
+          pairs = w.pairs;
+          nodes = w.nodes;
+          arcs = w.arcs;
+          from = w.from;
+          to = w.to;
+          steps = w.steps;
+          small = w.small;
+          fixed = w.fixed;
+          circulation = scratch-kept (month_contents c supply upper start) scratch long
+              (month-kept c supply upper start w.circulation s);
+        };
         unused = drop (4 * c.nodes + 8) rest;
-        nodes = w.nodes;
-        arcs = w.arcs;
-        from = w.from;
-        to = w.to;
-        steps = w.steps;
-        small = w.small;
-        fixed = w.fixed;
         moving = is
             ∙ ap (λ (n : ℕ). start ++ (upper ++ (replicate n 0 ++ (supply ++ rest)))) (sym arcs)
             ∙ ap (λ (xs : List ℕ). start ++ (upper ++ (replicate (length c.from) 0 ++ (supply ++ xs))))
             (sym (take-append-drop (4 * c.nodes + 8) rest));
-        circulation = scratch-kept (month_contents c supply upper start) scratch long
-            (month-kept c supply upper start w.circulation s);
       },
     )
-
--- the contents of which the words are, but for what changes from month to month
-abbrev frame_of : ℕ → (a b p q r s l u f x : List ℕ) → Contents
-frame_of n a b p q r s l u f x = record {
-  nodes = n;
-  from = a;
-  to = b;
-  supply = s;
-  lower = l;
-  upper = u;
-  flow = f;
-  scratch = x;
-  rows = record { first = p; step = q; end = r };
-}
 
 -- are those that the words tell
 told_frame : (circ : Circulation) (c : Contents) (kept s l u f x : List ℕ) → AreFixedOf circ c kept →
     let behind = drop circ.arcs kept in let last = drop (2 * circ.arcs) behind in
-    frame_of c.nodes c.from c.to c.rows.first c.rows.step c.rows.end s l u f x
-    ≡ frame_of circ.nodes (map tail_of (take circ.arcs kept)) (map head_of (take circ.arcs kept))
-    (drop (2 * circ.arcs) last) (take (2 * circ.arcs) behind) (take (2 * circ.arcs) last) s l u f x
+    contents_of c.nodes c.from c.to s l u f x c.rows.first c.rows.step c.rows.end
+    ≡ contents_of circ.nodes (map tail_of (take circ.arcs kept)) (map head_of (take circ.arcs kept)) s l u f x
+    (drop (2 * circ.arcs) last) (take (2 * circ.arcs) behind) (take (2 * circ.arcs) last)
 told_frame circ c kept s l u f x w =
     let n = circ.arcs in
     let pairs : take n kept ≡ w.pairs = ap (take n) w.fixed ∙ take_at w.pairs _ n w.arcs in
@@ -96,21 +65,15 @@ told_frame circ c kept s l u f x w =
     ∙ drop_at c.rows.end c.rows.first (2 * n) ends in
     let from : c.from ≡ map tail_of (take n kept) = w.from ∙ ap (map tail_of) (sym pairs) in
     let to : c.to ≡ map head_of (take n kept) = w.to ∙ ap (map head_of) (sym pairs) in
-    ap (λ (i : ℕ). frame_of i c.from c.to c.rows.first c.rows.step c.rows.end s l u f x) w.nodes
-    ∙ ap (λ (i : List ℕ). frame_of circ.nodes i c.to c.rows.first c.rows.step c.rows.end s l u f x) from
-    ∙ ap (λ (i : List ℕ). frame_of circ.nodes (map tail_of (take n kept)) i c.rows.first c.rows.step c.rows.end
-    s l u f x) to
-    ∙ ap (λ (i : List ℕ). frame_of circ.nodes (map tail_of (take n kept)) (map head_of (take n kept)) i c.rows.step
-    c.rows.end s l u f x) (sym first)
-    ∙ ap (λ (i : List ℕ). frame_of circ.nodes (map tail_of (take n kept)) (map head_of (take n kept))
-    (drop (2 * n) (drop (2 * n) (drop n kept))) i c.rows.end s l u f x) (sym step)
-    ∙ ap (λ (i : List ℕ). frame_of circ.nodes (map tail_of (take n kept)) (map head_of (take n kept))
-    (drop (2 * n) (drop (2 * n) (drop n kept))) (take (2 * n) (drop n kept)) i s l u f x) (sym end)
+    lists_same c.nodes circ.nodes c.from (map tail_of (take n kept)) c.to (map head_of (take n kept)) s s l l u u f f
+    x x c.rows.first (drop (2 * n) (drop (2 * n) (drop n kept))) c.rows.step (take (2 * n) (drop n kept)) c.rows.end
+    (take (2 * n) (drop (2 * n) (drop n kept))) w.nodes from to refl refl refl refl refl (sym first) (sym step)
+    (sym end)
 
 -- and so the same in all contents that the words may be of
 pub frame_same : (circ : Circulation) (c d : Contents) (kept s l u f x : List ℕ) → AreFixedOf circ c kept →
-    AreFixedOf circ d kept → frame_of c.nodes c.from c.to c.rows.first c.rows.step c.rows.end s l u f x
-    ≡ frame_of d.nodes d.from d.to d.rows.first d.rows.step d.rows.end s l u f x
+    AreFixedOf circ d kept → contents_of c.nodes c.from c.to s l u f x c.rows.first c.rows.step c.rows.end
+    ≡ contents_of d.nodes d.from d.to s l u f x d.rows.first d.rows.step d.rows.end
 frame_same circ c d kept s l u f x w v = told_frame circ c kept s l u f x w ∙ sym (told_frame circ d kept s l u f x v)
 
 -- a month starts with the same contents, of whichever its words are

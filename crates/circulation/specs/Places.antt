@@ -41,17 +41,9 @@ pub record AreFixedOf (circ : Circulation) (c : Contents) (kept : List ℕ) : Ty
 
 -- the words are those of the contents: first those that never change, and then those that do
 pub record AreWordsOf (circ : Circulation) (c : Contents) (kept moved : List ℕ) : Type 0 where
-  pub pairs : List ℕ
+  pub fixed : AreFixedOf circ c kept
   pub unused : List ℕ
-  pub nodes : c.nodes ≡ circ.nodes
-  pub arcs : length pairs ≡ circ.arcs
-  pub from : c.from ≡ map tail_of pairs
-  pub to : c.to ≡ map head_of pairs
-  pub steps : length c.rows.step ≡ 2 * circ.arcs
-  pub small : (p : ℕ) → slice_index c.rows.end p < 2 ^ 32
-  pub fixed : kept ≡ pairs ++ (c.rows.step ++ (c.rows.end ++ c.rows.first))
   pub moving : moved ≡ c.flow ++ (c.upper ++ (c.lower ++ (c.supply ++ (c.scratch ++ unused))))
-  pub circulation : IsCirculation c
 
 -- the same of all words of its place
 abbrev pub HasWords : Circulation → Contents → List ℕ → Type 0

@@ -98,8 +98,8 @@ fn free_worn(
     }
 }
 
-/// Hangs the nodes whose steps lost their room on steps that are near, or frees them. Those that may have lost it stand in the scratch words from
-/// `first` to below `last`.
+/// Hangs the nodes whose steps lost their room on steps that are near, or frees them. Those that may have lost it stand
+/// in the scratch words from `first` to below `last`.
 pub fn loosen(
     circ: &Lent<'_>,
     way: &mut Words<'_>,

@@ -44,7 +44,8 @@ fn is_near(circ: &Lent<'_>, way: &Words<'_>, node: u32, other: u32) -> bool
     at == outside
 }
 
-/// One more than a step on which a node may hang, from a node that is near, or 0 where there is none.
+/// One more than a step on which a node may hang, from a node that is near, or 0 where there is none. That it is 0 only
+/// there no clause says: whoever isn't hung is freed, and no answer depends on it.
 pub fn find_near(circ: &Lent<'_>, way: &Words<'_>, node: u32) -> u64
     requires node { node < circ.now.nodes }
     requires words { length way.now ≡ circ.now.nodes + 1 }

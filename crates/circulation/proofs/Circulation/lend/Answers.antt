@@ -21,6 +21,6 @@ invariant_of-result c =
     c.split_at_mut-lower.ensures.front c.split_at_mut-lower.ensures.back c.split_at_mut-supply.ensures.front
     c.split_at_mut-supply.ensures.back c.split_at_mut-scratch.ensures.front in
     record {
-      circulation = subst IsCirculation (sym is) w.circulation;
-      small = subst (λ (x : Contents). (p : ℕ) → slice_index x.rows.end p < 2 ^ 32) (sym is) w.small;
+      circulation = subst IsCirculation (sym is) w.fixed.circulation;
+      small = subst (λ (x : Contents). (p : ℕ) → slice_index x.rows.end p < 2 ^ 32) (sym is) w.fixed.small;
     }
