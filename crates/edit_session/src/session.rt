@@ -1,12 +1,15 @@
 //! A run whose series changes.
 ghost use Rattle.std.specs.Prelude.{ℕ, ◌≡◌, ◌+◌, ◌-◌, ◌*◌, ◌^◌, ◌<◌, ◌≤◌, [], max, length, take, slice_get, Some, IfOk};
 ghost use Rattle.std.specs.Prelude.{OnOk};
+ghost use Rattle.rights_roll.specs.Rolls.{IsRollOf};
 ghost use Rattle.water_model.specs.Valid.{IsValidBasin, IsSeriesOf};
 ghost use Rattle.edit_script.specs.Edits.{with_inflow, with_want};
 ghost use Rattle.edit_session.specs.Sessions.{IsKept};
 ghost use Rattle.senior_hold.specs.MonthNetwork.{month_pushes};
 
 use crate::solving::solve_months;
+use month_fold::engine::Engine;
+use rights_roll::roll::Roll;
 use std::alloc::{AllocError, Global};
 use std::marker::Model;
 use std::sync::ledger::Ledger;
@@ -19,7 +22,7 @@ use water_model::types::{Basin, Inflows, MonthRecord};
 /// the sets of short rights.
 #[derive(Drop)]
 pub struct Session<'b> {
-    basin: &'b Basin,
+    engine: Engine<'b>,
     series: Inflows,
     kept: Vec<Box<MonthRecord>>,
 }
@@ -50,12 +53,28 @@ impl<'b> Session<'b> {
         ensures none { IfOk result (λ session. session.kept ≡ []) }
         ensures history { IfOk result IsKept }
     {
+        let engine = Engine::open(alloc, basin)?;
         let series = series.copy(alloc)?;
         Ok(Session {
-            basin,
+            engine,
             series,
             kept: Vec::new(alloc),
         })
+    }
+
+    /// The basin, which is valid.
+    pub fn basin(&self) -> &'b Basin
+        ensures value { result.now ≡ self.now.basin }
+        ensures valid { IsValidBasin result.now }
+    {
+        self.engine.basin()
+    }
+
+    /// The roll of the basin's rights, by which months are solved.
+    pub fn roll(&self) -> &Roll
+        ensures { IsRollOf self.now.basin.rights result.now }
+    {
+        self.engine.roll()
     }
 
     /// How many months are kept.
@@ -130,7 +149,7 @@ impl<'b> Session<'b> {
         }
         solve_months(
             alloc,
-            self.basin,
+            &mut self.engine,
             &self.series,
             index + 1,
             &mut self.kept,

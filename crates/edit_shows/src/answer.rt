@@ -1,8 +1,6 @@
 //! One line of a script answered.
 ghost use Rattle.std.specs.Prelude.{◌≡◌, ◌+◌, ◌*◌, ◌<◌, ◌≤◌, [], ◌∷◌, length, max, Err, OnOk};
-ghost use Rattle.rights_roll.specs.Rolls.{IsRollOf};
 ghost use Rattle.water_edge.specs.Edge.{HasCause};
-ghost use Rattle.water_model.specs.Valid.{IsValidBasin};
 ghost use Rattle.edit_script.specs.Edits.{IsPlaced, edited_by, kept_by, solved_by};
 ghost use Rattle.edit_script.specs.declared.edit.Edit.TheVariants as edit;
 ghost use Rattle.edit_shows.specs.Shown.{Answers};
@@ -13,38 +11,31 @@ use crate::stop::EditStop;
 use edit_script::edit::Edit;
 use edit_session::session::Session;
 use result_text::put_month;
-use rights_roll::roll::Roll;
 use std::alloc::Global;
 use std::sync::ledger::Ledger;
 use steps::Steps;
 use water_edge::Sink;
-use water_model::types::Basin;
 
 /// Solves what a month needs and puts its lines.
 fn show<K: Sink, L: Ledger>(
     alloc: Global,
-    basin: &Basin,
-    roll: &Roll,
     session: &mut Session,
     index: u32,
     out: &mut K,
     searches: &mut Steps<L>,
 ) -> Result<(), EditStop>
-    requires basin { IsValidBasin basin.now }
-    requires same { session.old.basin ≡ basin.now }
-    requires roll { IsRollOf basin.now.rights roll.now }
-    requires index { index < basin.now.months }
+    requires { index < session.old.basin.months }
     ensures basin { session.new.basin ≡ session.old.basin }
     ensures series { session.new.series ≡ session.old.series }
     ensures kept { OnOk result (length session.new.kept ≡ max (length session.old.kept) (index + 1)) }
-    ensures answers { Answers basin.now session.old.series (edit.Show index ∷ []) result (K.taken out.old)
+    ensures answers { Answers session.old.basin session.old.series (edit.Show index ∷ []) result (K.taken out.old)
         (K.taken out.new) }
     ensures cause { HasCause (K.faults out.old) (K.faults out.new) (result ≡ Err SinkFailed) }
     ensures pushes { searches.new ≤ searches.old + solved_by (length session.old.kept) (edit.Show index) * month_pushes
-        basin.now }
+        session.old.basin }
 {
     session.solve(alloc, index, searches)?;
-    match put_month(out, basin, roll, session.month(index)) {
+    match put_month(out, session.basin(), session.roll(), session.month(index)) {
         Ok(()) => Ok(()),
         Err(_) => Err(EditStop::SinkFailed),
     }
@@ -53,24 +44,19 @@ fn show<K: Sink, L: Ledger>(
 /// Makes a change, or puts the lines of the month that is to be shown.
 pub fn answer<K: Sink, L: Ledger>(
     alloc: Global,
-    basin: &Basin,
-    roll: &Roll,
     session: &mut Session,
     edit: Edit,
     out: &mut K,
     searches: &mut Steps<L>,
 ) -> Result<(), EditStop>
-    requires basin { IsValidBasin basin.now }
-    requires same { session.old.basin ≡ basin.now }
-    requires roll { IsRollOf basin.now.rights roll.now }
-    requires placed { IsPlaced basin.now session.old.series edit }
+    requires { IsPlaced session.old.basin session.old.series edit }
     ensures basin { session.new.basin ≡ session.old.basin }
     ensures series { session.new.series ≡ edited_by session.old.series edit }
     ensures kept { OnOk result
         (length session.new.kept ≡ kept_by (length session.old.kept) edit + solved_by (length session.old.kept) edit) }
-    ensures answers { Answers basin.now session.old.series (edit ∷ []) result (K.taken out.old) (K.taken out.new) }
+    ensures answers { Answers session.old.basin session.old.series (edit ∷ []) result (K.taken out.old) (K.taken out.new) }
     ensures cause { HasCause (K.faults out.old) (K.faults out.new) (result ≡ Err SinkFailed) }
-    ensures pushes { searches.new ≤ searches.old + solved_by (length session.old.kept) edit * month_pushes basin.now }
+    ensures pushes { searches.new ≤ searches.old + solved_by (length session.old.kept) edit * month_pushes session.old.basin }
 {
     match edit {
         Edit::Inflow {
@@ -89,6 +75,6 @@ pub fn answer<K: Sink, L: Ledger>(
             session.set_want(index, place, amount);
             Ok(())
         }
-        Edit::Show { index } => show(alloc, basin, roll, session, index, out, searches),
+        Edit::Show { index } => show(alloc, session, index, out, searches),
     }
 }

@@ -1,7 +1,6 @@
 //! A whole script answered.
 ghost use Rattle.std.specs.Prelude.{◌≡◌, ◌+◌, ◌*◌, ◌<◌, ◌≤◌, ◌++◌, All, length, codes, Err, OnOk, [], IsErr};
 ghost use Rattle.std.specs.Fmt.{decimal};
-ghost use Rattle.rights_roll.specs.Rolls.{IsRollOf};
 ghost use Rattle.water_edge.specs.Edge.{HasCause, Puts};
 ghost use Rattle.water_model.specs.Valid.{IsValidBasin, IsSeriesOf};
 ghost use Rattle.edit_script.specs.Edits.{IsPlaced, cost, cost_from, edited};
@@ -13,7 +12,6 @@ use crate::answer::answer;
 use crate::stop::EditStop;
 use edit_script::edit::Edit;
 use edit_session::session::Session;
-use rights_roll::roll::Roll;
 use std::alloc::Global;
 use std::sync::ledger::Ledger;
 use steps::Steps;
@@ -24,24 +22,19 @@ use water_text::line::Line;
 /// Answers line after line.
 fn answer_each<K: Sink, L: Ledger>(
     alloc: Global,
-    basin: &Basin,
-    roll: &Roll,
     session: &mut Session,
     edits: &[Edit],
     out: &mut K,
     searches: &mut Steps<L>,
 ) -> Result<(), EditStop>
-    requires basin { IsValidBasin basin.now }
-    requires same { session.old.basin ≡ basin.now }
-    requires roll { IsRollOf basin.now.rights roll.now }
-    requires placed { All (IsPlaced basin.now session.old.series) edits.now }
-    ensures answers { Answers basin.now session.old.series edits.now result (K.taken out.old) (K.taken out.new) }
+    requires { All (IsPlaced session.old.basin session.old.series) edits.now }
+    ensures answers { Answers session.old.basin session.old.series edits.now result (K.taken out.old) (K.taken out.new) }
     ensures cause { HasCause (K.faults out.old) (K.faults out.new) (result ≡ Err stop.SinkFailed) }
     ensures pushes { searches.new ≤ searches.old + cost_from (length session.old.kept) edits.now * month_pushes
-        basin.now }
+        session.old.basin }
 {
     for edit in edits {
-        answer(alloc, basin, roll, session, *edit, out, searches)?;
+        answer(alloc, session, *edit, out, searches)?;
     }
     Ok(())
 }
@@ -85,23 +78,18 @@ fn put_done<K: Sink>(out: &mut K, shows: u64) -> Result<(), SinkFailed>
 /// Answers the lines of a script and puts the last line.
 fn put_answers<K: Sink, L: Ledger>(
     alloc: Global,
-    basin: &Basin,
-    roll: &Roll,
     session: &mut Session,
     edits: &[Edit],
     out: &mut K,
     searches: &mut Steps<L>,
 ) -> Result<(), EditStop>
-    requires basin { IsValidBasin basin.now }
-    requires same { session.old.basin ≡ basin.now }
-    requires roll { IsRollOf basin.now.rights roll.now }
-    requires placed { All (IsPlaced basin.now session.old.series) edits.now }
-    ensures answers { AnswersWhole basin.now session.old.series edits.now result (K.taken out.old) (K.taken out.new) }
+    requires { All (IsPlaced session.old.basin session.old.series) edits.now }
+    ensures answers { AnswersWhole session.old.basin session.old.series edits.now result (K.taken out.old) (K.taken out.new) }
     ensures cause { HasCause (K.faults out.old) (K.faults out.new) (result ≡ Err stop.SinkFailed) }
     ensures pushes { searches.new ≤ searches.old + cost_from (length session.old.kept) edits.now * month_pushes
-        basin.now }
+        session.old.basin }
 {
-    answer_each(alloc, basin, roll, session, edits, out, searches)?;
+    answer_each(alloc, session, edits, out, searches)?;
     match put_done(out, count_shows(edits)) {
         Ok(()) => Ok(()),
         Err(_) => Err(EditStop::SinkFailed),
@@ -129,7 +117,6 @@ pub fn put_shows<K: Sink, L: Ledger>(
     ensures cause { HasCause (K.faults out.old) (K.faults out.new) (result ≡ Err stop.SinkFailed) }
     ensures pushes { searches.new ≤ searches.old + cost edits.now * month_pushes basin.now }
 {
-    let roll = Roll::of_basin(alloc, basin)?;
     let mut session = Session::open(alloc, basin, series)?;
-    put_answers(alloc, basin, &roll, &mut session, edits, out, searches)
+    put_answers(alloc, &mut session, edits, out, searches)
 }

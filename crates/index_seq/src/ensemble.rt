@@ -8,11 +8,11 @@ ghost use Rattle.index_seq.specs.Traces.{HasWholeYears, years_of};
 ghost use Rattle.index_seq.specs.declared.stop.EnsembleStop.TheVariants.{SinkFailed, OutOfMemory};
 ghost use Rattle.month_fold.specs.Runs.{run_pushes};
 
-use crate::months::run_traces;
+use crate::months::{Gathered, run_traces};
 use crate::stop::EnsembleStop;
 use crate::sums::sort_sums;
 use crate::writer::put_ensemble;
-use rights_roll::roll::Roll;
+use month_fold::engine::Engine;
 use std::alloc::{AllocError, Global};
 use std::sync::ledger::Ledger;
 use steps::Steps;
@@ -28,22 +28,25 @@ fn put_in_order(basin: &Basin, series: &Inflows, sums: &mut [Rows<u64>])
     sort_sums(sums);
 }
 
-/// What each right was delivered in the years of all traces, in order. AllocError comes where memory is lacking.
-fn sorted_amounts<L: Ledger>(
+/// What each right was delivered in the years of all traces, in order, and the engine that ran them. AllocError comes
+/// where memory is lacking.
+fn sorted_amounts<'b, L: Ledger>(
     alloc: Global,
-    basin: &Basin,
+    basin: &'b Basin,
     series: &Inflows,
     searches: &mut Steps<L>,
-) -> Result<Rows<Rows<u64>>, AllocError>
+) -> Result<Gathered<'b>, AllocError>
     requires basin { IsValidBasin basin.now }
     requires whole { HasWholeYears basin.now }
     requires series { IsSeriesOf basin.now series.now }
-    ensures lines { IfOk result (HaveLines basin.now series.now) }
+    ensures engine { IfOk result (λ all. all.engine.basin ≡ basin.now) }
+    ensures lines { IfOk result (λ all. HaveLines basin.now series.now all.amounts) }
     ensures pushes { searches.new ≤ searches.old + years_of basin.now * run_pushes basin.now }
 {
-    let mut amounts = run_traces(alloc, basin, series, searches)?;
-    put_in_order(basin, series, amounts.as_mut_slice());
-    Ok(amounts)
+    let engine = Engine::open(alloc, basin)?;
+    let mut all = run_traces(alloc, basin, series, engine, searches)?;
+    put_in_order(basin, series, all.amounts.as_mut_slice());
+    Ok(all)
 }
 
 /// Runs the record of a basin's gauges once from each of its years, and then puts how often each yearly delivery of
@@ -66,15 +69,11 @@ pub fn ensemble_report<K: Sink, L: Ledger>(
     ensures stays { result ≡ Err OutOfMemory → sink.new ≡ sink.old }
     ensures pushes { searches.new ≤ searches.old + years_of basin.now * run_pushes basin.now }
 {
-    let roll = match Roll::of_basin(alloc, basin) {
-        Ok(roll) => roll,
+    let all = match sorted_amounts(alloc, basin, series, searches) {
+        Ok(all) => all,
         Err(_) => return Err(EnsembleStop::OutOfMemory),
     };
-    let amounts = match sorted_amounts(alloc, basin, series, searches) {
-        Ok(amounts) => amounts,
-        Err(_) => return Err(EnsembleStop::OutOfMemory),
-    };
-    match put_ensemble(sink, basin, &roll, amounts.as_slice()) {
+    match put_ensemble(sink, basin, all.engine.roll(), all.amounts.as_slice()) {
         Ok(()) => Ok(()),
         Err(_) => Err(EnsembleStop::SinkFailed),
     }

@@ -158,25 +158,34 @@ fn run_trace<'b, L: Ledger>(
     Ok(run.close())
 }
 
-/// What each right was delivered in each year of each trace, trace by trace. AllocError comes where memory is lacking:
-/// it is taken once for all traces.
-pub fn run_traces<L: Ledger>(
+/// What each right was delivered in each year of each trace, by right, and the engine that ran the traces.
+#[derive(Drop)]
+pub struct Gathered<'b> {
+    pub engine: Engine<'b>,
+    pub amounts: Rows<Rows<u64>>,
+}
+
+/// Runs all traces in one engine, trace by trace. AllocError comes where memory is lacking: it is taken once for all
+/// traces.
+pub fn run_traces<'b, L: Ledger>(
     alloc: Global,
     basin: &Basin,
     series: &Inflows,
+    mut engine: Engine<'b>,
     searches: &mut Steps<L>,
-) -> Result<Rows<Rows<u64>>, AllocError>
+) -> Result<Gathered<'b>, AllocError>
     requires basin { IsValidBasin basin.now }
     requires whole { HasWholeYears basin.now }
     requires series { IsSeriesOf basin.now series.now }
-    ensures sums { IfOk result (HaveSums basin.now series.now (years_of basin.now)) }
+    requires engine { engine.basin ≡ basin.now }
+    ensures engine { IfOk result (λ all. all.engine.basin ≡ basin.now) }
+    ensures sums { IfOk result (λ all. HaveSums basin.now series.now (years_of basin.now) all.amounts) }
     ensures pushes { searches.new ≤ searches.old + years_of basin.now * run_pushes basin.now }
 {
     let count = basin.months / 12;
     let mut sums = empty_sums(alloc, basin.rights.len(), (count * count) as usize)?;
     let mut year = empty_year(alloc, basin.rights.len())?;
     let mut begun = series.copy(alloc)?;
-    let mut engine = Engine::open(alloc, basin)?;
     for trace in 0..count {
         engine = run_trace(
             basin,
@@ -189,5 +198,8 @@ pub fn run_traces<L: Ledger>(
             searches,
         )?;
     }
-    Ok(sums)
+    Ok(Gathered {
+        engine,
+        amounts: sums,
+    })
 }

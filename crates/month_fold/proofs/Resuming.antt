@@ -14,7 +14,7 @@ use Rattle.water_model.specs.declared.types.Basin.{Basin}
 use Rattle.water_model.specs.declared.types.Inflows.{Inflows}
 use Rattle.water_model.specs.declared.types.MonthRecord.{MonthRecord}
 use Rattle.month_terms.specs.Terms.{HasUsed}
-use Rattle.month_fold.specs.Reaches.{HasDeliveries, TellUse}
+use Rattle.month_fold.specs.Reaches.{HasDeliveries, HaveReaches, TellUse, TellsUse}
 use Rattle.month_fold.specs.Runs.{EngineSeen, RunSeen, StandsFor, run_with}
 use Rattle.month_terms.proofs.Amounts.{deliveries_small as all_small}
 use Rattle.month_terms.proofs.Adds.{no_numbers}
@@ -111,41 +111,34 @@ used_by_none b (m ∷ ms) used none count zeros =
     let there = entry_at (m ∷ ms) (length (m ∷ ms) - 1) (omega arith) in
     let never : None ≡ Some there.0 = none ∙ there.1 in absurd (cc)
 
--- what the calls answer, where they answer
+-- what the last of some months tells
+pub last_tells : {X : Type 0} (f : X → MonthRecord) (b : Basin) (xs : List X) (x : X) (m : MonthRecord) →
+    TellUse b (map f xs) → m ≡ f x → Some x ≡ slice_get xs (length xs - 1) →
+    TellsUse b (take (length (map f xs) - 1) (map f xs)) m
+last_tells f b xs x m tell same at = tell (length (map f xs) - 1) m (last_at f xs x m same at)
 
-pub used_ok : {E : Type 0} (b : Basin) (records : List MonthRecord) (m : MonthRecord) (r : Result (List ℕ) E) →
-    TellUse b records →
-    slice_get records (length records - 1) ≡ Some m →
-    IfOk r (λ used. (deliveries : List (List ℕ)) → length deliveries ≡ m.index → HasUsed b deliveries m.used →
-    HasUsed b (deliveries ++ m.delivered ∷ []) used) →
-    IfOk r (λ used. HasUsed b (map (λ k. k.delivered) records) used)
-used_ok b records m (Ok used) tell at next = used_by_last b records m used tell at next
-used_ok b records m (Err e) tell at next = tt
-
-pub none_ok : {E X : Type 0} (f : X → MonthRecord) (b : Basin) (xs : List X) (n : ℕ) (r : Result (List ℕ) E) →
-    None ≡ slice_get xs (length xs - 1) →
-    n ≡ length b.rights → IfOk r (λ rows. rows ≡ replicate n 0) →
-    IfOk r (λ used. HasUsed b (map (λ k. k.delivered) (map f xs)) used)
-none_ok f b xs n (Ok used) none count is =
+pub used_by_zeros : {X : Type 0} (f : X → MonthRecord) (b : Basin) (xs : List X) (used : List ℕ) →
+    None ≡ slice_get xs (length xs - 1) → used ≡ replicate (length b.rights) 0 →
+    HasUsed b (map (λ k. k.delivered) (map f xs)) used
+used_by_zeros f b xs used none zeros =
     used_by_none b (map f xs) used
     (sym (ap (λ k. slice_get (map f xs) (k - 1)) (length-map xs f)
     ∙ (slice_get-map f xs (length xs - 1) ∙ ap (option_map f) (sym none))))
-    (ap length is ∙ (length-replicate n 0 ∙ count)) (λ k. ap (λ ys. slice_index ys k) is ∙ no_numbers n k)
-none_ok f b xs n (Err e) none count is = tt
+    (ap length zeros ∙ length-replicate (length b.rights) 0)
+    (λ r. ap (λ ys. slice_index ys r) zeros ∙ no_numbers (length b.rights) r)
 
 -- what a run keeps is little
-pub used_little : (run : RunSeen) (records : List MonthRecord) → IsValidBasin run.basin →
-    IsSeriesOf run.basin run.series →
-    StandsFor run records → (r : ℕ) → r < length run.basin.rights → slice_index run.used r ≤ 10 ^ 15
-used_little run records valid fits stands r l = omega (
+pub used_little : (run : RunSeen) (records : List MonthRecord) → StandsFor run records →
+    (r : ℕ) → r < length run.basin.rights → slice_index run.used r ≤ 10 ^ 15
+used_little run records stands r l = omega (
   arith,
   stands.used.each r l,
   used_most run.basin (map (λ k. k.delivered) records) r (length (map (λ (k : MonthRecord). k.delivered) records))
       (10 ^ 9)
-      (all_small run.basin run.series records valid fits stands.partial r),
+      (all_small run.basin run.series records stands.valid stands.fits stands.partial r),
   length-map records (λ (k : MonthRecord). k.delivered),
   stands.partial.within,
-  valid.run.months.1,
+  stands.valid.run.months.1,
 )
 
 -- what is stored
@@ -158,6 +151,20 @@ stored_count b series records partial = by_last (slice_get records (length recor
     by_last None e = length-map b.reservoirs (λ v. v.opening)
     by_last (Some m) e = (partial.each (length records - 1) m e).fits.closing
 
+-- behind the last of some months it is what that one left
+pub stored_by_last : (b : Basin) (records : List MonthRecord) (m : MonthRecord) →
+    slice_get records (length records - 1) ≡ Some m → opening_after b records ≡ m.closing
+stored_by_last b records m at =
+    ap (λ o. unwrap_or (option_map (λ k. k.closing) o) (map (λ v. v.opening) b.reservoirs)) at
+
+-- and behind none what the basin file says
+pub stored_by_none : {X : Type 0} (f : X → MonthRecord) (b : Basin) (xs : List X) →
+    None ≡ slice_get xs (length xs - 1) → opening_after b (map f xs) ≡ map (λ v. v.opening) b.reservoirs
+stored_by_none f b xs none =
+    ap (λ o. unwrap_or (option_map (λ k. k.closing) o) (map (λ v. v.opening) b.reservoirs))
+    (ap (λ k. slice_get (map f xs) (k - 1)) (length-map xs f)
+    ∙ (slice_get-map f xs (length xs - 1) ∙ ap (option_map f) (sym none)))
+
 -- the deliveries up to one month more
 pub deliveries_more : {X : Type 0} (f : X → MonthRecord) (xs : List X) (i : ℕ) (x : X) (delivered : List ℕ) →
     i < length xs → x ≡ get_or xs i x →
@@ -169,17 +176,27 @@ deliveries_more {X = X} f xs i x delivered l is e =
     ∙ map-append (λ (m : MonthRecord). m.delivered) (map f (take i xs)) (f (get_or xs i x) ∷ [])
     ∙ ap (λ (d : List ℕ). map (λ m. m.delivered) (map f (take i xs)) ++ d ∷ []) (sym (e ∙ ap (λ y. (f y).delivered) is))
 
--- before the first month a run stands for none
-pub begins : (engine : EngineSeen) (series : Inflows) →
-    engine.last.closing ≡ map (λ v. v.opening) engine.basin.reservoirs →
-    lag.StandsFor engine.lags engine.basin.returns [] → engine.used ≡ replicate (length engine.basin.rights) 0 →
-    StandsFor (run_with engine series 0) []
-begins engine series stored lags used = record {
-  partial = record { within = omega arith; each = λ i m at. (let none : slice_get [] i ≡ Some m = at in cc) };
-  reaches = λ i m at. (let none : slice_get [] i ≡ Some m = at in cc);
-  done = refl;
+-- before the first month nothing was used
+pub none_tell : (b : Basin) → TellUse b []
+none_tell b i m at = let none : None ≡ Some m = at in cc
+
+pub none_reach : (b : Basin) → HaveReaches b []
+none_reach b i m at = let none : None ≡ Some m = at in cc
+
+-- an engine behind some months makes a run that stands for them
+pub stands_behind : (engine : EngineSeen) (series : Inflows) (records : List MonthRecord) (done : ℕ) →
+    IsValidBasin engine.basin → IsSeriesOf engine.basin series → IsPartialHistory engine.basin series records →
+    HaveReaches engine.basin records → done ≡ length records →
+    engine.last.closing ≡ opening_after engine.basin records →
+    lag.StandsFor engine.lags engine.basin.returns (map (λ m. m.delivered) records) →
+    HasUsed engine.basin (map (λ m. m.delivered) records) engine.used → StandsFor (run_with engine series done) records
+stands_behind engine series records done valid fits partial reaches count stored lags used = record {
+  valid = valid;
+  fits = fits;
+  partial = partial;
+  reaches = reaches;
+  done = count;
   stored = stored;
   lags = lags;
-  used = nothing_used engine.basin engine.used (ap length used ∙ length-replicate (length engine.basin.rights) 0)
-      (λ r. ap (λ xs. slice_index xs r) used ∙ no_numbers (length engine.basin.rights) r);
+  used = used;
 }

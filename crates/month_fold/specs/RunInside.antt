@@ -1,7 +1,7 @@
 -- What an engine and a run keep.
 use Rattle.std.specs.Prelude.{◌≡◌, length, map}
 use Rattle.lag_returns.specs.Lags.{return_rows}
-use Rattle.water_model.specs.Valid.{IsValidBasin, IsSeriesOf}
+use Rattle.water_model.specs.Valid.{IsValidBasin}
 use Rattle.month_terms.specs.Terms.{FitsRecord}
 use Rattle.month_fold.specs.Runs.{EngineSeen, RunSeen, HasMonths, run_with}
 use Rattle.month_fold.specs.declared.engine.Engine.TheInside.{Inside as EngineInside}
@@ -22,8 +22,6 @@ pub record IsFitted (e : EngineInside) : Type 0 where
 abbrev pub seen_of : Inside → RunSeen
 seen_of i = run_with i.engine i.series.now i.done
 
--- a valid basin and a series of it, and some months stand behind the run
-pub record IsReady (i : Inside) : Type 0 where
-  pub valid : IsValidBasin i.engine.basin
-  pub series : IsSeriesOf i.engine.basin i.series.now
-  pub months : HasMonths (seen_of i)
+-- some months stand behind the run
+abbrev pub IsReady : Inside → Type 0
+IsReady i = HasMonths (seen_of i)

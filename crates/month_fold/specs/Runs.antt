@@ -6,6 +6,7 @@ use Rattle.water_model.specs.History.{IsPartialHistory, Follows, opening_after}
 use Rattle.month_terms.specs.Terms.{HasUsed}
 use Rattle.month_fold.specs.Reaches.{HaveReaches, HasReaches}
 use Rattle.senior_hold.specs.MonthNetwork.{month_pushes}
+use Rattle.water_model.specs.Valid.{IsValidBasin, IsSeriesOf}
 use Rattle.water_model.specs.declared.types.Basin.{Basin}
 use Rattle.water_model.specs.declared.types.Inflows.{Inflows}
 use Rattle.water_model.specs.declared.types.MonthRecord.{MonthRecord}
@@ -39,9 +40,11 @@ run_with engine series done = record {
   used = engine.used;
 }
 
--- the run went through these months: they are a partial history, with the reaches as the sets of short rights, after
--- which the next month opens with what is stored, on its way and used
+-- the run of a valid basin and a series of it went through these months: they are a partial history, with the reaches
+-- as the sets of short rights, after which the next month opens with what is stored, on its way and used
 pub record StandsFor (run : RunSeen) (records : List MonthRecord) : Type 0 where
+  pub valid : IsValidBasin run.basin
+  pub fits : IsSeriesOf run.basin run.series
   pub partial : IsPartialHistory run.basin run.series records
   pub reaches : HaveReaches run.basin records
   pub done : run.done ≡ length records
@@ -58,6 +61,11 @@ pub record HasMonths (run : RunSeen) : Type 0 where
 pub record IsNext (b : Basin) (series : Inflows) (records : List MonthRecord) (m : MonthRecord) : Type 0 where
   pub follows : Follows b series records m
   pub reaches : HasReaches b m
+
+-- a later moment of the run: its basin and its series are the same
+pub record GoesOn (run later : RunSeen) : Type 0 where
+  pub basin : later.basin ≡ run.basin
+  pub series : later.series ≡ run.series
 
 -- how often the searches of a whole run push at most
 abbrev pub run_pushes : Basin → ℕ

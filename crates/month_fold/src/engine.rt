@@ -1,21 +1,22 @@
 //! What runs of a basin are made with.
 ghost use Rattle.std.specs.Prelude.{ℕ, List, ◌≡◌, ◌+◌, ◌*◌, ◌<◌, ◌≤◌, ◌++◌, ◌∷◌, [], All, length, map, IfOk};
-ghost use Rattle.lag_returns.specs.Lags as lag;
-ghost use Rattle.month_terms.specs.Terms.{HasUsed};
+ghost use Rattle.rights_roll.specs.Rolls.{IsRollOf};
 ghost use Rattle.senior_hold.specs.MonthNetwork.{month_pushes};
-ghost use Rattle.water_model.specs.History.{opening_after};
+ghost use Rattle.water_model.specs.History.{IsPartialHistory, opening_after};
 ghost use Rattle.water_model.specs.Valid.{IsValidBasin, IsSeriesOf};
 ghost use Rattle.water_model.specs.declared.types.Inflows.{Inflows};
 ghost use Rattle.water_model.specs.declared.types.MonthRecord.{MonthRecord};
-ghost use Rattle.month_fold.specs.Reaches.{HasDeliveries, TellUse};
+ghost use Rattle.month_fold.specs.Reaches.{HasDeliveries, HaveReaches, TellUse};
 ghost use Rattle.month_fold.specs.Runs.{StandsFor, HasMonths, run_with};
 
-use crate::blank::{blank_month, open_storage};
+use crate::blank::blank_month;
 use crate::next::{next_month, use_volumes};
-use crate::resume::{on_the_way, stored_after, used_after};
+use crate::resume::{bring_behind, store_behind, use_behind};
 use lag_returns::Lags;
 use month_terms::evaporation::tables_of;
+use month_terms::opening::zeros;
 use reservoirs::AreaTable;
+use rights_roll::roll::Roll;
 use senior_hold::Solver;
 use std::alloc::{AllocError, Global};
 use std::marker::Model;
@@ -27,7 +28,8 @@ use water_model::types::{Basin, Inflows, MonthRecord};
 /// What a run of a basin is made with, apart from its series: the solver and the area tables, and the memory for what
 /// is on its way, what was used of volumes and the record of the last month. One engine serves one run after another.
 ///
-/// All memory is taken where an engine is opened.
+/// All memory is taken where an engine is opened. What it was opened with, the network, the roll and the area tables, is
+/// lent on by it: no run, and nobody who writes of one, builds them anew.
 #[derive(Drop)]
 pub struct Engine<'b> {
     basin: &'b Basin,
@@ -59,39 +61,16 @@ fn solver_of<'b>(alloc: Global, basin: &'b Basin) -> Result<Box<Solver<'b>>, All
 }
 
 impl<'b> Engine<'b> {
-    /// An engine for runs of a basin. AllocError comes where memory is lacking.
+    /// An engine for runs of a basin. AllocError comes where memory is lacking. No other call takes memory.
     pub fn open(alloc: Global, basin: &'b Basin) -> Result<Engine<'b>, AllocError>
         requires { IsValidBasin basin.now }
         ensures { IfOk result (λ engine. engine.basin ≡ basin.now) }
     {
-        Engine::behind(alloc, basin, &[])
-    }
-
-    /// An engine as a run leaves it that went through these months. AllocError comes where memory is lacking.
-    pub(crate) fn behind(
-        alloc: Global,
-        basin: &'b Basin,
-        months: &[Box<MonthRecord>],
-    ) -> Result<Engine<'b>, AllocError>
-        requires basin { IsValidBasin basin.now }
-        requires deliveries { All (λ m. HasDeliveries basin.now m.value) months.now }
-        requires used { TellUse basin.now (map (λ m. m.value) months.now) }
-        requires stored { length (opening_after basin.now (map (λ m. m.value) months.now))
-            ≡ length basin.now.reservoirs }
-        ensures basin { IfOk result (λ engine. engine.basin ≡ basin.now) }
-        ensures stored { IfOk result
-            (λ engine. engine.last.closing ≡ opening_after basin.now (map (λ m. m.value) months.now)) }
-        ensures lags { IfOk result (λ engine. lag.StandsFor engine.lags basin.now.returns
-            (map (λ m. m.delivered) (map (λ m. m.value) months.now))) }
-        ensures used { IfOk result (λ engine. HasUsed basin.now
-            (map (λ m. m.delivered) (map (λ m. m.value) months.now)) engine.used) }
-    {
         let solver = solver_of(alloc, basin)?;
         let tables = tables_of(alloc, basin)?;
-        let lags = on_the_way(alloc, basin, months)?;
-        let used = used_after(alloc, basin, months)?;
-        let stored = stored_after(alloc, basin, months)?;
-        let month = blank_month(alloc, basin, stored)?;
+        let lags = Lags::open(alloc, basin.returns.as_slice())?;
+        let used = zeros(alloc, basin.rights.len())?;
+        let month = blank_month(alloc, basin)?;
         Ok(Engine {
             basin,
             solver,
@@ -102,35 +81,51 @@ impl<'b> Engine<'b> {
         })
     }
 
-    /// Goes back to before the first month of a run, whose series may be any.
-    pub(crate) fn clear(&mut self)
+    /// Goes behind these months of a run, which may have been solved by another engine: behind none it stands before the
+    /// first. Nothing is left of the run that it served before. No month is solved: the cost is linear in the return
+    /// rows times the months.
+    pub fn go_behind(&mut self, months: &[Box<MonthRecord>])
+        requires deliveries { All (λ m. HasDeliveries self.old.basin m.value) months.now }
+        requires told { TellUse self.old.basin (map (λ m. m.value) months.now) }
+        requires stored { length (opening_after self.old.basin (map (λ m. m.value) months.now))
+            ≡ length self.old.basin.reservoirs }
         ensures basin { self.new.basin ≡ self.old.basin }
-        ensures valid { IsValidBasin self.new.basin }
-        ensures stands { (series : Inflows) → StandsFor (run_with self.new series 0) [] }
+        ensures stands { (series : Inflows) → IsSeriesOf self.new.basin series →
+            IsPartialHistory self.new.basin series (map (λ m. m.value) months.now) →
+            HaveReaches self.new.basin (map (λ m. m.value) months.now) →
+            StandsFor (run_with self.new series (length months.now)) (map (λ m. m.value) months.now) }
     {
-        self.lags.clear();
-        self.used.as_mut_slice().fill(0);
-        open_storage(self.basin, &mut *self.month);
+        bring_behind(self.basin, months, &mut self.lags);
+        use_behind(self.basin, months, &mut self.used);
+        store_behind(self.basin, months, &mut *self.month);
     }
 
-    /// How many months a run has.
-    pub(crate) fn months(&self) -> u32
-        ensures { result ≡ self.now.basin.months }
+    /// The basin, which is valid.
+    pub fn basin(&self) -> &'b Basin
+        ensures value { result.now ≡ self.now.basin }
+        ensures valid { IsValidBasin result.now }
     {
-        self.basin.months
+        self.basin
     }
 
-    /// The record of the month that was solved last. Before the first it says nothing but the storage with which that
-    /// opens, as its closing.
-    pub(crate) fn month(&self) -> &MonthRecord
+    /// The roll of the basin's rights, by which months are solved.
+    pub fn roll(&self) -> &Roll
+        ensures { IsRollOf self.now.basin.rights result.now }
+    {
+        self.solver.roll()
+    }
+
+    /// The record of the month that was solved last. Where none was since the engine went behind some months, it says
+    /// nothing but the storage with which the next one opens, as its closing.
+    pub fn month(&self) -> &MonthRecord
         ensures { result.now ≡ self.now.last }
     {
         &self.month
     }
 
-    /// Solves the month behind so many of a series. Each search that finds a walk ticks `searches` once.
-    pub(crate) fn step<L: Ledger>(&mut self, series: &Inflows, done: u32, searches: &mut Steps<L>)
-        requires series { IsSeriesOf self.old.basin series.now }
+    /// Solves the month behind so many of a series, whose record `month` then gives. Each search that finds a walk ticks
+    /// `searches` once.
+    pub fn step<L: Ledger>(&mut self, series: &Inflows, done: u32, searches: &mut Steps<L>)
         requires left { done < self.old.basin.months }
         requires months { HasMonths (run_with self.old series.now done) }
         ensures basin { self.new.basin ≡ self.old.basin }

@@ -5,7 +5,7 @@ ghost use Rattle.lag_returns.specs.Lags.{OnTheWay, return_rows};
 ghost use Rattle.lag_returns.specs.Lags as lag;
 ghost use Rattle.month_terms.specs.Terms.{FitsRecord, HasReturned, HasUsed};
 ghost use Rattle.senior_hold.specs.MonthNetwork.{month_pushes};
-ghost use Rattle.water_model.specs.Valid.{IsValidBasin, IsSeriesOf};
+ghost use Rattle.water_model.specs.Valid.{IsValidBasin};
 ghost use Rattle.water_model.specs.declared.types.MonthRecord.{MonthRecord};
 ghost use Rattle.month_fold.specs.Reaches.{HasDeliveries};
 ghost use Rattle.month_fold.specs.Runs.{RunSeen, StandsFor, HasMonths, IsNext};
@@ -82,8 +82,6 @@ pub fn next_month<L: Ledger>(
     month: &mut MonthRecord,
     searches: &mut Steps<L>,
 )
-    requires basin { IsValidBasin basin.now }
-    requires series { IsSeriesOf basin.now series.now }
     requires tables { tables.now ≡ map (λ v. v.area) basin.now.reservoirs }
     requires solver { solver.old ≡ basin.now }
     requires index { index < basin.now.months }

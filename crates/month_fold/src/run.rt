@@ -1,5 +1,6 @@
 //! A run of a basin, month by month.
 ghost use Rattle.std.specs.Prelude.{List, ◌≡◌, ◌+◌, ◌-◌, ◌<◌, ◌≤◌, ◌++◌, ◌∷◌, [], map, IfOk};
+ghost use Rattle.rights_roll.specs.Rolls.{IsRollOf};
 ghost use Rattle.senior_hold.specs.MonthNetwork.{month_pushes};
 ghost use Rattle.water_model.specs.Valid.{IsValidBasin, IsSeriesOf};
 ghost use Rattle.water_model.specs.declared.types.MonthRecord.{MonthRecord};
@@ -8,6 +9,7 @@ ghost use Rattle.month_fold.specs.Reaches.{HaveReaches};
 ghost use Rattle.month_fold.specs.Runs.{StandsFor};
 
 use crate::engine::Engine;
+use rights_roll::roll::Roll;
 use std::alloc::{AllocError, Global};
 use std::marker::Model;
 use std::sync::ledger::Ledger;
@@ -50,7 +52,7 @@ impl<'b, 's> Run<'b, 's> {
         ensures series { IfOk result (λ run. run.series ≡ series.now) }
         ensures stands { IfOk result (λ run. StandsFor run []) }
     {
-        Run::resume(alloc, basin, series, &[])
+        Ok(Run::begin(Engine::open(alloc, basin)?, series))
     }
 
     /// A run before its first month, in the memory of an engine: it takes none. The engine may have served other runs,
@@ -61,7 +63,7 @@ impl<'b, 's> Run<'b, 's> {
         ensures series { result.series ≡ series.now }
         ensures stands { StandsFor result [] }
     {
-        engine.clear();
+        engine.go_behind(&[]);
         Run {
             engine,
             series,
@@ -98,7 +100,8 @@ impl<'b, 's> Run<'b, 's> {
         ensures series { IfOk result (λ run. run.series ≡ series.now) }
         ensures stands { IfOk result (λ run. StandsFor run (map (λ m. m.value) months.now)) }
     {
-        let engine = Engine::behind(alloc, basin, months)?;
+        let mut engine = Engine::open(alloc, basin)?;
+        engine.go_behind(months);
         Ok(Run {
             engine,
             series,
@@ -106,11 +109,34 @@ impl<'b, 's> Run<'b, 's> {
         })
     }
 
+    /// The basin, which is valid.
+    pub fn basin(&self) -> &'b Basin
+        ensures value { result.now ≡ self.now.basin }
+        ensures valid { IsValidBasin result.now }
+    {
+        self.engine.basin()
+    }
+
+    /// The series, which is one of the basin.
+    pub fn series(&self) -> &'s Inflows
+        ensures value { result.now ≡ self.now.series }
+        ensures fits { IsSeriesOf self.now.basin result.now }
+    {
+        self.series
+    }
+
+    /// The roll of the basin's rights, by which months are solved.
+    pub fn roll(&self) -> &Roll
+        ensures { IsRollOf self.now.basin.rights result.now }
+    {
+        self.engine.roll()
+    }
+
     /// How many months are left: at first all of the run.
     pub fn left(&self) -> u32
         ensures { result ≡ self.now.basin.months - self.now.done }
     {
-        self.engine.months() - self.done
+        self.engine.basin().months - self.done
     }
 
     /// The record of the month that was solved last. Before the first step it says nothing but the storage with which

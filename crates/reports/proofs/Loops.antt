@@ -1,40 +1,75 @@
 -- All months of a run.
-use Rattle.std.proofs.Common.{◌≡◌, ℕ, ◌+◌, ◌*◌, ◌<◌, ◌≤◌, arith, List, [], ◌∷◌, ◌++◌}
-use Rattle.std.proofs.Math.Nat.{mul-le-mul_right}
-use Rattle.month_fold.specs.Reaches.{HaveReaches}
-use Rattle.month_fold.specs.Runs.{RunSeen, StandsFor, run_pushes}
-use Rattle.water_model.specs.History.{IsPartialHistory}
-use Rattle.water_model.specs.Valid.{IsValidBasin}
-use Rattle.water_model.specs.declared.types.Basin.{Basin}
-use Rattle.water_model.specs.declared.types.Inflows.{Inflows}
+use Rattle.std.proofs.Common.{◌≡◌, List, [], ◌∷◌, ◌++◌}
+use Rattle.month_fold.specs.Runs.{GoesOn, RunSeen, StandsFor}
+use Rattle.month_fold.proofs.Whole.{whole_history}
 use Rattle.water_model.specs.declared.types.MonthRecord.{MonthRecord}
-use Rattle.water_model.proofs.Histories.{all_months}
 use Rattle.reports.specs.Ends.{IsRun}
+use Rattle.reports.specs.Tallies.{IsTally, IsTallyBefore, IsTallyOf, IsTallyOfRun, IsTrial, IsTrialBefore, IsTrialOf}
+use Rattle.reports.specs.Tallies.{IsTrialOfRun}
+use Rattle.reports.specs.declared.tally.Tally.{Tally}
+use Rattle.reports.specs.declared.called.Trial.{Trial}
 use Rattle.reports.proofs.Balanced.{figures_balanced}
-use Rattle.senior_hold.specs.MonthNetwork.{month_pushes}
-
--- the months that a run went through, and the next one
-pub next_partial : (b : Basin) (series : Inflows) (next : RunSeen) (records : List MonthRecord) (m : MonthRecord) →
-    next.basin ≡ b → next.series ≡ series → m ≡ next.last →
-    StandsFor next (records ++ next.last ∷ []) → IsPartialHistory b series (records ++ m ∷ [])
-next_partial b series next records m same fits last stands = rw (← same, ← fits, last) stands.partial
 
 -- the months that a run went through are a whole run where they are all
-pub whole_run : (b : Basin) (series : Inflows) (run : RunSeen) (records : List MonthRecord) → IsValidBasin b →
-    run.basin ≡ b → run.series ≡ series →
-    StandsFor run records → run.done ≡ b.months → IsRun b series records
-whole_run b series run records valid same fits stands done =
-    let partial : IsPartialHistory b series records = rw (← same, ← fits) stands.partial in
-    let reaches : HaveReaches b records = rw (← same) stands.reaches in
-    record {
-      history = all_months b series records partial (omega (arith, stands.done, done));
-      reaches = reaches;
-      balanced = figures_balanced b series records valid partial;
+whole_run : (run : RunSeen) (records : List MonthRecord) → StandsFor run records → run.done ≡ run.basin.months →
+    IsRun run.basin run.series records
+whole_run run records stands done = record {
+  history = whole_history run records stands done;
+  reaches = stands.reaches;
+  balanced = figures_balanced run.basin run.series records stands.valid stands.partial;
+}
+
+module _ (run next : RunSeen) (t : Tally) (goes : GoesOn run next) (of : IsTallyOf run t) where
+  -- the tally before the next month, and with it
+  module _ (more : (records : List MonthRecord) → StandsFor run records →
+      StandsFor next (records ++ next.last ∷ [])) where
+    pub next_tally : IsTallyBefore next.basin next.series t next.last
+    next_tally = record {
+      records = of.records;
+      partial = (more of.records of.stands).partial;
+      tally = rw (goes.basin, goes.series) of.tally;
     }
 
--- the pushes of some months and of one more are within those of a run
-pub within_run : (b : Basin) (first before after i : ℕ) → before ≤ first + i * month_pushes b →
-    after ≤ before + month_pushes b → i < b.months →
-    after ≤ first + run_pushes b
-within_run b first before after i sofar more l = let all : (i + 1) * month_pushes b ≤ b.months * month_pushes b =
-    mul-le-mul_right (month_pushes b) (omega arith) in omega arith
+    pub tally_more : (t' : Tally) → ((records : List MonthRecord) → IsTally next.basin next.series records t →
+        IsTally next.basin next.series (records ++ next.last ∷ []) t') → IsTallyOf next t'
+    tally_more t' adds = record {
+      records = of.records ++ next.last ∷ [];
+      stands = more of.records of.stands;
+      tally = adds of.records (rw (goes.basin, goes.series) of.tally);
+    }
+
+-- a tally of all months
+pub tally_whole : (run later : RunSeen) (t : Tally) → GoesOn run later → later.done ≡ run.basin.months →
+    IsTallyOf later t → IsTallyOfRun run.basin run.series t
+tally_whole run later t goes done of = record {
+  records = of.records;
+  run = rw (← goes.basin, ← goes.series) (whole_run later of.records of.stands (rw goes.basin done));
+  tally = rw (← goes.basin, ← goes.series) of.tally;
+}
+
+module _ (run next : RunSeen) (t : Trial) (goes : GoesOn run next) (of : IsTrialOf run t) where
+  -- a trial likewise
+  module _ (more : (records : List MonthRecord) → StandsFor run records →
+      StandsFor next (records ++ next.last ∷ [])) where
+    pub next_trial : IsTrialBefore next.basin next.series t next.last
+    next_trial = record {
+      records = of.records;
+      partial = (more of.records of.stands).partial;
+      trial = rw (goes.basin, goes.series) of.trial;
+    }
+
+    pub trial_more : (t' : Trial) → ((records : List MonthRecord) → IsTrial next.basin next.series records t →
+        IsTrial next.basin next.series (records ++ next.last ∷ []) t') → IsTrialOf next t'
+    trial_more t' adds = record {
+      records = of.records ++ next.last ∷ [];
+      stands = more of.records of.stands;
+      trial = adds of.records (rw (goes.basin, goes.series) of.trial);
+    }
+
+pub trial_whole : (run later : RunSeen) (t : Trial) → GoesOn run later → later.done ≡ run.basin.months →
+    IsTrialOf later t → IsTrialOfRun run.basin run.series t
+trial_whole run later t goes done of = record {
+  records = of.records;
+  run = rw (← goes.basin, ← goes.series) (whole_run later of.records of.stands (rw goes.basin done));
+  trial = rw (← goes.basin, ← goes.series) of.trial;
+}

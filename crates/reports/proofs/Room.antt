@@ -20,7 +20,7 @@ use Rattle.water_model.specs.declared.types.Inflows.{Inflows}
 use Rattle.water_model.specs.declared.types.MonthRecord.{MonthRecord}
 use Rattle.water_model.proofs.Balance.{balanced, sum_total}
 use Rattle.water_model.proofs.Order.{length-numbers_from}
-use Rattle.month_fold.proofs.Standing.{opens_with_last}
+use Rattle.water_model.proofs.Histories.{last_follows, opens_with_last}
 use Rattle.water_model.proofs.Wants.{want_most}
 use Rattle.month_terms.proofs.Amounts.{follows_small, deliveries_small}
 use Rattle.month_terms.proofs.Bounds.{inflows_small, returns_small}
@@ -31,14 +31,6 @@ use Rattle.reports.specs.declared.waters.Waters.{Waters}
 use Rattle.reports.proofs.Sums.{openings_small}
 
 -- the last of some months follows those before it
-pub last_follows : (b : Basin) (series : Inflows) (records : List MonthRecord) (m : MonthRecord) →
-    IsPartialHistory b series (records ++ m ∷ []) →
-    Follows b series records m
-last_follows b series records m partial =
-    subst (λ (before : List MonthRecord). Follows b series before m)
-    (take-append-le (length records) records (m ∷ []) (omega arith) ∙ take-length records)
-    (partial.each (length records) m (get_behind records [] m))
-
 -- what holds of each month that follows a partial history holds of all months of one
 each_month : (P : MonthRecord → Type 0) (b : Basin) (series : Inflows) (records : List MonthRecord) →
     IsPartialHistory b series records →

@@ -51,19 +51,15 @@ pub record IsTrialBefore (b : Basin) (series : Inflows) (t : Trial) (m : MonthRe
   pub trial : IsTrial b series records t
 
 -- the tally is that of the months that a run went through
-pub record IsTallyOf (b : Basin) (series : Inflows) (run : RunSeen) (t : Tally) : Type 0 where
-  pub basin : run.basin ≡ b
-  pub fits : run.series ≡ series
+pub record IsTallyOf (run : RunSeen) (t : Tally) : Type 0 where
   pub records : List MonthRecord
   pub stands : StandsFor run records
-  pub tally : IsTally b series records t
+  pub tally : IsTally run.basin run.series records t
 
-pub record IsTrialOf (b : Basin) (series : Inflows) (run : RunSeen) (t : Trial) : Type 0 where
-  pub basin : run.basin ≡ b
-  pub fits : run.series ≡ series
+pub record IsTrialOf (run : RunSeen) (t : Trial) : Type 0 where
   pub records : List MonthRecord
   pub stands : StandsFor run records
-  pub trial : IsTrial b series records t
+  pub trial : IsTrial run.basin run.series records t
 
 -- the tally is that of a whole run
 pub record IsTallyOfRun (b : Basin) (series : Inflows) (t : Tally) : Type 0 where

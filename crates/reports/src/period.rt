@@ -7,10 +7,10 @@ ghost use Rattle.reports.specs.Reports.{report_text};
 ghost use Rattle.reports.specs.declared.stop.ReportStop.TheVariants.{SinkFailed, OutOfMemory};
 ghost use Rattle.month_fold.specs.Runs.{run_pushes};
 
-use crate::months::tally_run;
+use crate::months::tally_of;
 use crate::stop::ReportStop;
 use crate::texts::put_report;
-use rights_roll::roll::Roll;
+use month_fold::run::Run;
 use std::alloc::Global;
 use std::sync::ledger::Ledger;
 use steps::Steps;
@@ -38,15 +38,15 @@ pub fn period_report<K: Sink, L: Ledger>(
     ensures unsolved { result ≡ Err OutOfMemory → searches.new ≡ searches.old }
     ensures pushes { searches.new ≤ searches.old + run_pushes basin.now }
 {
-    let roll = match Roll::of_basin(alloc, basin) {
-        Ok(roll) => roll,
+    let mut run = match Run::open(alloc, basin, series) {
+        Ok(run) => run,
         Err(_) => return Err(ReportStop::OutOfMemory),
     };
-    let tally = match tally_run(alloc, basin, series, searches) {
+    let tally = match tally_of(alloc, &mut run, searches) {
         Ok(tally) => tally,
         Err(_) => return Err(ReportStop::OutOfMemory),
     };
-    match put_report(sink, basin, &roll, &tally) {
+    match put_report(sink, basin, run.roll(), &tally) {
         Ok(()) => Ok(()),
         Err(_) => Err(ReportStop::SinkFailed),
     }

@@ -7,11 +7,11 @@ ghost use Rattle.reports.specs.Reports.{trial_text};
 ghost use Rattle.reports.specs.declared.stop.ReportStop.TheVariants.{SinkFailed, OutOfMemory};
 ghost use Rattle.month_fold.specs.Runs.{run_pushes};
 
-use crate::months::try_run;
+use crate::months::trial_of;
 use crate::stop::ReportStop;
 use crate::texts::put_summary;
 use crate::totals::totals_of;
-use rights_roll::roll::Roll;
+use month_fold::run::Run;
 use std::alloc::Global;
 use std::sync::ledger::Ledger;
 use steps::Steps;
@@ -41,11 +41,11 @@ pub fn trial_report<K: Sink, L: Ledger>(
     ensures unsolved { result ≡ Err OutOfMemory → searches.new ≡ searches.old }
     ensures pushes { searches.new ≤ searches.old + run_pushes basin.now }
 {
-    let roll = match Roll::of_basin(alloc, basin) {
-        Ok(roll) => roll,
+    let mut run = match Run::open(alloc, basin, series) {
+        Ok(run) => run,
         Err(_) => return Err(ReportStop::OutOfMemory),
     };
-    let trial = match try_run(alloc, basin, series, &roll, searches) {
+    let trial = match trial_of(alloc, &mut run, searches) {
         Ok(trial) => trial,
         Err(_) => return Err(ReportStop::OutOfMemory),
     };

@@ -5,6 +5,7 @@
 //! bound on its pushes, whatever its amounts. Where the budget gives out, the month is solved from its beginning by
 //! searches. Both ways go over one network.
 ghost use Rattle.std.specs.Prelude.{◌≡◌, ℕ, ◌+◌, ◌*◌, ◌<◌, ◌≤◌, length, IfOk};
+ghost use Rattle.rights_roll.specs.Rolls.{IsRollOf};
 ghost use Rattle.water_text.specs.Months.{IsMonth};
 ghost use Rattle.water_model.specs.Valid.{IsValidBasin};
 ghost use Rattle.senior_hold.specs.MonthNetwork.{arc_count, month_pushes};
@@ -118,6 +119,13 @@ impl<'b> Solver<'b> {
             region,
             places,
         })
+    }
+
+    /// The roll of the basin's rights, by which months are solved.
+    pub fn roll(&self) -> &Roll
+        ensures { IsRollOf self.now.rights result.now }
+    {
+        &self.layout.roll
     }
 
     /// Solves a month as `solve_month` does, by the residual tree, with at most 30 pushes for each right on average.

@@ -1,20 +1,21 @@
 -- Partial histories grow record by record.
-use Rattle.std.proofs.Common.{◌≡◌, ℕ, zero, suc, ◌<◌, ◌≤◌, refl, sym, ◌∙◌, ap, subst, arith, List, [], ◌∷◌, ◌++◌}
-use Rattle.std.proofs.Common.{length, take, inl, inr, length-append}
-use Rattle.std.specs.Prelude.{slice_get, Some, None, ◌⊎◌}
+use Rattle.std.proofs.Common.{◌≡◌, ℕ, zero, suc, ◌-◌, ◌<◌, ◌≤◌, refl, sym, ◌∙◌, ap, subst, arith, List, [], ◌∷◌, ◌++◌}
+use Rattle.std.proofs.Common.{length, map, take, inl, inr, length-append}
+use Rattle.std.specs.Prelude.{slice_get, Some, None, ◌⊎◌, unwrap_or, option_map}
 use Rattle.std.proofs.lemmas.List.{take-append-le}
 use Rattle.std.proofs.Math.Seq.{take-length}
 use Rattle.std.proofs.lemmas.Option.{slice_get_within}
 use Rattle.water_text.specs.Months.{IsMonth}
-use Rattle.water_model.specs.History.{IsPartialHistory, IsHistory, Follows}
+use Rattle.water_model.specs.History.{IsPartialHistory, IsHistory, Follows, opening_after}
 use Rattle.water_model.specs.Hydrology.{run_month}
 use Rattle.water_model.specs.Valid.{IsValidRun}
 use Rattle.water_model.specs.declared.types.Basin.{Basin}
 use Rattle.water_model.specs.declared.types.Inflows.{Inflows}
 use Rattle.water_model.specs.declared.types.MonthRecord.{MonthRecord}
+use Rattle.water_model.proofs.Lists.{get_behind}
 
 -- an element of a list with one more at its end is one of the list, or the last
-at_end : {X : Type 0} (xs : List X) (y x : X) (i : ℕ) → slice_get (xs ++ y ∷ []) i ≡ Some x →
+pub at_end : {X : Type 0} (xs : List X) (y x : X) (i : ℕ) → slice_get (xs ++ y ∷ []) i ≡ Some x →
     (slice_get xs i ≡ Some x) ⊎ ((i ≡ length xs) × (y ≡ x))
 at_end [] y x zero h = inr (refl, cc)
 at_end [] y x (suc i) h = let none : None ≡ Some x = h in cc
@@ -51,6 +52,23 @@ one_month_more b series records m partial left follows = record {
         ap (λ k. take k (records ++ m ∷ [])) last.0 ∙ front (length records) (omega arith) ∙ take-length records in
         subst (λ (before : List MonthRecord). Follows b series before n) (sym whole)
         (subst (Follows b series records) last.1 follows)
+
+-- the last record of a partial history follows those before it
+pub last_follows : (b : Basin) (series : Inflows) (before : List MonthRecord) (m : MonthRecord) →
+    IsPartialHistory b series (before ++ m ∷ []) → Follows b series before m
+last_follows b series before m partial =
+    subst (λ (rs : List MonthRecord). Follows b series rs m)
+    (take-append-le (length before) before (m ∷ []) (omega arith) ∙ take-length before)
+    (partial.each (length before) m (get_behind before [] m))
+
+-- the closing of the last record is what the next month opens with
+pub opens_with_last : (b : Basin) (records : List MonthRecord) (m : MonthRecord) →
+    opening_after b (records ++ m ∷ []) ≡ m.closing
+opens_with_last b records m =
+    let place : length (records ++ m ∷ []) - 1 ≡ length records = omega (arith, length-append records (m ∷ [])) in
+    let at : slice_get (records ++ m ∷ []) (length (records ++ m ∷ []) - 1) ≡ Some m =
+    ap (slice_get (records ++ m ∷ [])) place ∙ get_behind records [] m in
+    ap (λ o. unwrap_or (option_map (λ k. k.closing) o) (map (λ v. v.opening) b.reservoirs)) at
 
 -- a partial history of all months is a history
 pub all_months : (b : Basin) (series : Inflows) (records : List MonthRecord) → IsPartialHistory b series records →

@@ -13,12 +13,12 @@ from_start (e ∷ es) = refl
 
 pub loop-edit-init : goal.loop-edit-init
 loop-edit-init g c = record {
-  basin = c.requires.same;
-  played = played_none c.args.basin.now c.args.session.now.series c.args.edits.now _;
+  basin = refl;
+  played = played_none c.args.session.now.basin c.args.session.now.series c.args.edits.now _;
   later = omega arith;
   cost = omega (
     arith,
-    ap (λ es. cost_from (length c.args.session.now.kept) es * month_pushes c.args.basin.now)
+    ap (λ es. cost_from (length c.args.session.now.kept) es * month_pushes c.args.session.now.basin)
         (from_start c.args.edits.now),
   );
 }
@@ -35,16 +35,16 @@ read_again (x ∷ xs) (suc i) d e l = read_again xs i d e (omega arith)
 pub answer-requires-clause-placed : goal.answer-requires-clause-placed
 answer-requires-clause-placed g c =
     let l : c.loop-edit.edit-index < length c.args.edits.now = omega arith in
-    next_placed c.args.basin.now c.args.session.now.series c.loop-edit.session.series c.args.edits.now _ _
+    next_placed c.args.session.now.basin c.args.session.now.series c.loop-edit.session.series c.args.edits.now _ _
     c.loop-edit.edit-index (line_at c.args.edits.now c.loop-edit.edit-index)
-    c.loop-edit.invariant.played c.requires.placed l (read_again c.args.edits.now c.loop-edit.edit-index _ _ l)
+    c.loop-edit.invariant.played c.requires l (read_again c.args.edits.now c.loop-edit.edit-index _ _ l)
 
 pub loop-edit-preserved : goal.loop-edit-preserved
 loop-edit-preserved g c =
     let l : c.loop-edit.edit-index < length c.args.edits.now = omega arith in
     record {
       basin = c.in_ok-answer.ensures.basin ∙ c.loop-edit.invariant.basin;
-      played = played_more c.args.basin.now c.args.session.now.series c.loop-edit.session.series
+      played = played_more c.args.session.now.basin c.args.session.now.series c.loop-edit.session.series
           c.answer.new.session.series c.args.edits.now _ _ _ c.loop-edit.edit-index
           (line_at c.args.edits.now c.loop-edit.edit-index) _ c.loop-edit.invariant.played l
           (read_again c.args.edits.now c.loop-edit.edit-index _ _ l)
@@ -52,7 +52,7 @@ loop-edit-preserved g c =
       later = omega (arith, c.loop-edit.invariant.later, c.in_ok-answer.ensures.cause.later);
       cost = costs_more c.args.edits.now c.loop-edit.edit-index (line_at c.args.edits.now c.loop-edit.edit-index)
           (length c.loop-edit.session.kept) (length c.answer.new.session.kept)
-          (month_pushes c.args.basin.now) c.args.searches.now c.loop-edit.searches c.answer.new.searches
+          (month_pushes c.args.session.now.basin) c.args.searches.now c.loop-edit.searches c.answer.new.searches
           (cost_from (length c.args.session.now.kept) c.args.edits.now) l
           (read_again c.args.edits.now c.loop-edit.edit-index _ _ l) c.loop-edit.invariant.cost
           c.in_ok-answer.ensures.pushes c.in_ok-answer.ensures.kept;
@@ -63,7 +63,7 @@ returns-in_err-answer-clause-answers g c =
     let l : c.loop-edit.edit-index < length c.args.edits.now = omega arith in
     let p = err_from_is_err_and c.from_residual.result c.from_residual.ensures.1 in
     rw (p.1, p.2)
-    (played_stops c.args.basin.now c.args.session.now.series c.loop-edit.session.series c.args.edits.now _ _ _
+    (played_stops c.args.session.now.basin c.args.session.now.series c.loop-edit.session.series c.args.edits.now _ _ _
     c.loop-edit.edit-index
     (line_at c.args.edits.now c.loop-edit.edit-index) c.in_err-answer.field-0.0 c.loop-edit.invariant.played l
     (read_again c.args.edits.now c.loop-edit.edit-index _ _ l)
@@ -73,7 +73,7 @@ pub returns-in_err-answer-clause-pushes : goal.returns-in_err-answer-clause-push
 returns-in_err-answer-clause-pushes g c =
     let l : c.loop-edit.edit-index < length c.args.edits.now = omega arith in
     costs_stop c.args.edits.now c.loop-edit.edit-index (line_at c.args.edits.now c.loop-edit.edit-index)
-    (length c.loop-edit.session.kept) (month_pushes c.args.basin.now)
+    (length c.loop-edit.session.kept) (month_pushes c.args.session.now.basin)
     c.args.searches.now c.loop-edit.searches c.answer.new.searches
     (cost_from (length c.args.session.now.kept) c.args.edits.now) l
     (read_again c.args.edits.now c.loop-edit.edit-index _ _ l) c.loop-edit.invariant.cost c.in_err-answer.ensures.pushes

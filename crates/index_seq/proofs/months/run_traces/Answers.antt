@@ -7,11 +7,11 @@ use Rattle.index_seq.proofs.Turning.{turn_of_same}
 use Rattle.index_seq.proofs.months.run_traces.Goals as goal
 use Rattle.month_fold.specs.Runs.{run_pushes}
 
-pub returns-in_err-engine-2-clause-pushes : goal.returns-in_err-engine-2-clause-pushes
-returns-in_err-engine-2-clause-pushes g c =
+pub returns-in_err-engine-clause-pushes : goal.returns-in_err-engine-clause-pushes
+returns-in_err-engine-clause-pushes g c =
     within_steps (run_pushes c.args.basin.now) c.args.searches.now c.loop-trace.searches c.run_trace.new.searches
     c.loop-trace.trace (years_of c.args.basin.now)
-    c.loop-trace.invariant.pushes c.in_err-engine-2.ensures.pushes c.loop-trace-test.true
+    c.loop-trace.invariant.pushes c.in_err-engine.ensures.pushes c.loop-trace-test.true
 
 pub returns-clause-sums : goal.returns-clause-sums
 returns-clause-sums g c =
@@ -20,7 +20,7 @@ returns-clause-sums g c =
 
 pub loop-trace-init : goal.loop-trace-init
 loop-trace-init g c = record {
-  engine = c.in_ok-engine.ensures;
+  engine = c.requires.engine;
   begun = turn_of_same c.args.series.now c.in_ok-begun.begun c.in_ok-begun.ensures;
   sums = sums_start c.args.basin.now c.args.series.now c.in_ok-sums.sums (c.in_ok-sums.ensures.count ∙ c.len.ensures)
       c.in_ok-sums.ensures.empty;
@@ -33,7 +33,7 @@ loop-trace-init g c = record {
 
 pub loop-trace-preserved : goal.loop-trace-preserved
 loop-trace-preserved g c =
-    let told = c.in_ok-engine-2.ensures in
+    let told = c.in_ok-engine.ensures in
     record {
       engine = told.engine;
       begun = told.begun;

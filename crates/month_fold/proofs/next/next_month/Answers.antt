@@ -11,7 +11,7 @@ pub settle-requires-clause-small : goal.settle-requires-clause-small
 settle-requires-clause-small g c = λ evaporated n l.
     let months = c.requires.months in
     node_small c.args.basin.now c.args.series.now months.records c.bring_back.new.month c.args.index evaporated n
-    c.requires.basin c.requires.series
+    months.stands.valid months.stands.fits
     (run_begun _ months.records c.bring_back.new.month months.stands c.bring_back.ensures.rest
     (c.bring_back.ensures.each _ months.stands.lags) c.bring_back.ensures.used)
     months.stands.done l
@@ -23,7 +23,7 @@ solve_month-requires-clause-given g c =
     ap length c.bring_back.ensures.used ∙ (months.stands.used.count ∙ sym c.requires.month.fits.used) in
     rw (c.requires.solver, c.as_slice.ensures, c.as_slice-2.ensures)
     (settled_given c.args.basin.now c.args.series.now months.records c.args.index
-    c.bring_back.new.month c.settle.new.month c.clear.new.self c.requires.basin c.requires.series
+    c.bring_back.new.month c.settle.new.month c.clear.new.self months.stands.valid months.stands.fits
     (run_begun _ months.records c.bring_back.new.month months.stands c.bring_back.ensures.rest
     (c.bring_back.ensures.each _ months.stands.lags) c.bring_back.ensures.used)
     months.stands.done
@@ -38,7 +38,7 @@ conclude-requires-clause-small g c =
     rw (c.requires.solver, c.as_slice.ensures, c.as_slice-2.ensures) at c.solve_month.ensures.solved in
     planned_small c.args.basin.now c.args.series.now c.args.index c.bring_back.new.month c.settle.new.month
     c.solve_month.new.plan c.solve_month.new.cuts
-    c.requires.basin c.requires.series c.settle.ensures solved
+    c.requires.months.stands.valid c.requires.months.stands.fits c.settle.ensures solved
 
 pub returns-clause-next : goal.returns-clause-next
 returns-clause-next g c = λ records stands.
@@ -50,7 +50,7 @@ returns-clause-next g c = λ records stands.
     let cuts : FitsCuts c.args.basin.now c.solve_month.new.cuts = rw c.requires.solver at c.solve_month.ensures.cuts in
     made_follows c.args.basin.now c.args.series.now records c.args.index c.bring_back.new.month c.settle.new.month
     (record c.settle.new.month { plan = c.solve_month.new.plan; cuts = c.solve_month.new.cuts }) c.conclude.new.month
-    c.requires.basin c.requires.series
+    stands.valid stands.fits
     (run_begun _ records c.bring_back.new.month stands c.bring_back.ensures.rest
     (c.bring_back.ensures.each _ stands.lags) c.bring_back.ensures.used) stands.done (record {
       fits = begun_fits c.args.basin.now c.args.month.now c.bring_back.new.month c.requires.month
@@ -64,6 +64,6 @@ returns-clause-next g c = λ records stands.
 
 pub returns-clause-small : goal.returns-clause-small
 returns-clause-small g c =
-    next_small c.args.basin.now c.args.series.now c.requires.months.records c.conclude.new.month c.requires.basin
-    c.requires.series
+    next_small c.args.basin.now c.args.series.now c.requires.months.records c.conclude.new.month
+    c.requires.months.stands.valid c.requires.months.stands.fits
     (returns-clause-next g c c.requires.months.records c.requires.months.stands)

@@ -1,14 +1,11 @@
-use Rattle.std.proofs.Common.{◌≡◌, arith}
-use Rattle.reports.proofs.Loops.{whole_run, within_run}
+use Rattle.std.proofs.Common.{◌≡◌, ap, arith}
+use Rattle.water_model.specs.declared.types.Basin.{Basin}
+use Rattle.reports.proofs.Loops.{tally_whole}
 use Rattle.reports.proofs.months.tally_months.Goals as goal
 
 pub returns-clause-tally : goal.returns-clause-tally
 returns-clause-tally g c =
-    let tally = c.loop-month.invariant.tally in
-    let done : c.loop-month.run.done ≡ c.args.basin.now.months = omega arith in
-    record {
-      records = tally.records;
-      run = whole_run c.args.basin.now c.args.series.now c.loop-month.run tally.records c.requires.basin tally.basin
-          tally.fits tally.stands done;
-      tally = tally.tally;
-    }
+    let done : c.loop-month.run.done ≡ c.args.run.now.basin.months =
+    omega (arith, c.loop-month.invariant.done, ap (λ (b : Basin). b.months) c.basin.ensures.value) in
+    tally_whole c.args.run.now c.loop-month.run c.loop-month.tally c.loop-month.invariant.goes_on done
+    c.loop-month.invariant.tally

@@ -1,28 +1,24 @@
-use Rattle.std.proofs.Common.{◌∙◌, subst, [], ◌∷◌, ◌++◌}
-use Rattle.reports.specs.Tallies.{IsTrial}
-use Rattle.reports.proofs.Loops.{next_partial}
+use Rattle.reports.proofs.Loops.{next_trial, trial_more}
 use Rattle.reports.proofs.months.try_month.Goals as goal
+
+pub add-requires-clause-series : goal.add-requires-clause-series
+add-requires-clause-series g c = rw c.basin.ensures.value c.series.ensures.fits
+
+pub add-requires-clause-roll : goal.add-requires-clause-roll
+add-requires-clause-roll g c = rw c.basin.ensures.value c.roll.ensures
 
 pub add-requires-clause-next : goal.add-requires-clause-next
 add-requires-clause-next g c =
-    let before = c.requires.trial in
-    record {
-      records = before.records;
-      partial =
-          next_partial c.args.basin.now c.args.series.now c.step.new.self before.records c.month.result.now
-          (c.step.ensures.basin ∙ before.basin)
-          (c.step.ensures.series ∙ before.fits) c.month.ensures (c.step.ensures.month before.records before.stands);
-      trial = before.trial;
-    }
+    rw (c.basin.ensures.value, c.series.ensures.value, c.month.ensures)
+    (next_trial c.args.run.now c.step.new.self c.args.trial.now (record {
+      basin = c.step.ensures.basin;
+      series = c.step.ensures.series;
+    }) c.requires.trial c.step.ensures.month)
 
 pub returns-clause-trial : goal.returns-clause-trial
 returns-clause-trial g c =
-    let before = c.requires.trial in
-    record {
-      basin = c.step.ensures.basin ∙ before.basin;
-      fits = c.step.ensures.series ∙ before.fits;
-      records = before.records ++ c.step.new.self.last ∷ [];
-      stands = c.step.ensures.month before.records before.stands;
-      trial = subst (λ m. IsTrial c.args.basin.now c.args.series.now (before.records ++ m ∷ []) c.add.new.self)
-          c.month.ensures (c.add.ensures before.records before.trial);
-    }
+    trial_more c.args.run.now c.step.new.self c.args.trial.now (record {
+      basin = c.step.ensures.basin;
+      series = c.step.ensures.series;
+    }) c.requires.trial c.step.ensures.month c.add.new.self
+    (rw (c.basin.ensures.value, c.series.ensures.value, c.month.ensures) at c.add.ensures)

@@ -10,7 +10,7 @@ use Rattle.edit_session.proofs.session.Session.set_inflow.Goals as goal
 pub overflow_mul-at : goal.overflow_mul-at
 overflow_mul-at c =
     let small =
-    place_small c.self.inside.basin.now c.self.inside.series c.args.index c.args.gauge c.self.invariant.valid
+    place_small c.self.inside.engine.basin c.self.inside.series c.args.index c.args.gauge c.self.invariant.valid
     c.self.invariant.series
     (rw (← c.self.view_is) at c.requires.index) (rw (← c.self.view_is) at c.requires.gauge) in
     rw c.len.ensures (omega arith)
@@ -18,7 +18,7 @@ overflow_mul-at c =
 pub overflow_add-at : goal.overflow_add-at
 overflow_add-at c =
     let small =
-    place_small c.self.inside.basin.now c.self.inside.series c.args.index c.args.gauge c.self.invariant.valid
+    place_small c.self.inside.engine.basin c.self.inside.series c.args.index c.args.gauge c.self.invariant.valid
     c.self.invariant.series
     (rw (← c.self.view_is) at c.requires.index) (rw (← c.self.view_is) at c.requires.gauge) in
     rw c.len.ensures (omega arith)
@@ -27,21 +27,21 @@ pub invariant_of-self : goal.invariant_of-self
 invariant_of-self c = record {
   valid = c.self.invariant.valid;
   series = rw (c.set.ensures, c.len.ensures)
-      (inflow_fits c.self.inside.basin.now c.self.inside.series c.args.index c.args.gauge c.args.amount
+      (inflow_fits c.self.inside.engine.basin c.self.inside.series c.args.index c.args.gauge c.args.amount
       c.self.invariant.series c.requires.amount);
   kept = rw (c.set.ensures, c.len.ensures, c.truncate.ensures.items) (subst
       (λ (xs : List MonthRecord). IsKept
       (record {
-        basin = c.self.inside.basin.now;
+        basin = c.self.inside.engine.basin;
         series =
             with_inflow c.self.inside.series c.args.index c.args.gauge c.args.amount;
         kept = xs;
       }))
       (take-map (λ m. m.value) c.args.index c.self.inside.kept.items)
-      (front_kept c.self.inside.basin.now c.self.inside.series
+      (front_kept c.self.inside.engine.basin c.self.inside.series
       (with_inflow c.self.inside.series c.args.index c.args.gauge c.args.amount)
       (records_of c.self.inside.kept.items) c.args.index
-      (inflow_agrees c.self.inside.basin.now c.self.inside.series c.args.index c.args.gauge c.args.amount
+      (inflow_agrees c.self.inside.engine.basin c.self.inside.series c.args.index c.args.gauge c.args.amount
       c.self.invariant.series) c.self.invariant.kept));
 }
 

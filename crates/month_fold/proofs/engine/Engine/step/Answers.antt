@@ -3,7 +3,6 @@ use Rattle.std.proofs.lemmas.List.{length-map}
 use Rattle.lag_returns.specs.Lags as lag
 use Rattle.month_terms.specs.Terms.{HasUsed}
 use Rattle.water_model.specs.declared.types.MonthRecord.{MonthRecord}
-use Rattle.water_model.specs.Valid.{IsSeriesOf}
 use Rattle.month_fold.specs.RunInside.{engine_of}
 use Rattle.month_fold.specs.Runs.{EngineSeen, StandsFor, run_with}
 use Rattle.month_fold.specs.Reaches.{HasDeliveries}
@@ -82,7 +81,6 @@ use_volumes-requires-clause-deliveries g c =
 pub use_volumes-requires-clause-little : goal.use_volumes-requires-clause-little
 use_volumes-requires-clause-little g c =
     let engine = engine_of c.self.inside in
-    used_little (run_with engine c.args.series.now c.args.done) c.requires.months.records c.self.invariant.valid
-    (subst (λ (e : EngineSeen). IsSeriesOf e.basin c.args.series.now) (sym c.self.view_is) c.requires.series)
+    used_little (run_with engine c.args.series.now c.args.done) c.requires.months.records
     (subst (λ (e : EngineSeen). StandsFor (run_with e c.args.series.now c.args.done) c.requires.months.records)
     (sym c.self.view_is) c.requires.months.stands)

@@ -1,7 +1,8 @@
 use Rattle.std.proofs.Common.{arith, length-append, [], ◌∷◌}
 use Rattle.std.proofs.lemmas.List.Sums.{sum_by_push}
+use Rattle.water_model.proofs.Histories.{last_follows}
 use Rattle.reports.specs.Figures.{called_in}
-use Rattle.reports.proofs.Room.{last_follows, called_room}
+use Rattle.reports.proofs.Room.{called_room}
 use Rattle.reports.proofs.called.Trial.add.Goals as goal
 
 pub called_in-requires-clause-month : goal.called_in-requires-clause-month

@@ -1,7 +1,8 @@
 use Rattle.std.proofs.Common.{◌∙◌, sym, arith, length-append, [], ◌∷◌, ◌++◌}
+use Rattle.water_model.proofs.Histories.{last_follows}
 use Rattle.reports.specs.Tallies.{figures_of}
 use Rattle.reports.proofs.Rights.{entry_is, entry_told, entries_count, list_is}
-use Rattle.reports.proofs.Room.{last_follows, right_room, month_room}
+use Rattle.reports.proofs.Room.{right_room, month_room}
 use Rattle.reports.proofs.tally.Tally.add.Goals as goal
 
 pub add_rights-requires-clause-want : goal.add_rights-requires-clause-want

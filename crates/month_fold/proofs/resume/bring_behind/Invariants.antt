@@ -1,6 +1,6 @@
 use Rattle.std.proofs.Common.{map, take}
 use Rattle.lag_returns.specs.Lags as lag
-use Rattle.month_fold.proofs.resume.on_the_way.Given as goal
+use Rattle.month_fold.proofs.resume.bring_behind.Given as goal
 
 abbrev pub invariant-loop-month : goal.invariant-loop-month
 invariant-loop-month l =

@@ -1,13 +1,13 @@
 use Rattle.std.proofs.Common.{◌∙◌, ◌<◌, ap, sym, subst, arith, length}
 use Rattle.lag_returns.specs.Lags as lag
 use Rattle.month_fold.proofs.Resuming.{deliveries_more}
-use Rattle.month_fold.proofs.resume.on_the_way.Goals as goal
+use Rattle.month_fold.proofs.resume.bring_behind.Goals as goal
 
 pub loop-month-preserved : goal.loop-month-preserved
 loop-month-preserved c =
     let here : c.loop-month.month-index < length c.args.months.now = omega arith in
     subst (lag.StandsFor c.month_done.new.self c.args.basin.now.returns)
     (sym (deliveries_more (λ m. m.value) c.args.months.now c.loop-month.month-index c.month-item.result
-    c.as_slice-in-loop-month.result.now here c.month-item.is
-    (c.as_slice-in-loop-month.ensures ∙ ap (λ m. m.delivered) c.deref.ensures)))
+    c.as_slice.result.now here c.month-item.is
+    (c.as_slice.ensures ∙ ap (λ m. m.delivered) c.deref.ensures)))
     (c.month_done.ensures.stands _ _ c.loop-month.invariant)
