@@ -25,7 +25,8 @@ use Rattle.basin_cli.specs.Outcome.{HasExplainingCause, IsAsked, IsOutsideRun, I
 use Rattle.basin_cli.specs.Reading.{OfBoth}
 use Rattle.basin_cli.specs.Series.{AreLoaded, IsBasinText, IsSeriesText}
 use Rattle.basin_cli.proofs.Asked.{one_index}
-use Rattle.basin_cli.proofs.Explained.{last_of, one_answer}
+use Rattle.water_model.proofs.Histories.{last_follows}
+use Rattle.basin_cli.proofs.Explained.{one_answer}
 use Rattle.basin_cli.proofs.Judged.{good_series, spelled_by}
 use Rattle.basin_cli.proofs.OneSeries.{one_basin, one_series, same_partial}
 
@@ -39,7 +40,7 @@ month_of : (b : Basin) (series : Inflows) (month : Month) (name : List ℕ) (rig
     IsAbout b series month name right m → HasMonth b month
 month_of b series month name right m about =
     let is = about.of_month in
-    let follows = last_of b series is.before m is.partial in (
+    let follows = last_follows b series is.before m is.partial in (
       m.index,
       record {
         within = omega (arith, follows.index, is.partial.within, length-append is.before (m ∷ []));

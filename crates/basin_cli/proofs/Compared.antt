@@ -100,17 +100,17 @@ none_compared b c first second bytes same same' stands stands' nothing = record 
 -- all months of both runs, and the counts
 pub whole_comparison : (b c : Basin) (series other : Inflows) (first second : RunSeen) (before after : List ℕ)
     (injured : ℕ) →
-    IsValidBasin b → IsValidBasin c → first.series ≡ series → second.series ≡ other →
+    first.series ≡ series → second.series ≡ other →
     first.done ≡ b.months → second.done ≡ c.months → AreCompared b c first second before injured →
     after ≡ before ++ compared_row (length (common_rights b c)) injured →
     IsTextOfComparison b c series other after injured
 unfolding comparison_text
-whole_comparison b c series other first second before after injured valid valid' fits fits' done done' all ends =
+whole_comparison b c series other first second before after injured fits fits' done done' all ends =
     record {
       records = all.records;
       others = all.others;
-      first_keeps = whole_run b series first all.records valid all.first_basin fits all.first_stands done;
-      second_keeps = whole_run c other second all.others valid' all.second_basin fits' all.second_stands done';
+      first_keeps = whole_run b series first all.records all.first_basin fits all.first_stands done;
+      second_keeps = whole_run c other second all.others all.second_basin fits' all.second_stands done';
       text = ends ∙ ap₂ (λ t n. t ++ compared_row (length (common_rights b c)) n) all.rows all.number;
       number = all.number;
     }

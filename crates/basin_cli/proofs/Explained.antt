@@ -15,6 +15,7 @@ use Rattle.result_text.specs.Range.{FitsText}
 use Rattle.result_text.proofs.Whole.{FitsText-follows}
 use Rattle.senior_hold.specs.MonthNetwork.{month_pushes}
 use Rattle.water_text.specs.declared.month.Month.{Month}
+use Rattle.water_model.proofs.Histories.{last_follows}
 use Rattle.water_model.proofs.Lists.{get_behind}
 use Rattle.water_model.specs.Basin.{right_name}
 use Rattle.water_model.specs.Cuts.{IsReach}
@@ -28,14 +29,6 @@ use Rattle.water_model.specs.declared.types.MonthRecord.{MonthRecord}
 use Rattle.water_model.proofs.Outcome.{one_outcome}
 use Rattle.basin_cli.specs.Explained.{Explains, HasLast, IsAbout, IsRecordOf, met_line}
 use Rattle.basin_cli.proofs.Asked.{one_index, one_right}
-
--- the last record of a partial history follows those before it
-pub last_of : (b : Basin) (series : Inflows) (before : List MonthRecord) (m : MonthRecord) →
-    IsPartialHistory b series (before ++ m ∷ []) → Follows b series before m
-last_of b series before m partial =
-    subst (λ (rs : List MonthRecord). Follows b series rs m)
-    (take-append-le (length before) before (m ∷ []) (omega arith) ∙ take-length before)
-    (partial.each (length before) m (get_behind before [] m))
 
 -- the last record of a run is one of the month with its index
 pub last_record : (b : Basin) (series : Inflows) (run : RunSeen) (index : ℕ) → run.basin ≡ b → run.series ≡ series →
@@ -54,7 +47,7 @@ last_record b series run index same fits done last = record {
     partial = rw (← same, ← fits) last.stands.partial
 
     follows : Follows b series last.before run.last
-    follows = last_of b series last.before run.last partial
+    follows = last_follows b series last.before run.last partial
 
 -- which has the reaches, and lines that can be written
 pub record_reaches : (b : Basin) (series : Inflows) (month : Month) (m : MonthRecord) → IsRecordOf b series month m →
@@ -64,7 +57,7 @@ record_reaches b series month m is = is.reaches (length is.before) m (get_behind
 pub record_fits : (b : Basin) (series : Inflows) (month : Month) (m : MonthRecord) → IsValidBasin b →
     IsRecordOf b series month m → FitsText b m
 record_fits b series month m valid is =
-    FitsText-follows b series is.before m valid (last_of b series is.before m is.partial)
+    FitsText-follows b series is.before m valid (last_follows b series is.before m is.partial)
     (omega (arith, is.partial.within, length-append is.before (m ∷ [])))
 
 -- a run that solved one month more has a last one
@@ -109,10 +102,10 @@ one_answer b series month name right other m n valid one two short =
     subst (λ r. IsShort n r) same along
   where
     first : Follows b series one.of_month.before m
-    first = last_of b series one.of_month.before m one.of_month.partial
+    first = last_follows b series one.of_month.before m one.of_month.partial
 
     second : Follows b series two.of_month.before n
-    second = last_of b series two.of_month.before n two.of_month.partial
+    second = last_follows b series two.of_month.before n two.of_month.partial
 
     index : m.index ≡ n.index
     index = one_index b month m.index n.index valid (sym first.month ∙ one.of_month.is)
@@ -127,7 +120,8 @@ one_answer b series month name right other m n valid one two short =
         two.of_month.partial
         (omega (arith, place, length-append one.of_month.before (m ∷ []), length-append two.of_month.before (n ∷ [])))
         (length one.of_month.before) m n (get_behind one.of_month.before [] m)
-        (subst (λ k. slice_get (two.of_month.before ++ n ∷ []) k ≡ Some n) (sym place) (get_behind two.of_month.before [] n))
+        (subst (λ k. slice_get (two.of_month.before ++ n ∷ []) k ≡ Some n) (sym place)
+        (get_behind two.of_month.before [] n))
 
     along : IsShort n right
     along = omega

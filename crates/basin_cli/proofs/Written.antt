@@ -6,16 +6,16 @@ use Rattle.std.specs.Io.KnownBytes.{Appends}
 use Rattle.std.proofs.lemmas.List.{take-append-drop, take-append-le}
 use Rattle.std.proofs.lemmas.Grind.{flat_map-append}
 use Rattle.std.proofs.Math.Seq.{take-append-add, take-length}
-use Rattle.std.proofs.Math.Nat.{add-mul, mul-le-mul_right}
-use Rattle.water_model.proofs.Lists.{get_behind}
-use Rattle.water_model.specs.History.{Follows, IsPartialHistory}
+use Rattle.std.proofs.Math.Nat.{add-mul}
+use Rattle.water_model.specs.History.{IsPartialHistory}
 use Rattle.water_model.specs.Spelling.{whole_line}
 use Rattle.water_model.specs.Text.{items_of_month, items_of_head, items_of_tail, text_bytes}
 use Rattle.water_model.specs.Valid.{IsValidBasin}
 use Rattle.water_model.specs.declared.types.Basin.{Basin}
 use Rattle.water_model.specs.declared.types.Inflows.{Inflows}
 use Rattle.water_model.specs.declared.types.MonthRecord.{MonthRecord}
-use Rattle.water_model.proofs.Histories.{all_months}
+use Rattle.water_model.proofs.Histories.{last_follows}
+use Rattle.month_fold.proofs.Whole.{whole_history}
 use Rattle.water_model.proofs.Balance.{balanced}
 use Rattle.water_model.proofs.Returns.{covered}
 use Rattle.water_model.proofs.Greatest.{cuts_make_greatest, cuts_let_nobody_get_more}
@@ -35,33 +35,24 @@ use Rattle.std.specs.List.{flat_map}
 use Rattle.std.proofs.KnownBytes.{Appends-trans}
 use Rattle.senior_hold.specs.MonthNetwork.{month_pushes}
 
--- the last of some months follows those before it
-last_follows : (run : RunSeen) (records : List MonthRecord) (m : MonthRecord) → StandsFor run (records ++ m ∷ []) →
-    Follows run.basin run.series records m
-last_follows run records m stands =
-    subst (λ (before : List MonthRecord). Follows run.basin run.series before m)
-    (take-append-le (length records) records (m ∷ []) (omega arith) ∙ take-length records)
-    (stands.partial.each (length records) m (get_behind records [] m))
-
--- so its lines can be written
-pub last_fits : (b : Basin) (run : RunSeen) (records : List MonthRecord) (m : MonthRecord) → IsValidBasin b →
-    run.basin ≡ b →
+-- the lines of the last of some months can be written
+pub last_fits : (b : Basin) (run : RunSeen) (records : List MonthRecord) (m : MonthRecord) → run.basin ≡ b →
     StandsFor run (records ++ m ∷ []) → FitsText b m
-last_fits b run records m valid same stands =
+last_fits b run records m same stands =
     subst (λ c. FitsText c m) same
-    (FitsText-follows run.basin run.series records m (subst IsValidBasin (sym same) valid)
-    (last_follows run records m stands)
+    (FitsText-follows run.basin run.series records m stands.valid
+    (last_follows run.basin run.series records m stands.partial)
     (omega (arith, stands.partial.within, length-append records (m ∷ []))))
 
 -- all months of a run keep the priority of rights
-pub whole_run : (b : Basin) (series : Inflows) (run : RunSeen) (records : List MonthRecord) → IsValidBasin b →
-    run.basin ≡ b → run.series ≡ series →
-    StandsFor run records → run.done ≡ b.months → KeepsPriority b series records
-whole_run b series run records valid same fits stands done =
+pub whole_run : (b : Basin) (series : Inflows) (run : RunSeen) (records : List MonthRecord) → run.basin ≡ b →
+    run.series ≡ series → StandsFor run records → run.done ≡ b.months → KeepsPriority b series records
+whole_run b series run records same fits stands done =
+    let valid : IsValidBasin b = rw (← same) stands.valid in
     let partial : IsPartialHistory b series records = rw (← same, ← fits) stands.partial in
     let reaches : HaveReaches b records = rw (← same) stands.reaches in
     record {
-      history = all_months b series records partial (omega (arith, stands.done, done));
+      history = rw (← same, ← fits) (whole_history run records stands (rw same done));
       greatest = λ i m at. cuts_make_greatest b series records partial i m at;
       reaches = reaches;
       no_more =
@@ -111,12 +102,12 @@ head_written b run start now same stands puts = record {
     done = Ok tt
 
 -- behind all months the tail makes the text
-tail_written : (b : Basin) (series : Inflows) (run : RunSeen) (start mid now : Option (List ℕ)) → IsValidBasin b →
+tail_written : (b : Basin) (series : Inflows) (run : RunSeen) (start mid now : Option (List ℕ)) →
     run.series ≡ series → run.done ≡ b.months → IsWritten b run start mid →
     Appends mid now (flat_map (whole_line b) (items_of_tail b)) → IsWrittenRun b series start now
-tail_written b series run start mid now valid fits all written puts = record {
+tail_written b series run start mid now fits all written puts = record {
   records = written.records;
-  keeps = whole_run b series run written.records valid written.basin fits written.stands all;
+  keeps = whole_run b series run written.records written.basin fits written.stands all;
   text = Puts-tail b written.records start mid now done written.text puts;
 }
   where
@@ -248,18 +239,11 @@ tail_stops b series run start mid now before after fits all written front pushes
 
 -- the tail was put, or a front of it
 pub tail_put : {E : Type 0} (b : Basin) (series : Inflows) (run : RunSeen) (start mid now : Option (List ℕ))
-    (r : Result (Unit {0}) E) (before after : ℕ) → IsValidBasin b → run.series ≡ series → run.done ≡ b.months →
+    (r : Result (Unit {0}) E) (before after : ℕ) → run.series ≡ series → run.done ≡ b.months →
     IsWritten b run start mid → Puts mid now r (flat_map (whole_line b) (items_of_tail b)) →
     after ≤ before + run_pushes b →
     OnOk r (IsWrittenRun b series start now) × OnErr r (StopsWriting b series start now before after)
-tail_put b series run start mid now (Ok u) before after valid fits all written puts pushes =
-    (tail_written b series run start mid now valid fits all written puts, tt)
-tail_put b series run start mid now (Err e) before after valid fits all written puts pushes =
+tail_put b series run start mid now (Ok u) before after fits all written puts pushes =
+    (tail_written b series run start mid now fits all written puts, tt)
+tail_put b series run start mid now (Err e) before after fits all written puts pushes =
     (tt, tail_stops b series run start mid now before after fits all written puts pushes)
-
--- the pushes of some months and of one more are within those of a run
-pub within_run : (b : Basin) (first before after i : ℕ) → before ≤ first + i * month_pushes b →
-    after ≤ before + month_pushes b → i < b.months →
-    after ≤ first + run_pushes b
-within_run b first before after i sofar more l = let all : (i + 1) * month_pushes b ≤ b.months * month_pushes b =
-    mul-le-mul_right (month_pushes b) (omega arith) in omega arith

@@ -26,7 +26,6 @@ use cert_check::{Checker, Refuted, check_text};
 use index_seq::{EnsembleStop, ensemble_report};
 use month_fold::run::Run;
 use reports::{ReportStop, period_report, trial_report};
-use rights_roll::roll::Roll;
 use std::alloc::{AllocError, Global};
 use std::sync::ledger::Ledger;
 use steps::Steps;
@@ -53,15 +52,11 @@ pub fn run_basin<K: Sink, L: Ledger>(
     ensures pushes { searches.new ≤ searches.old + run_pushes basin.now }
     ensures handed { IsQuiet (status_of result) → K.handed out.new ≡ K.taken out.new }
 {
-    let roll = match Roll::of_basin(alloc, basin) {
-        Ok(roll) => roll,
-        Err(_) => return Ending::OutOfMemory,
-    };
     let mut run = match Run::open(alloc, basin, series) {
         Ok(run) => run,
         Err(_) => return Ending::OutOfMemory,
     };
-    match write_run(out, basin, &roll, &mut run, searches) {
+    match write_run(out, &mut run, searches) {
         Ok(()) => Ending::Done,
         Err(_) => Ending::WriteFault,
     }

@@ -193,29 +193,24 @@ fn answer<K: Sink>(
 /// Solves the months of a run up to the one of this index, and puts why a right got no more in it.
 fn explain_in<K: Sink, L: Ledger>(
     run: &mut Run,
-    basin: &Basin,
-    roll: &Roll,
     index: u32,
     right: u32,
     out: &mut K,
     searches: &mut Steps<L>,
 ) -> Ending
-    requires basin { IsValidBasin basin.now }
-    requires roll { IsRollOf basin.now.rights roll.now }
-    requires run { run.old.basin ≡ basin.now }
     requires first { StandsFor run.old [] }
-    requires index { index < basin.now.months }
-    requires right { right < length basin.now.rights }
-    ensures answers { MayWrite (status_of result) →
-        AnswersAt basin.now run.old.series index right result (Rose (K.faults out.old) (K.faults out.new)) (K.taken out.old) (K.taken out.new) }
+    requires index { index < run.old.basin.months }
+    requires right { right < length run.old.basin.rights }
+    ensures answers { MayWrite (status_of result) → AnswersAt run.old.basin run.old.series index right result
+        (Rose (K.faults out.old) (K.faults out.new)) (K.taken out.old) (K.taken out.new) }
     ensures memory { (MayWrite (status_of result) → ⊥) → result ≡ OutOfMemory }
     ensures out_stays { (MayWrite (status_of result) → ⊥) → out.new ≡ out.old }
     ensures idle { (MayWrite (status_of result) → ⊥) → searches.new ≡ searches.old }
-    ensures pushes { searches.new ≤ searches.old + (index + 1) * month_pushes basin.now }
+    ensures pushes { searches.new ≤ searches.old + (index + 1) * month_pushes run.old.basin }
     ensures handed { IsQuiet (status_of result) → K.handed out.new ≡ K.taken out.new }
 {
     solve_up_to(run, index, searches);
-    answer(out, basin, roll, run.month(), right)
+    answer(out, run.basin(), run.roll(), run.month(), right)
 }
 
 /// Solves the months of a basin with its series up to the one of this index, and puts why a right got no more in it.
@@ -232,23 +227,19 @@ fn explain_at<K: Sink, L: Ledger>(
     requires series { IsSeriesOf basin.now series.now }
     requires index { index < basin.now.months }
     requires right { right < length basin.now.rights }
-    ensures answers { MayWrite (status_of result) →
-        AnswersAt basin.now series.now index right result (Rose (K.faults out.old) (K.faults out.new)) (K.taken out.old) (K.taken out.new) }
+    ensures answers { MayWrite (status_of result) → AnswersAt basin.now series.now index right result
+        (Rose (K.faults out.old) (K.faults out.new)) (K.taken out.old) (K.taken out.new) }
     ensures memory { (MayWrite (status_of result) → ⊥) → result ≡ OutOfMemory }
     ensures out_stays { (MayWrite (status_of result) → ⊥) → out.new ≡ out.old }
     ensures idle { (MayWrite (status_of result) → ⊥) → searches.new ≡ searches.old }
     ensures pushes { searches.new ≤ searches.old + (index + 1) * month_pushes basin.now }
     ensures handed { IsQuiet (status_of result) → K.handed out.new ≡ K.taken out.new }
 {
-    let roll = match Roll::of_basin(alloc, basin) {
-        Ok(roll) => roll,
-        Err(_) => return Ending::OutOfMemory,
-    };
     let mut run = match Run::open(alloc, basin, series) {
         Ok(run) => run,
         Err(_) => return Ending::OutOfMemory,
     };
-    explain_in(&mut run, basin, &roll, index, right, out, searches)
+    explain_in(&mut run, index, right, out, searches)
 }
 
 /// Puts why the right of this name got no more in a month: the account book of its reach where it is short, and else

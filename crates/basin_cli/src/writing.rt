@@ -1,70 +1,58 @@
 //! The result text of a run, written month by month.
 ghost use Rattle.std.specs.Prelude.{ℕ, List, [], ◌≡◌, ◌+◌, ◌*◌, ◌<◌, ◌≤◌, Option, IsErr, OnOk, OnErr};
-ghost use Rattle.rights_roll.specs.Rolls.{IsRollOf};
 ghost use Rattle.water_edge.specs.Edge.{HasCause};
-ghost use Rattle.water_model.specs.Valid.{IsValidBasin};
 ghost use Rattle.month_fold.specs.Runs.{StandsFor, run_pushes};
 ghost use Rattle.basin_cli.specs.Written.{IsWritten, IsWrittenRun, StopsWriting};
 ghost use Rattle.senior_hold.specs.MonthNetwork.{month_pushes};
 
 use month_fold::run::Run;
 use result_text::{put_head, put_month, put_tail};
-use rights_roll::roll::Roll;
 use std::sync::ledger::Ledger;
 use steps::Steps;
 use water_edge::{Sink, SinkFailed};
-use water_model::types::Basin;
 
 /// Solves the next month, puts its lines and hands them on. `start` is what out had taken before the head. It takes no
 /// memory.
 fn write_month<K: Sink, L: Ledger>(
     out: &mut K,
-    basin: &Basin,
-    roll: &Roll,
     run: &mut Run,
     searches: &mut Steps<L>,
 ) -> Result<(), SinkFailed>
     ghost start: { Option (List ℕ) }
-    requires basin { IsValidBasin basin.now }
-    requires roll { IsRollOf basin.now.rights roll.now }
-    requires left { run.old.done < basin.now.months }
-    requires written { IsWritten basin.now run.old start (K.taken out.old) }
+    requires left { run.old.done < run.old.basin.months }
+    requires written { IsWritten run.old.basin run.old start (K.taken out.old) }
     ensures series { run.new.series ≡ run.old.series }
     ensures done { run.new.done ≡ run.old.done + 1 }
-    ensures written { OnOk result (IsWritten basin.now run.new start (K.taken out.new)) }
-    ensures stops { OnErr result ((before : ℕ) → searches.old ≤ before + run.old.done * month_pushes basin.now →
-        StopsWriting basin.now run.old.series start (K.taken out.new) before searches.new) }
+    ensures written { OnOk result (IsWritten run.old.basin run.new start (K.taken out.new)) }
+    ensures stops { OnErr result ((before : ℕ) → searches.old ≤ before + run.old.done * month_pushes run.old.basin →
+        StopsWriting run.old.basin run.old.series start (K.taken out.new) before searches.new) }
     ensures cause { HasCause (K.faults out.old) (K.faults out.new) (IsErr result) }
-    ensures pushes { searches.new ≤ searches.old + month_pushes basin.now }
+    ensures pushes { searches.new ≤ searches.old + month_pushes run.old.basin }
 {
     run.step(searches);
-    put_month(out, basin, roll, run.month())?;
+    put_month(out, run.basin(), run.roll(), run.month())?;
     out.flush()
 }
 
 /// Solves all months of a run that had none yet, and puts each one's lines behind its step.
 fn write_months<K: Sink, L: Ledger>(
     out: &mut K,
-    basin: &Basin,
-    roll: &Roll,
     run: &mut Run,
     searches: &mut Steps<L>,
 ) -> Result<(), SinkFailed>
     ghost start: { Option (List ℕ) }
-    requires basin { IsValidBasin basin.now }
-    requires roll { IsRollOf basin.now.rights roll.now }
     requires first { run.old.done ≡ 0 }
-    requires written { IsWritten basin.now run.old start (K.taken out.old) }
+    requires written { IsWritten run.old.basin run.old start (K.taken out.old) }
     ensures series { run.new.series ≡ run.old.series }
-    ensures done { OnOk result (run.new.done ≡ basin.now.months) }
-    ensures written { OnOk result (IsWritten basin.now run.new start (K.taken out.new)) }
+    ensures done { OnOk result (run.new.done ≡ run.old.basin.months) }
+    ensures written { OnOk result (IsWritten run.old.basin run.new start (K.taken out.new)) }
     ensures stops { OnErr result
-        (StopsWriting basin.now run.old.series start (K.taken out.new) searches.old searches.new) }
+        (StopsWriting run.old.basin run.old.series start (K.taken out.new) searches.old searches.new) }
     ensures cause { HasCause (K.faults out.old) (K.faults out.new) (IsErr result) }
-    ensures pushes { searches.new ≤ searches.old + run_pushes basin.now }
+    ensures pushes { searches.new ≤ searches.old + run_pushes run.old.basin }
 {
-    for _month in 0..basin.months {
-        write_month(out, basin, roll, run, searches)?;
+    for _month in 0..run.basin().months {
+        write_month(out, run, searches)?;
     }
     Ok(())
 }
@@ -72,26 +60,21 @@ fn write_months<K: Sink, L: Ledger>(
 /// Puts the head of the text, the lines of each month as soon as it is solved, and the tail. It takes no memory.
 pub fn write_run<K: Sink, L: Ledger>(
     out: &mut K,
-    basin: &Basin,
-    roll: &Roll,
     run: &mut Run,
     searches: &mut Steps<L>,
 ) -> Result<(), SinkFailed>
     ghost start: { Option (List ℕ) }
-    requires basin { IsValidBasin basin.now }
-    requires roll { IsRollOf basin.now.rights roll.now }
-    requires run { run.old.basin ≡ basin.now }
     requires first { StandsFor run.old [] }
     requires start { start ≡ K.taken out.old }
-    ensures written { OnOk result (IsWrittenRun basin.now run.old.series start (K.taken out.new)) }
+    ensures written { OnOk result (IsWrittenRun run.old.basin run.old.series start (K.taken out.new)) }
     ensures stops { OnErr result
-        (StopsWriting basin.now run.old.series start (K.taken out.new) searches.old searches.new) }
+        (StopsWriting run.old.basin run.old.series start (K.taken out.new) searches.old searches.new) }
     ensures cause { HasCause (K.faults out.old) (K.faults out.new) (IsErr result) }
-    ensures pushes { searches.new ≤ searches.old + run_pushes basin.now }
+    ensures pushes { searches.new ≤ searches.old + run_pushes run.old.basin }
     ensures handed { OnOk result (K.handed out.new ≡ K.taken out.new) }
 {
-    put_head(out, basin)?;
-    write_months(out, basin, roll, run, searches)?;
-    put_tail(out, basin)?;
+    put_head(out, run.basin())?;
+    write_months(out, run, searches)?;
+    put_tail(out, run.basin())?;
     out.flush()
 }

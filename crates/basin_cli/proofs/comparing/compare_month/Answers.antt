@@ -11,7 +11,7 @@ pub draft_injuries-requires-clause-month : goal.draft_injuries-requires-clause-m
 draft_injuries-requires-clause-month g c =
     let all = c.requires.compared in
     (subst (FitsText c.args.basin.now) (sym c.month.ensures)
-    (last_fits c.args.basin.now c.step.new.self all.records c.step.new.self.last c.requires.basin
+    (last_fits c.args.basin.now c.step.new.self all.records c.step.new.self.last
     (c.step.ensures.basin ∙ all.first_basin)
     (c.step.ensures.month all.records all.first_stands))).month
 
@@ -19,7 +19,7 @@ pub draft_injuries-requires-clause-fits : goal.draft_injuries-requires-clause-fi
 draft_injuries-requires-clause-fits g c =
     let all = c.requires.compared in
     (subst (FitsText c.args.basin.now) (sym c.month.ensures)
-    (last_fits c.args.basin.now c.step.new.self all.records c.step.new.self.last c.requires.basin
+    (last_fits c.args.basin.now c.step.new.self all.records c.step.new.self.last
     (c.step.ensures.basin ∙ all.first_basin)
     (c.step.ensures.month all.records all.first_stands))).fits.delivered
 
@@ -29,11 +29,11 @@ draft_injuries-requires-clause-records g c =
     subst (λ (pairs : List Pair). HaveDeliveries pairs c.month.result.now c.month-2.result.now) (sym c.requires.pairing)
     (common_deliver c.args.basin.now c.args.other.now c.month.result.now c.month-2.result.now
     ((subst (FitsText c.args.basin.now) (sym c.month.ensures)
-    (last_fits c.args.basin.now c.step.new.self all.records c.step.new.self.last c.requires.basin
+    (last_fits c.args.basin.now c.step.new.self all.records c.step.new.self.last
     (c.step.ensures.basin ∙ all.first_basin)
     (c.step.ensures.month all.records all.first_stands))).fits)
     ((subst (FitsText c.args.other.now) (sym c.month-2.ensures)
-    (last_fits c.args.other.now c.step-2.new.self all.others c.step-2.new.self.last c.requires.other
+    (last_fits c.args.other.now c.step-2.new.self all.others c.step-2.new.self.last
     (c.step-2.ensures.basin ∙ all.second_basin)
     (c.step-2.ensures.month all.others all.second_stands))).fits))
 

@@ -13,7 +13,7 @@ returns-clause-text g c =
     let months = c.in_ok-injured.ensures in
     whole_comparison c.args.basin.now c.args.other.now c.args.first.now.series c.args.second.now.series
     c.compare_months.new.first c.compare_months.new.second
-    c.compare_months.new.draft.bytes c.draft_counts.new.draft.bytes c.in_ok-injured.injured c.requires.basin
-    c.requires.other months.series months.other_series
+    c.compare_months.new.draft.bytes c.draft_counts.new.draft.bytes c.in_ok-injured.injured
+    months.series months.other_series
     months.done (months.abreast ∙ (months.done ∙ sym c.requires.months)) months.compared
     (rw c.requires.pairing at c.in_ok-draft_counts.ensures)

@@ -1,53 +1,58 @@
-use Rattle.std.proofs.Common.{◌∙◌, sym, subst}
-use Rattle.result_text.specs.Range.{FitsText}
 use Rattle.basin_cli.proofs.Handed.{puts_kept}
 use Rattle.basin_cli.proofs.Written.{last_fits, month_put, month_stopped, stood_done, stopped}
 use Rattle.basin_cli.proofs.writing.write_month.Goals as goal
 
 pub put_month-requires-clause-month : goal.put_month-requires-clause-month
 put_month-requires-clause-month g c =
-    let w = c.requires.1.1.1.1.1 in
-    subst (FitsText c.args.basin.now) (sym c.month.ensures)
-    (last_fits c.args.basin.now c.step.new.self w.records c.step.new.self.last c.requires.1.1.0
-    (c.step.ensures.basin ∙ w.basin)
+    let w = c.requires.1.1.1 in
+    rw (c.basin.ensures.value, c.step.ensures.basin, c.month.ensures)
+    (last_fits c.args.run.now.basin c.step.new.self w.records c.step.new.self.last c.step.ensures.basin
     (c.step.ensures.month w.records w.stands))
+
+pub put_month-requires-clause-roll : goal.put_month-requires-clause-roll
+put_month-requires-clause-roll g c = rw c.basin.ensures.value c.roll.ensures
 
 pub returns-in_err-put_month-clause-stops : goal.returns-in_err-put_month-clause-stops
 returns-in_err-put_month-clause-stops g c =
-    let w = c.requires.1.1.1.1.1 in
+    let w = c.requires.1.1.1 in
     stopped c.from_residual.result _
-    (month_stopped c.args.basin.now c.args.run.now.series c.step.new.self w.records c.step.new.self.last g.start
+    (month_stopped c.args.run.now.basin c.args.run.now.series c.step.new.self w.records c.step.new.self.last g.start
     (g.K.Sink.taken c.args.out.now) (g.K.Sink.taken c.put_month.new.sink) c.args.run.now.done c.args.searches.now
-    c.step.new.searches (c.step.ensures.basin ∙ w.basin) c.step.ensures.series (c.step.ensures.month w.records w.stands)
-    w.text (rw c.month.ensures at c.in_err-put_month.ensures.text)
+    c.step.new.searches c.step.ensures.basin c.step.ensures.series (c.step.ensures.month w.records w.stands)
+    w.text
+    (rw (c.basin.ensures.value, c.step.ensures.basin, c.month.ensures) at c.in_err-put_month.ensures.text)
     (stood_done c.args.run.now c.step.new.self w.records c.step.new.self.last w.stands
     (c.step.ensures.month w.records w.stands))
-    (rw w.basin at c.step.ensures.pushes))
+    c.step.ensures.pushes)
 
 pub returns-clause-written : goal.returns-clause-written
 returns-clause-written g c =
-    let w = c.requires.1.1.1.1.1 in
-    (month_put c.args.basin.now c.args.run.now.series c.step.new.self w.records c.step.new.self.last g.start
+    let w = c.requires.1.1.1 in
+    (month_put c.args.run.now.basin c.args.run.now.series c.step.new.self w.records c.step.new.self.last g.start
     (g.K.Sink.taken c.args.out.now) (g.K.Sink.taken c.flush.new.self) c.flush.result c.args.run.now.done
     c.args.searches.now
-    c.step.new.searches (c.step.ensures.basin ∙ w.basin) c.step.ensures.series (c.step.ensures.month w.records w.stands)
+    c.step.new.searches c.step.ensures.basin c.step.ensures.series (c.step.ensures.month w.records w.stands)
     w.text (puts_kept (g.K.Sink.taken c.args.out.now) (g.K.Sink.taken c.put_month.new.sink)
     (g.K.Sink.taken c.flush.new.self)
-    c.flush.result _ (rw c.month.ensures at c.in_ok-put_month.ensures.text) c.flush.ensures.bytes)
+    c.flush.result _
+    (rw (c.basin.ensures.value, c.step.ensures.basin, c.month.ensures) at c.in_ok-put_month.ensures.text)
+    c.flush.ensures.bytes)
     (stood_done c.args.run.now c.step.new.self w.records c.step.new.self.last w.stands
     (c.step.ensures.month w.records w.stands))
-    (rw w.basin at c.step.ensures.pushes)).0
+    c.step.ensures.pushes).0
 
 pub returns-clause-stops : goal.returns-clause-stops
 returns-clause-stops g c =
-    let w = c.requires.1.1.1.1.1 in
-    (month_put c.args.basin.now c.args.run.now.series c.step.new.self w.records c.step.new.self.last g.start
+    let w = c.requires.1.1.1 in
+    (month_put c.args.run.now.basin c.args.run.now.series c.step.new.self w.records c.step.new.self.last g.start
     (g.K.Sink.taken c.args.out.now) (g.K.Sink.taken c.flush.new.self) c.flush.result c.args.run.now.done
     c.args.searches.now
-    c.step.new.searches (c.step.ensures.basin ∙ w.basin) c.step.ensures.series (c.step.ensures.month w.records w.stands)
+    c.step.new.searches c.step.ensures.basin c.step.ensures.series (c.step.ensures.month w.records w.stands)
     w.text (puts_kept (g.K.Sink.taken c.args.out.now) (g.K.Sink.taken c.put_month.new.sink)
     (g.K.Sink.taken c.flush.new.self)
-    c.flush.result _ (rw c.month.ensures at c.in_ok-put_month.ensures.text) c.flush.ensures.bytes)
+    c.flush.result _
+    (rw (c.basin.ensures.value, c.step.ensures.basin, c.month.ensures) at c.in_ok-put_month.ensures.text)
+    c.flush.ensures.bytes)
     (stood_done c.args.run.now c.step.new.self w.records c.step.new.self.last w.stands
     (c.step.ensures.month w.records w.stands))
-    (rw w.basin at c.step.ensures.pushes)).1
+    c.step.ensures.pushes).1

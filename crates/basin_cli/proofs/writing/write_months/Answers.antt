@@ -1,4 +1,5 @@
-use Rattle.basin_cli.proofs.Written.{stopped, within_run}
+use Rattle.month_fold.proofs.Whole.{within_run}
+use Rattle.basin_cli.proofs.Written.{stopped}
 use Rattle.basin_cli.proofs.writing.write_months.Goals as goal
 
 pub returns-in_err-write_month-clause-stops : goal.returns-in_err-write_month-clause-stops
@@ -9,5 +10,5 @@ returns-in_err-write_month-clause-stops g c =
 
 pub returns-in_err-write_month-clause-pushes : goal.returns-in_err-write_month-clause-pushes
 returns-in_err-write_month-clause-pushes g c =
-    within_run c.args.basin.now c.args.searches.now c.loop-month.searches c.write_month.new.searches c.loop-month._month
+    within_run c.args.run.now.basin c.args.searches.now c.loop-month.searches c.write_month.new.searches c.loop-month._month
     c.loop-month.invariant.pushes c.in_err-write_month.ensures.pushes c.loop-month-test.true
