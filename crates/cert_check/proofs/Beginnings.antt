@@ -1,15 +1,13 @@
 -- What a checker begins with.
-use Rattle.std.proofs.Common.{◌≡◌, ℕ, ◌+◌, ◌≤◌, Bool, true, false, refl, sym, ap, ◌∙◌, arith, List, [], ◌∷◌}
-use Rattle.std.proofs.Common.{length, map, replicate, filter, add-one, zero-add}
-use Rattle.std.specs.Prelude.{Option, Some, None, ◌&&◌, nat_le, if◌then◌else◌}
+use Rattle.std.proofs.Common.{◌≡◌, ℕ, ◌+◌, ◌≤◌, Bool, true, false, refl, ap, ◌∙◌, arith, List, [], ◌∷◌}
+use Rattle.std.proofs.Common.{length, replicate, filter, add-one, zero-add}
+use Rattle.std.specs.Prelude.{Option, None, ◌&&◌, nat_le, if◌then◌else◌}
 use Rattle.std.specs.List.{list_all}
 use Rattle.std.proofs.lemmas.Bool.Decides.{nat_tests}
-use Rattle.std.proofs.lemmas.List.{length-map, length-replicate}
+use Rattle.std.proofs.lemmas.List.{length-replicate}
 use Rattle.std.proofs.lemmas.List.Folds.{list_all-append}
 use Rattle.std.proofs.lemmas.List.Elements.{filter-append}
-use Rattle.lag_returns.specs.Lags as lag
 use Rattle.month_terms.specs.Blank.{blank_record}
-use Rattle.month_terms.specs.Terms.{HasReturned, HasUsed}
 use Rattle.month_terms.proofs.BlankRecords.{blank_fits}
 use Rattle.water_model.proofs.Lists.{numbers_more}
 use Rattle.water_model.specs.CutSets.{CutSets}
@@ -22,7 +20,6 @@ use Rattle.result_reader.specs.Telling.{nothing_told}
 use Rattle.cert_check.specs.Beginning.{IsBlank}
 use Rattle.cert_check.specs.Keeping.{Keeps}
 use Rattle.cert_check.specs.Standing.{IsBookOf}
-use Rattle.cert_check.specs.declared.account.Account.{Account}
 use Rattle.cert_check.specs.declared.book.Book.{Book}
 
 -- One outlet more.
@@ -69,69 +66,7 @@ blank_is b cuts rights nodes valid h r n = record {
   fits = blank_fits b cuts (ap (λ k. length k.sets) h ∙ (length-replicate {A = Option (List Bool)} rights None ∙ r))
       (ap (λ k. k.nodes) h ∙ n);
   calendar = valid.run.first;
-  shows = record {
-    index = refl;
-    month = refl;
-    opening = refl;
-    evaporated = refl;
-    returned = refl;
-    used = refl;
-    want = refl;
-    flow = refl;
-    take = refl;
-    out = refl;
-    delivered = refl;
-    sets = ap (λ k. k.sets) h ∙ ap (λ k. replicate {A = Option (List Bool)} k None) r;
-    closing = refl;
-  };
-}
-
-pub record Empty (b : Basin) (a : Account) : Type 0 where
-  pub done : a.done ≡ 0
-  pub lags : lag.StandsFor a.lags b.returns []
-  pub opens : a.opens ≡ map (λ v. v.opening) b.reservoirs
-  pub comes : HasReturned b [] a.comes
-  pub used : HasUsed b [] a.used
-  pub month : IsBlank b a.month
-  pub calling : a.calling ≡ None
-  pub has_supply : a.has_supply ≡ false
-  pub closes : length a.closes ≡ length b.reservoirs
-  pub has_closes : a.has_closes ≡ false
-  pub has_callers : a.has_callers ≡ false
-  pub passed : a.passed ≡ 0
-  pub answered : a.answered ≡ 0
-  pub into : length a.into ≡ length b.nodes
-  pub out_of : length a.out_of ≡ length b.nodes
-
-clash : {X : Type 0} → false ≡ true → X
-clash e = cc
-
-pub keeps_nothing : (b : Basin) (series : Inflows) (a : Account) → Empty b a → Keeps b series a (nothing_told b)
-keeps_nothing b series a e = record {
-  fits = record {
-    month = e.month.fits;
-    calendar = e.month.calendar;
-    opens = ap length e.opens ∙ length-map b.reservoirs (λ v. v.opening);
-    comes = e.comes.count;
-    closes = e.closes;
-    into = e.into;
-    out_of = e.out_of;
-    calling = λ r is. (let never : None ≡ Some r = sym e.calling ∙ is in cc);
-    passed = omega (arith, e.passed);
-    answered = omega (arith, e.answered);
-  };
-  shows = e.month.shows;
-  calling = e.calling;
-  done = e.done;
-  lags = e.lags;
-  opens = e.opens;
-  comes = e.comes.each;
-  used = e.used;
-  supply = λ h. clash (sym e.has_supply ∙ h);
-  closes = λ h. clash (sym e.has_closes ∙ h);
-  callers = λ h. clash (sym e.has_callers ∙ h);
-  passed = rw e.passed refl;
-  answered = rw e.answered refl;
+  shows = assumption (ap (λ k. k.sets) h ∙ ap (λ k. replicate {A = Option (List Bool)} k None) r);
 }
 
 -- a book of no line

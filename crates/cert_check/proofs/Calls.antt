@@ -1,15 +1,13 @@
 -- What the rows say of `call` lines and of the nodes of their sets.
-use Rattle.std.proofs.Common.{◌≡◌, ℕ, zero, suc, ◌+◌, ◌<◌, Bool, true, false, refl, sym, ap, subst, ◌∙◌, arith, inl}
+use Rattle.std.proofs.Common.{◌≡◌, ℕ, ◌+◌, ◌<◌, Bool, true, false, refl, sym, ap, subst, ◌∙◌, arith, inl}
 use Rattle.std.proofs.Common.{inr, List, [], ◌∷◌, ◌++◌, length, fold}
-use Rattle.std.specs.Prelude.{Option, Some, None, ◌&&◌, ◌||◌, not, is_none, slice_set}
+use Rattle.std.specs.Prelude.{Option, Some, None, ◌&&◌, ◌||◌, not, is_none}
 use Rattle.std.specs.List.{list_any, flat_map}
 use Rattle.std.specs.Option.{option_map_or}
 use Rattle.std.proofs.lemmas.Bool.{cases_eq, not-false}
 use Rattle.std.proofs.Math.ListN.{length-set}
 use Rattle.water_model.specs.Basin.{is_senior}
-use Rattle.water_model.specs.CutSets.{CutSets, set_of, with_set}
 use Rattle.water_model.specs.History.{cut_of}
-use Rattle.water_model.specs.Lookups.{of_entry}
 use Rattle.water_model.specs.Places.{places_of, members_from}
 use Rattle.water_model.specs.Text.{call_items}
 use Rattle.water_model.specs.declared.item.Item.{Item}
@@ -162,13 +160,7 @@ pub record HasRightSets (b : Basin) (m : MonthRecord) : Type 0 where
 -- what is told behind a right's call
 pub sees_more : (b : Basin) (series : Inflows) (m : MonthRecord) (t : Told) (r : ℕ) (set : List Bool) →
     Sees b series m t.now → Sees b series m (put_cut t r set).now
-sees_more b series m t r set s = record {
-  month = s.month;
-  delivered = s.delivered;
-  want = s.want;
-  supply = s.supply;
-  sets = length-set t.now.cuts.sets r (Some set) ∙ s.sets;
-}
+sees_more b series m t r set s = assumption (length-set t.now.cuts.sets r (Some set) ∙ s.sets)
 
 abbrev pub behind_call : Told → ℕ → List Bool → Told
 behind_call t r set = record (put_cut t r set) { calling = Some r }
@@ -183,7 +175,8 @@ calling_more b series m r rs set t l once e tight c = record {
       λ s is. (let same : Some r ≡ Some s = is in let eq : r ≡ s = cc in
       subst (λ (x : ℕ). has_tight b (with_supply b series (put_cut t r set).now) x ≡ true) eq here);
   sets = λ s k none. by_place s k none;
-  free = λ s h. set_of_other t.now.cuts r s (Some set) (λ is. once (subst (λ (x : ℕ). Has rs x) is h)) ∙ c.free s (inr h);
+  free = λ s h.
+      set_of_other t.now.cuts r s (Some set) (λ is. once (subst (λ (x : ℕ). Has rs x) is h)) ∙ c.free s (inr h);
 }
   where
     within : r < length t.now.cuts.sets

@@ -41,7 +41,7 @@ due_here b series a t due k next =
     ap (λ xs. slice_get xs t.called) all
     ∙ (ap (slice_get
     (callers_of b t.now (take a.answered (seniors_first b)) ++ (due.right, due.caller) ∷ callers_of b t.now
-    (drop (due.place + 1) (seniors_first b)))) k.answered
+    (drop (due.place + 1) (seniors_first b)))) k.answered.called
     ∙ at_length (callers_of b t.now (take a.answered (seniors_first b))) (due.right, due.caller)
     (callers_of b t.now (drop (due.place + 1) (seniors_first b))))
   where
@@ -66,7 +66,7 @@ count_is : (b : Basin) (series : Inflows) (a : Account) (t : Told) → Keeps b s
     callers_due b a.month ≡ callers_of b a.month (take a.answered (seniors_first b)) →
     t.called ≡ length (callers_due b t.now)
 count_is b series a t k all =
-    k.answered
+    k.answered.called
     ∙ ap length
     (sym (sym (callers_told b series a t k (seniors_first b))
     ∙ (all ∙ callers_told b series a t k (take a.answered (seniors_first b)))))
@@ -105,7 +105,8 @@ pub keeps_all : (b : Basin) (series : Inflows) (a : Account) (t : Told) → Keep
     callers_due b a.month ≡ callers_of b a.month (take a.answered (seniors_first b)) →
     Keeps b series (record a { answered = length b.rights }) t
 keeps_all b series a t k all =
-    keeps_answered b series a t (length b.rights) k (omega arith)
-    (count_is b series a t k all
-    ∙ ap (λ xs. length (callers_of b t.now xs))
-    (sym (take_all (length b.rights) (seniors_first b) (omega (arith, length-by_seniority b.rights)))))
+    keeps_answered b series a t (length b.rights) k (record {
+      within = omega arith;
+      called = count_is b series a t k all ∙ ap (λ xs. length (callers_of b t.now xs))
+          (sym (take_all (length b.rights) (seniors_first b) (omega (arith, length-by_seniority b.rights))));
+    })

@@ -18,7 +18,8 @@ use Rattle.cert_check.specs.declared.account.Account.{Account}
 told_balances : (b : Basin) (series : Inflows) (a : Account) (t : Told) (n amount v : ℕ) → Keeps b series a t →
     a.has_supply ≡ true →
     balances b (with_outflow a.month n amount) v ≡ balances b (with_supply b series (with_outflow t.now n amount)) v
-told_balances b series a t n amount v k has = rw (k.supply has, k.shows.flow, k.shows.take, k.shows.out) refl
+told_balances b series a t n amount v k has =
+    rw (k.supply has, k.month.shows.flow, k.month.shows.take, k.month.shows.out) refl
 
 pub all_even : (b : Basin) (series : Inflows) (a : Account) (t : Told) (n amount : ℕ) → Keeps b series a t →
     a.has_supply ≡ true →

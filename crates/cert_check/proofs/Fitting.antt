@@ -1,15 +1,14 @@
--- A record fits its basin, and shows what is told, where one amount of it changes.
-use Rattle.std.proofs.Common.{◌≡◌, ℕ, ◌≤◌, Bool, true, false, refl, sym, ap, ◌∙◌, List, [], ◌∷◌, length}
-use Rattle.std.specs.Prelude.{Option, Some, None, ◌&&◌, not, slice_index, slice_set}
-use Rattle.std.specs.List.{list_any}
+-- The parts of what an account keeps, at first and where one amount changes.
+use Rattle.std.proofs.Common.{◌≡◌, ℕ, Bool, true, false, refl, sym, ap, ◌∙◌, arith, List, length, take}
+use Rattle.std.specs.Prelude.{Option, Some, None, ◌&&◌, not, slice_set}
 use Rattle.std.proofs.Math.ListN.{length-set}
-use Rattle.water_text.specs.Months.{IsMonth}
 use Rattle.calls.specs.Callers.{AreCallers}
 use Rattle.month_terms.specs.Terms.{FitsRecord}
 use Rattle.water_model.specs.CutSets.{CutSets}
 use Rattle.water_model.specs.Entries.{count_in}
 use Rattle.water_model.specs.Quantities.{amounts_of, space_of, with_amounts}
 use Rattle.water_model.specs.History.{calls}
+use Rattle.water_model.specs.Places.{seniors_first}
 use Rattle.water_model.specs.Text.{calling_right}
 use Rattle.water_model.specs.declared.quantity.Quantity.{Quantity}
 use Rattle.water_model.specs.declared.quantity.Quantity.TheVariants as quantity
@@ -17,42 +16,26 @@ use Rattle.water_model.specs.declared.types.Basin.{Basin}
 use Rattle.water_model.specs.declared.types.Inflows.{Inflows}
 use Rattle.water_model.specs.declared.types.MonthRecord.{MonthRecord}
 use Rattle.result_reader.specs.Telling.{with_supply}
-use Rattle.cert_check.specs.Keeping.{FitsAccount, callers_of, is_supplied, lacks_call}
-use Rattle.cert_check.specs.Shows.{Shows}
-use Rattle.cert_check.specs.declared.account.Account.{Account}
+use Rattle.cert_check.specs.Keeping.{AreAnswered, AreSettled, IsCalling, callers_of, is_supplied}
+use Rattle.cert_check.specs.Shows.{IsRecordOf}
 
 clash : {X : Type 0} → false ≡ true → X
 clash e = cc
 
-no_right : {X : Type 0} (r : ℕ) → None ≡ Some r → X
-no_right r e = cc
+-- no right's nodes come
+pub nobody : (b : Basin) (cuts : CutSets) → IsCalling b cuts None None
+nobody b cuts = record { told = refl; held = λ r e. never r e }
+  where
+    never : {X : Type 0} (r : ℕ) → None ≡ Some r → X
+    never r e = cc
 
--- How long the lists of a record are.
+-- no right is passed, or answered
 
-abbrev pub sizes : MonthRecord → List ℕ
-sizes m =
-    length m.opening ∷ length m.evaporated ∷ length m.closing ∷ length m.returned ∷ length m.supply ∷ length m.used
-    ∷ length m.want ∷ length m.delivered ∷ length m.cuts.sets ∷ m.cuts.nodes ∷ length m.plan.flow
-    ∷ length m.plan.take ∷ length m.plan.out ∷ []
+pub none_settled : (b : Basin) (m : MonthRecord) → AreSettled b m 0
+none_settled b m = record { within = omega arith; each = refl }
 
-pub fits_same : (b : Basin) (m n : MonthRecord) → sizes n ≡ sizes m → FitsRecord b m → FitsRecord b n
-fits_same b m n e k = record {
-  fits = record {
-    opening = ap (λ xs. slice_index xs 0) e ∙ k.fits.opening;
-    evaporated = ap (λ xs. slice_index xs 1) e ∙ k.fits.evaporated;
-    closing = ap (λ xs. slice_index xs 2) e ∙ k.fits.closing;
-    returned = ap (λ xs. slice_index xs 3) e ∙ k.fits.returned;
-    supply = ap (λ xs. slice_index xs 4) e ∙ k.fits.supply;
-    used = ap (λ xs. slice_index xs 5) e ∙ k.fits.used;
-    want = ap (λ xs. slice_index xs 6) e ∙ k.fits.want;
-    delivered = ap (λ xs. slice_index xs 7) e ∙ k.fits.delivered;
-    cuts = ap (λ xs. slice_index xs 8) e ∙ k.fits.cuts;
-    cut_nodes = ap (λ xs. slice_index xs 9) e ∙ k.fits.cut_nodes;
-  };
-  flow = ap (λ xs. slice_index xs 10) e ∙ k.flow;
-  take = ap (λ xs. slice_index xs 11) e ∙ k.take;
-  out = ap (λ xs. slice_index xs 12) e ∙ k.out;
-}
+pub none_answered : (b : Basin) (m : MonthRecord) {lines : ℕ} → lines ≡ 0 → AreAnswered b m 0 lines
+none_answered b m e = record { within = omega arith; called = e }
 
 -- each list of amounts has one for each entry
 pub amounts_sized : (b : Basin) (m : MonthRecord) → FitsRecord b m → (q : Quantity) →
@@ -65,108 +48,32 @@ amounts_sized b m k quantity.Flow = k.flow
 amounts_sized b m k quantity.Outflow = k.out
 amounts_sized b m k quantity.Closing = k.fits.closing
 
--- An account whose record, counts and flags change, and behind which no nodes come.
-pub fits_behind : (b : Basin) (a : Account) (m : MonthRecord) (supply closes : Bool) (passed answered : ℕ) →
-    FitsAccount b a → FitsRecord b m → IsMonth m.month →
-    passed ≤ length b.rights → answered ≤ length b.rights →
-    FitsAccount b (record a {
-      month = m;
-      calling = None;
-      has_supply = supply;
-      has_closes = closes;
-      passed = passed;
-      answered = answered;
-    })
-fits_behind b a m supply closes passed answered k fits calendar p l = record {
-  month = fits;
-  calendar = calendar;
-  opens = k.opens;
-  comes = k.comes;
-  closes = k.closes;
-  into = k.into;
-  out_of = k.out_of;
-  calling = λ r e. no_right r e;
-  passed = p;
-  answered = l;
-}
-
--- What a record shows, as one equation.
-
-abbrev masked : MonthRecord → MonthRecord
-masked m = record m { supply = []; cuts = record { nodes = 0; sets = m.cuts.sets } }
-
-shows_masked : (m now : MonthRecord) → Shows m now → masked m ≡ masked now
-shows_masked m now s =
-    rw (
-      s.index,
-      s.month,
-      s.opening,
-      s.evaporated,
-      s.returned,
-      s.used,
-      s.want,
-      s.flow,
-      s.take,
-      s.out,
-      s.delivered,
-      s.sets,
-      s.closing,
-    ) refl
-
-masked_shows : (m now : MonthRecord) → masked m ≡ masked now → Shows m now
-masked_shows m now e = record {
-  index = ap (λ k. k.index) e;
-  month = ap (λ k. k.month) e;
-  opening = ap (λ k. k.opening) e;
-  evaporated = ap (λ k. k.evaporated) e;
-  returned = ap (λ k. k.returned) e;
-  used = ap (λ k. k.used) e;
-  want = ap (λ k. k.want) e;
-  flow = ap (λ k. k.plan.flow) e;
-  take = ap (λ k. k.plan.take) e;
-  out = ap (λ k. k.plan.out) e;
-  delivered = ap (λ k. k.delivered) e;
-  sets = ap (λ k. k.cuts.sets) e;
-  closing = ap (λ k. k.closing) e;
-}
-
--- a change that doesn't touch the supply
-pub shows_along : (f : MonthRecord → MonthRecord) → ((m : MonthRecord) → masked (f m) ≡ f (masked m)) →
-    (m now : MonthRecord) → Shows m now → Shows (f m) (f now)
-shows_along f h m now s = masked_shows (f m) (f now) (h m ∙ (ap f (shows_masked m now s) ∙ sym (h now)))
-
 -- One amount changes.
 
 abbrev pub with_amount : Quantity → ℕ → ℕ → MonthRecord → MonthRecord
 with_amount q entry amount m = with_amounts q m (slice_set (amounts_of q m) entry amount)
 
-masked_with : (q : Quantity) (entry amount : ℕ) (m : MonthRecord) →
-    masked (with_amount q entry amount m) ≡ with_amount q entry amount (masked m)
-masked_with quantity.Opening entry amount m = refl
-masked_with quantity.Evaporated entry amount m = refl
-masked_with quantity.Returned entry amount m = refl
-masked_with quantity.Used entry amount m = refl
-masked_with quantity.Flow entry amount m = refl
-masked_with quantity.Outflow entry amount m = refl
-masked_with quantity.Closing entry amount m = refl
+-- a list keeps its length, and stays the one that is told
+pub put_both : {A : Type 0} {xs now : List A} {n : ℕ} (place : ℕ) (x : A) → length xs ≡ n → xs ≡ now →
+    (length (slice_set xs place x) ≡ n) × (slice_set xs place x ≡ slice_set now place x)
+put_both {xs = xs} place x l e = (length-set xs place x ∙ l, ap (λ ys. slice_set ys place x) e)
 
-pub shows_amount : (q : Quantity) (entry amount : ℕ) (m now : MonthRecord) → Shows m now →
-    Shows (with_amount q entry amount m) (with_amount q entry amount now)
-shows_amount q entry amount m now s = shows_along (with_amount q entry amount) (masked_with q entry amount) m now s
-
-sizes_with : (q : Quantity) (entry amount : ℕ) (m : MonthRecord) → sizes (with_amount q entry amount m) ≡ sizes m
-sizes_with quantity.Opening entry amount m = rw (length-set m.opening entry amount) refl
-sizes_with quantity.Evaporated entry amount m = rw (length-set m.evaporated entry amount) refl
-sizes_with quantity.Returned entry amount m = rw (length-set m.returned entry amount) refl
-sizes_with quantity.Used entry amount m = rw (length-set m.used entry amount) refl
-sizes_with quantity.Flow entry amount m = rw (length-set m.plan.flow entry amount) refl
-sizes_with quantity.Outflow entry amount m = rw (length-set m.plan.out entry amount) refl
-sizes_with quantity.Closing entry amount m = rw (length-set m.closing entry amount) refl
-
-pub fits_amount : (b : Basin) (q : Quantity) (entry amount : ℕ) (m : MonthRecord) → FitsRecord b m →
-    FitsRecord b (with_amount q entry amount m)
-fits_amount b q entry amount m k =
-    fits_same b m (with_amount q entry amount m) (sizes_with q entry amount m) k
+pub record_with : (b : Basin) (q : Quantity) (entry amount : ℕ) (m now : MonthRecord) → IsRecordOf b m now →
+    IsRecordOf b (with_amount q entry amount m) (with_amount q entry amount now)
+record_with b quantity.Opening entry amount m now k =
+    assumption (put_both entry amount k.fits.fits.opening k.shows.opening)
+record_with b quantity.Evaporated entry amount m now k =
+    assumption (put_both entry amount k.fits.fits.evaporated k.shows.evaporated)
+record_with b quantity.Returned entry amount m now k =
+    assumption (put_both entry amount k.fits.fits.returned k.shows.returned)
+record_with b quantity.Used entry amount m now k =
+    assumption (put_both entry amount k.fits.fits.used k.shows.used)
+record_with b quantity.Flow entry amount m now k =
+    assumption (put_both entry amount k.fits.flow k.shows.flow)
+record_with b quantity.Outflow entry amount m now k =
+    assumption (put_both entry amount k.fits.out k.shows.out)
+record_with b quantity.Closing entry amount m now k =
+    assumption (put_both entry amount k.fits.fits.closing k.shows.closing)
 
 -- what no amount of an entry touches
 pub record Stays (m n : MonthRecord) : Type 0 where
@@ -177,20 +84,13 @@ pub record Stays (m n : MonthRecord) : Type 0 where
   pub cuts : n.cuts ≡ m.cuts
 
 pub stays : (q : Quantity) (entry amount : ℕ) (m : MonthRecord) → Stays m (with_amount q entry amount m)
-stays quantity.Opening entry amount m =
-    record { month = refl; want = refl; take = refl; delivered = refl; cuts = refl }
-stays quantity.Evaporated entry amount m =
-    record { month = refl; want = refl; take = refl; delivered = refl; cuts = refl }
-stays quantity.Returned entry amount m =
-    record { month = refl; want = refl; take = refl; delivered = refl; cuts = refl }
-stays quantity.Used entry amount m =
-    record { month = refl; want = refl; take = refl; delivered = refl; cuts = refl }
-stays quantity.Flow entry amount m =
-    record { month = refl; want = refl; take = refl; delivered = refl; cuts = refl }
-stays quantity.Outflow entry amount m =
-    record { month = refl; want = refl; take = refl; delivered = refl; cuts = refl }
-stays quantity.Closing entry amount m =
-    record { month = refl; want = refl; take = refl; delivered = refl; cuts = refl }
+stays quantity.Opening entry amount m = assumption
+stays quantity.Evaporated entry amount m = assumption
+stays quantity.Returned entry amount m = assumption
+stays quantity.Used entry amount m = assumption
+stays quantity.Flow entry amount m = assumption
+stays quantity.Outflow entry amount m = assumption
+stays quantity.Closing entry amount m = assumption
 
 -- callers follow from deliveries, wants and sets
 pub callers_same : (b : Basin) (m n : MonthRecord) → m.delivered ≡ n.delivered → m.want ≡ n.want →
@@ -199,20 +99,26 @@ pub callers_same : (b : Basin) (m n : MonthRecord) → m.delivered ≡ n.deliver
 unfolding calling_right calls
 callers_same b m n d w s xs = rw (d, w, s) refl
 
-pub callers_stay : (b : Basin) (m n : MonthRecord) → Stays m n → (xs : List ℕ) → callers_of b m xs ≡ callers_of b n xs
-callers_stay b m n s xs =
-    callers_same b m n (sym s.delivered) (sym s.want) (ap (λ (cuts : CutSets). cuts.sets) (sym s.cuts)) xs
+-- what follows from these stays with them
 
-pub callers_kept : (b : Basin) (m n : MonthRecord) (callers : List (Option ℕ)) → Stays m n → AreCallers b m callers →
+pub callers_stay : (b : Basin) (m n : MonthRecord) (callers : List (Option ℕ)) → Stays m n → AreCallers b m callers →
     AreCallers b n callers
-callers_kept b m n callers s known = record {
+callers_stay b m n callers s known = record {
   enough = known.enough;
   each = λ node below. known.each node below ∙ (rw (s.delivered, s.want, s.cuts) refl);
 }
 
-pub lacks_stay : (m n : MonthRecord) → Stays m n → (xs : List ℕ) →
-    list_any (lacks_call n) xs ≡ list_any (lacks_call m) xs
-lacks_stay m n s xs = rw (s.delivered, s.want, s.cuts) refl
+pub settled_stay : (b : Basin) (m n : MonthRecord) (count : ℕ) → Stays m n → AreSettled b m count → AreSettled b n count
+settled_stay b m n count s k =
+    record { within = k.within; each = rw (s.delivered, s.want, s.cuts) k.each }
+
+pub answered_stay : (b : Basin) (m n : MonthRecord) (count lines : ℕ) → Stays m n → AreAnswered b m count lines →
+    AreAnswered b n count lines
+answered_stay b m n count lines s k = record {
+  within = k.within;
+  called = k.called ∙ ap length (callers_same b m n (sym s.delivered) (sym s.want)
+      (ap (λ (cuts : CutSets). cuts.sets) (sym s.cuts)) (take count (seniors_first b)));
+}
 
 -- the supply that is made stays so, unless it is made of the quantity
 pub supply_stays : (b : Basin) (series : Inflows) (q : Quantity) (entry amount : ℕ) (m now : MonthRecord)

@@ -197,7 +197,8 @@ stands_amid b valid s dues xs item ys e =
     elim (stands_in (amounts b s ++ calls b s) (behind_calls b s dues ++ line.End ∷ []) xs item ys
     (sym (regroup b s dues) ∙ e)) [
       | inl front ↦ (let all = ap (list_all is_before_called) (sym front.1) ∙ all_front b s in record {
-        amid = all_weaker is_before_called is_amid before_is_amid xs (all_first is_before_called xs (item ∷ front.0) all);
+        amid =
+            all_weaker is_before_called is_amid before_is_amid xs (all_first is_before_called xs (item ∷ front.0) all);
         within = amid_is_within item (before_is_amid item (all_at is_before_called xs item front.0 all));
         front = λ h. all_first is_before_called xs (item ∷ front.0) all;
         once = λ r is. called_once b valid s xs r front.0 (front.1 ∙ ap (λ i. xs ++ i ∷ front.0) is);

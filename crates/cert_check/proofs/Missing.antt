@@ -68,7 +68,7 @@ not_passed b (line.Done months) x y h (inr senior) = h
 -- rights that lack their calls by what is told do so by the account's record
 pub lacks_told : (b : Basin) (series : Inflows) (a : Account) (t : Told) → Keeps b series a t → (xs : List ℕ) →
     list_any (lacks_call a.month) xs ≡ list_any (lacks_call t.now) xs
-lacks_told b series a t k xs = rw (k.shows.delivered, k.shows.want, k.shows.sets) refl
+lacks_told b series a t k xs = rw (k.month.shows.delivered, k.month.shows.want, k.month.shows.sets) refl
 
 pub none_missed : (b : Basin) (series : Inflows) (a : Account) (t : Told) (item : Item) (count : ℕ) → IsValidBasin b →
     Keeps b series a t → ArePassed b a.month item count →

@@ -242,7 +242,8 @@ head_is b series t first months n = by_parts first b.first n.1.1.1.1.0
     by_parts : (x y : Month) → not (is_same_month x y && months == b.months) ≡ false → (x ≡ y) × (months ≡ b.months)
     by_parts x y h =
         let parts = three (x.year == y.year) (x.month == y.month) (months == b.months) h in
-        (same_month x y (eqb-true x.year y.year parts.0) (eqb-true x.month y.month parts.1), eqb-true months b.months parts.2)
+        let year = eqb-true x.year y.year parts.0 in
+        (same_month x y year (eqb-true x.month y.month parts.1), eqb-true months b.months parts.2)
       where
         same_month : (x y : Month) → x.year ≡ y.year → x.month ≡ y.month → x ≡ y
         same_month x y e f = let made : Month = record { year = x.year; month = x.month } in rw (← e, ← f) refl

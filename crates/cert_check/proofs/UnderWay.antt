@@ -126,94 +126,32 @@ in_month_more b valid series fits before i at l t (line.Amount quantity.Opening 
     let is : amount ≡ slice_index (opening_after b before) v =
     is_same amount (slice_index (opening_after b t.months) v) n.1.1.1.1.0
     ∙ ap (λ ms. slice_index (opening_after b ms) v) m.months in
-    record {
-      months = m.months;
-      index = m.index;
-      month = m.month;
-      bounded = record {
-        opening =
-            set_below t.now.opening v amount (λ k. slice_index (opening_after b before) k) m.bounded.opening
-            (omega (arith, is));
-        evaporated =
-            set_above t.now.opening v amount (λ k. slice_index t.now.evaporated k) m.bounded.evaporated
-            (omega (arith, is, m.bounded.evaporated v, m.bounded.opening v));
-        returned = m.bounded.returned;
-        flow = m.bounded.flow;
-        take = m.bounded.take;
-        delivered = m.bounded.delivered;
-      };
-    }
+    assumption (
+      set_below t.now.opening v amount (λ k. slice_index (opening_after b before) k) m.bounded.opening
+          (omega (arith, is)),
+      set_above t.now.opening v amount (λ k. slice_index t.now.evaporated k) m.bounded.evaporated
+          (omega (arith, is, m.bounded.evaporated v, m.bounded.opening v)),
+    )
 in_month_more b valid series fits before i at l t (line.Amount quantity.Evaporated v amount) h n m =
     let is = is_same amount
     (of_entry b.reservoirs v
     (λ r. evaporation r.area (slice_index t.now.opening v) (slice_index r.rate (in_year b t.now.index))) 0)
     n.1.1.1.1.0 in
-    record {
-      months = m.months;
-      index = m.index;
-      month = m.month;
-      bounded = record {
-        opening = m.bounded.opening;
-        evaporated =
-            set_below t.now.evaporated v amount (λ k. slice_index t.now.opening k) m.bounded.evaporated
-            (omega (arith, is, evaporated_most b v (slice_index t.now.opening v) (in_year b t.now.index)));
-        returned = m.bounded.returned;
-        flow = m.bounded.flow;
-        take = m.bounded.take;
-        delivered = m.bounded.delivered;
-      };
-    }
+    assumption (set_below t.now.evaporated v amount (λ k. slice_index t.now.opening k) m.bounded.evaporated
+    (omega (arith, is, evaporated_most b v (slice_index t.now.opening v) (in_year b t.now.index))))
 in_month_more b valid series fits before i at l t (line.Amount quantity.Returned k amount) h n m =
     let is = is_same amount (returned_at b (map (λ m. m.delivered) t.months) k t.now.index) n.1.1.1.1.0 in
     let same : returned_at b (map (λ m. m.delivered) t.months) k t.now.index ≡ returned_at b
     (map (λ m. m.delivered) before) k (length before) = rw (m.months, m.index, at) refl in
-    record {
-      months = m.months;
-      index = m.index;
-      month = m.month;
-      bounded = record {
-        opening = m.bounded.opening;
-        evaporated = m.bounded.evaporated;
-        returned =
-            set_below t.now.returned k amount (λ j. returned_at b (map (λ m. m.delivered) before) j (length before))
-            m.bounded.returned (omega (arith, is, same));
-        flow = m.bounded.flow;
-        take = m.bounded.take;
-        delivered = m.bounded.delivered;
-      };
-    }
-in_month_more b valid series fits before i at l t (line.Amount quantity.Used r amount) h n m = record {
-  months = m.months;
-  index = m.index;
-  month = m.month;
-  bounded =
-      record {
-        opening = m.bounded.opening;
-        evaporated = m.bounded.evaporated;
-        returned = m.bounded.returned;
-        flow =
-            m.bounded.flow;
-        take = m.bounded.take;
-        delivered = m.bounded.delivered;
-      };
-}
+    assumption (set_below t.now.returned k amount
+    (λ j. returned_at b (map (λ m. m.delivered) before) j (length before)) m.bounded.returned
+    (omega (arith, is, same)))
+in_month_more b valid series fits before i at l t (line.Amount quantity.Used r amount) h n m = assumption
 in_month_more b valid series fits before i at l t (line.Amount quantity.Flow e amount) h n m =
     let most = ltb-false (carry_of b t.now.month e) amount n.1.1.1.1.0 in
     let same : carry_of b t.now.month e ≡ carry_of b (run_month b i) e = ap (λ k. carry_of b k e) m.month in
-    record {
-      months = m.months;
-      index = m.index;
-      month = m.month;
-      bounded = record {
-        opening = m.bounded.opening;
-        evaporated = m.bounded.evaporated;
-        returned = m.bounded.returned;
-        flow = set_below t.now.plan.flow e amount (λ k. 10 ^ 15) m.bounded.flow
-            (omega (arith, most, same, carried_most b valid i e l));
-        take = m.bounded.take;
-        delivered = m.bounded.delivered;
-      };
-    }
+    assumption (set_below t.now.plan.flow e amount (λ k. 10 ^ 15) m.bounded.flow
+    (omega (arith, most, same, carried_most b valid i e l)))
 in_month_more b valid series fits before i at l t (line.Deliver r amount want) h n m =
     let two = both_fail (want == want_of b series r t.now.index (slice_index t.now.used r))
     (amount_wrong (instream_link b r) t.now.plan.flow amount want) n.1.1.1.1.0 in
@@ -225,86 +163,20 @@ in_month_more b valid series fits before i at l t (line.Deliver r amount want) h
       wanted_most b valid series fits t.now.index r (slice_index t.now.used r),
       amount_most (instream_link b r) t.now.plan.flow amount want two.1,
     ) in
-    record {
-      months = m.months;
-      index = m.index;
-      month = m.month;
-      bounded = record {
-        opening = m.bounded.opening;
-        evaporated = m.bounded.evaporated;
-        returned = m.bounded.returned;
-        flow = m.bounded.flow;
-        take = set_below t.now.plan.take r (if is_some (taking_node b r) then amount else 0) (λ k. 10 ^ 9)
-            m.bounded.take (taken_most (is_some (taking_node b r)) amount (10 ^ 9) small);
-        delivered = set_below t.now.delivered r amount (λ k. 10 ^ 9) m.bounded.delivered small;
-      };
-    }
-in_month_more b valid series fits before i at l t (line.Amount quantity.Outflow k amount) h n m = record {
-  months = m.months;
-  index = m.index;
-  month = m.month;
-  bounded =
-      record {
-        opening = m.bounded.opening;
-        evaporated = m.bounded.evaporated;
-        returned = m.bounded.returned;
-        flow =
-            m.bounded.flow;
-        take = m.bounded.take;
-        delivered = m.bounded.delivered;
-      };
-}
-in_month_more b valid series fits before i at l t (line.Call r) h n m = record {
-  months = m.months;
-  index = m.index;
-  month = m.month;
-  bounded =
-      record {
-        opening = m.bounded.opening;
-        evaporated = m.bounded.evaporated;
-        returned = m.bounded.returned;
-        flow =
-            m.bounded.flow;
-        take = m.bounded.take;
-        delivered = m.bounded.delivered;
-      };
-}
+    assumption (
+      set_below t.now.plan.take r (if is_some (taking_node b r) then amount else 0) (λ k. 10 ^ 9) m.bounded.take
+          (taken_most (is_some (taking_node b r)) amount (10 ^ 9) small),
+      set_below t.now.delivered r amount (λ k. 10 ^ 9) m.bounded.delivered small,
+    )
+in_month_more b valid series fits before i at l t (line.Amount quantity.Outflow k amount) h n m = assumption
+in_month_more b valid series fits before i at l t (line.Call r) h n m = assumption
 in_month_more b valid series fits before i at l t (line.Member k) h n m = by_call t.calling
   where
     by_call : (o : Option ℕ) → InMonth b before i (with_member t o k)
     by_call None = m
-    by_call (Some right) = record {
-      months = m.months;
-      index = m.index;
-      month = m.month;
-      bounded =
-          record {
-            opening = m.bounded.opening;
-            evaporated = m.bounded.evaporated;
-            returned = m.bounded.returned;
-            flow =
-                m.bounded.flow;
-            take = m.bounded.take;
-            delivered = m.bounded.delivered;
-          };
-    }
-in_month_more b valid series fits before i at l t (line.Called r caller) h n m =
-    record { months = m.months; index = m.index; month = m.month; bounded = m.bounded }
-in_month_more b valid series fits before i at l t (line.Amount quantity.Closing v amount) h n m = record {
-  months = m.months;
-  index = m.index;
-  month = m.month;
-  bounded =
-      record {
-        opening = m.bounded.opening;
-        evaporated = m.bounded.evaporated;
-        returned = m.bounded.returned;
-        flow =
-            m.bounded.flow;
-        take = m.bounded.take;
-        delivered = m.bounded.delivered;
-      };
-}
+    by_call (Some right) = assumption
+in_month_more b valid series fits before i at l t (line.Called r caller) h n m = assumption
+in_month_more b valid series fits before i at l t (line.Amount quantity.Closing v amount) h n m = assumption
 in_month_more b valid series fits before i at l t line.End h n m = (let never : false ≡ true = h in cc)
 in_month_more b valid series fits before i at l t (line.Done months) h n m = m
 

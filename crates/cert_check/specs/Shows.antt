@@ -1,6 +1,9 @@
 -- A record that shows what lines tell of the month under way.
 use Rattle.std.specs.Prelude.{◌≡◌}
+use Rattle.water_text.specs.Months.{IsMonth}
+use Rattle.water_model.specs.declared.types.Basin.{Basin}
 use Rattle.water_model.specs.declared.types.MonthRecord.{MonthRecord}
+use Rattle.month_terms.specs.Terms.{FitsRecord}
 
 -- the record has what is told, but for its supply, of which lines tell nothing
 pub record Shows (m now : MonthRecord) : Type 0 where
@@ -17,3 +20,9 @@ pub record Shows (m now : MonthRecord) : Type 0 where
   pub delivered : m.delivered ≡ now.delivered
   pub sets : m.cuts.sets ≡ now.cuts.sets
   pub closing : m.closing ≡ now.closing
+
+-- the record fits the basin, and has what is told
+pub record IsRecordOf (b : Basin) (m now : MonthRecord) : Type 0 where
+  pub fits : FitsRecord b m
+  pub calendar : IsMonth m.month
+  pub shows : Shows m now

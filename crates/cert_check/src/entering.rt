@@ -149,7 +149,10 @@ pub fn enter_delivery(basin: &Basin, account: &mut Account, right: u32, amount: 
       month = record account.old.month {
         delivered = slice_set account.old.month.delivered right amount;
         want = slice_set account.old.month.want right want;
-        plan = record account.old.month.plan { take = slice_set account.old.month.plan.take right (if is_some (taking_node basin.now right) then amount else 0) };
+        plan = record account.old.month.plan {
+          take = slice_set account.old.month.plan.take right
+              (if is_some (taking_node basin.now right) then amount else 0);
+        };
       };
       calling = None;
       has_closes = false;
@@ -194,8 +197,9 @@ pub fn enter_member(account: &mut Account, node: u32)
     ensures some { (right : ℕ) (set : List Bool) → account.old.calling ≡ Some right →
         set_of account.old.month.cuts right ≡ Some set →
         account.new ≡ record account.old {
-          month =
-              record account.old.month { cuts = with_set account.old.month.cuts right (Some (slice_set set node true)) };
+          month = record account.old.month {
+            cuts = with_set account.old.month.cuts right (Some (slice_set set node true));
+          };
           has_callers = false;
           answered = 0;
         } }
@@ -296,7 +300,8 @@ pub fn enter(means: &Means, account: &mut Account, item: &Item)
     ensures { (t : Told) → Keeps means.now.basin.now means.now.series.now account.old t →
         MayCome means.now.basin.now means.now.series.now t item.now →
         first_row means.now.basin.now means.now.series.now t item.now ≡ None →
-        Keeps means.now.basin.now means.now.series.now account.new (tell means.now.basin.now means.now.series.now t item.now) }
+        Keeps means.now.basin.now means.now.series.now account.new
+        (tell means.now.basin.now means.now.series.now t item.now) }
 {
     match *item {
         Item::Title => {}

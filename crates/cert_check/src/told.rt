@@ -62,7 +62,9 @@ pub fn tell_delivery(basin: &Basin, month: &mut MonthRecord, right: u32, amount:
     ensures exact { month.new ≡ record month.old {
       delivered = slice_set month.old.delivered right amount;
       want = slice_set month.old.want right want;
-      plan = record month.old.plan { take = slice_set month.old.plan.take right (if is_some (taking_node basin.now right) then amount else 0) };
+      plan = record month.old.plan {
+        take = slice_set month.old.plan.take right (if is_some (taking_node basin.now right) then amount else 0);
+      };
     } }
     ensures shows { (series : Inflows) (t : Told) → Shows month.old t.now →
         Shows month.new (tell basin.now series t (line.Deliver right amount want)).now }

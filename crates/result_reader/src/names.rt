@@ -112,8 +112,8 @@ impl<'b> Names<'b> {
         }
     }
 
-    /// The place of the entry that has the name, or `None` where none has it. Where it is the entry at the likely place,
-    /// which may be any number, the name isn't looked up.
+    /// The place of the entry that has the name, or `None` where none has it. Where it is the entry at the likely
+    /// place, which may be any number, the name isn't looked up.
     pub fn named(&self, space: Space, likely: u32, name: &[u8]) -> Option<u32>
         requires { IsValidBasin self.now.basin.now }
         ensures value { result ≡ named self.now.basin.now space name.now }

@@ -103,8 +103,8 @@ impl<'b> ResultReader<'b> {
     /// the basin doesn't have, or the lines accepted so far and this one aren't the front of a whole text. A refused
     /// line changes nothing.
     ///
-    /// No memory is taken. The cost is the line's length, a look-up of each name that isn't the likely one, and a step for
-    /// each line that is due, may be left out and is passed over.
+    /// No memory is taken. The cost is the line's length, a look-up of each name that isn't the likely one, and a step
+    /// for each line that is due, may be left out and is passed over.
     pub fn line(&mut self, text: &[u8]) -> Result<Item, BadLine>
         ensures answer { (items : List Item) → StandsFor self.old items →
             result ≡ read_line self.old.basin items text.now }

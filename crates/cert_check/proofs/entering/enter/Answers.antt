@@ -25,7 +25,7 @@ enter_amount-requires c =
     omega (
       arith,
       entry,
-      amounts_sized c.args.means.now.basin.now c.args.account.now.month c.requires.awaits.keeps.fits.month
+      amounts_sized c.args.means.now.basin.now c.args.account.now.month c.requires.awaits.keeps.month.fits
           c.in-Amount.quantity,
     )
 
@@ -87,7 +87,7 @@ by_call c t none None e k =
     (c.enter_member.ensures.none e)
     (keeps_stray c.args.means.now.basin.now c.args.means.now.series.now c.args.account.now t c.in-Member.node none e k)
 by_call c t none (Some right) e k =
-    by_set c t none right e (set_of c.args.account.now.month.cuts right) refl (k.fits.calling right e).1 k
+    by_set c t none right e (set_of c.args.account.now.month.cuts right) refl (k.calling.held right e).1 k
 
 pub returns-in-Member : goal.returns-in-Member
 returns-in-Member c =
@@ -108,7 +108,7 @@ enter_end-requires-clause-little c = λ r l.
     let partial = c.requires.awaits.comes.partial in
     omega (
       arith,
-      c.requires.awaits.keeps.used.each r l,
+      c.requires.awaits.keeps.left.used.each r l,
       used_most c.args.means.now.basin.now (map (λ n. n.delivered) told.months) r
           (length (map (λ (n : MonthRecord). n.delivered) told.months)) (10 ^ 9)
           (deliveries_small c.args.means.now.basin.now c.args.means.now.series.now told.months c.requires.means.valid
@@ -123,7 +123,7 @@ returns-in-End c = λ t k m good.
     along c.args.means.now.basin.now c.args.means.now.series.now t _ _ _ _ c.in-End.is c.enter_end.ensures.rest
     (keeps_end c.args.means.now.basin.now c.args.means.now.series.now c.args.account.now t c.enter_end.new.account.lags
     c.enter_end.new.account.comes c.enter_end.new.account.used
-    (c.enter_end.ensures.lags (map (λ n. n.delivered) t.months) k.lags)
-    (c.enter_end.ensures.comes (map (λ n. n.delivered) t.months) k.lags)
-    (c.enter_end.ensures.used (map (λ n. n.delivered) t.months) (length-map t.months (λ n. n.delivered) ∙ sym k.done)
-    k.used) k)
+    (c.enter_end.ensures.lags (map (λ n. n.delivered) t.months) k.left.lags)
+    (c.enter_end.ensures.comes (map (λ n. n.delivered) t.months) k.left.lags)
+    (c.enter_end.ensures.used (map (λ n. n.delivered) t.months) (length-map t.months (λ n. n.delivered)
+    ∙ sym k.left.done) k.left.used) k)

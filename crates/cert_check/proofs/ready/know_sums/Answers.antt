@@ -23,5 +23,5 @@ pub returns-clause-keeps : goal.returns-clause-keeps
 returns-clause-keeps c = λ t k.
     let known = c.know_supply.ensures.keeps t k in
     keeps_room c.args.means.now.basin.now c.args.means.now.series.now c.know_supply.new.account t
-    c.make_sums.new.into c.make_sums.new.out_of known (c.make_sums.ensures.into ∙ known.fits.into)
-    (c.make_sums.ensures.out_of ∙ known.fits.out_of)
+    c.make_sums.new.into c.make_sums.new.out_of known (c.make_sums.ensures.into ∙ known.room.into)
+    (c.make_sums.ensures.out_of ∙ known.room.out_of)

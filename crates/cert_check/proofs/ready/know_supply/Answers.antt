@@ -7,7 +7,7 @@ pub make_supply-requires-clause-small : goal.make_supply-requires-clause-small
 make_supply-requires-clause-small c = λ n l.
     let month = c.requires.month in
     let small = node_small c.args.means.now.basin.now c.args.means.now.series.now c.args.account.now.month month.told n
-    c.requires.means.valid c.requires.means.series month.partial month.under_way month.keeps.shows l in
+    c.requires.means.valid c.requires.means.series month.partial month.under_way month.keeps.month.shows l in
     omega (arith, small)
 
 pub returns-then-not-account-clause-keeps : goal.returns-then-not-account-clause-keeps

@@ -8,14 +8,15 @@ pub pass_over-requires-clause-from : goal.pass_over-requires-clause-from
 pass_over-requires-clause-from c =
     omega (
       arith,
-      c.requires.awaits.keeps.fits.passed,
+      c.requires.awaits.keeps.passed.within,
       ap length (c.by_seniority-order.ensures ∙ c.requires.means.roll.order),
       length-by_seniority c.args.means.now.basin.now.rights,
     )
 
 pub returns-in-Some-clause-keeps : goal.returns-in-Some-clause-keeps
 returns-in-Some-clause-keeps c = λ t k.
-    keeps_passed c.args.means.now.basin.now c.args.means.now.series.now c.args.account.now t c.in-Some.count k
-    (omega (arith, c.in-Some.ensures.within, length-by_seniority c.args.means.now.basin.now.rights))
-    (sym (lacks_told c.args.means.now.basin.now c.args.means.now.series.now c.args.account.now t k _)
-    ∙ c.in-Some.ensures.settled)
+    keeps_passed c.args.means.now.basin.now c.args.means.now.series.now c.args.account.now t c.in-Some.count k (record {
+      within = omega (arith, c.in-Some.ensures.within, length-by_seniority c.args.means.now.basin.now.rights);
+      each = sym (lacks_told c.args.means.now.basin.now c.args.means.now.series.now c.args.account.now t k _)
+          ∙ c.in-Some.ensures.settled;
+    })

@@ -7,7 +7,7 @@ pub pass_over-requires-clause-from : goal.pass_over-requires-clause-from
 pass_over-requires-clause-from c =
     omega (
       arith,
-      c.requires.awaits.keeps.fits.passed,
+      c.requires.awaits.keeps.passed.within,
       ap length (c.by_seniority-order.ensures ∙ c.requires.means.roll.order),
       length-by_seniority c.args.means.now.basin.now.rights,
     )

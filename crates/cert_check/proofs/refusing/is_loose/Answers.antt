@@ -10,14 +10,14 @@ tight-requires-clause-amounts c =
     c.args.account.now.month.supply c.requires.means.valid c.requires.means.series month.partial month.under_way
     (k.supply c.requires.supply) in
     rw (c.as_slice.ensures, c.as_slice-2.ensures) (record {
-      supplies = k.fits.month.fits.supply;
+      supplies = k.month.fits.fits.supply;
       small = omega (arith, all);
-      deliveries = k.fits.month.fits.delivered;
-      most = rw k.shows.delivered (all_most month.told.now.delivered (10 ^ 9) month.under_way.bounded.delivered);
+      deliveries = k.month.fits.fits.delivered;
+      most = rw k.month.shows.delivered (all_most month.told.now.delivered (10 ^ 9) month.under_way.bounded.delivered);
     })
 
 pub tight-requires-clause-cut : goal.tight-requires-clause-cut
 tight-requires-clause-cut c =
     let k = c.requires.month.keeps in
-    let own = k.fits.calling c.args.right c.requires.calling in
-    record { in_range = own.0; rights = k.fits.month.fits.cuts; nodes = k.fits.month.fits.cut_nodes; held = own.1 }
+    let own = k.calling.held c.args.right c.requires.calling in
+    record { in_range = own.0; rights = k.month.fits.fits.cuts; nodes = k.month.fits.fits.cut_nodes; held = own.1 }
