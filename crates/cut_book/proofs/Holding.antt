@@ -1,7 +1,7 @@
 -- The search for a holder, from one right on the link to the next.
 use Rattle.std.proofs.Common.{◌≡◌, ℕ, suc, ◌+◌, ◌<◌, ◌≤◌, Bool, true, false, refl, sym, ap, subst, ◌∙◌, arith, List}
 use Rattle.std.proofs.Common.{length, inl, inr, add-one}
-use Rattle.std.specs.Prelude.{slice_index, Option, Some, None, find, if◌then◌else◌, ◌&&◌, ◌==◌, ◌⊎◌, ◌≢◌, IfSome}
+use Rattle.std.specs.Prelude.{slice_index, Option, Some, None, find, if◌then◌else◌, ◌&&◌, ◌==◌, ◌⊎◌, ◌≢◌}
 use Rattle.std.proofs.lemmas.Bool.{cases_order}
 use Rattle.std.proofs.lemmas.Bool.Decides.{nat_tests}
 use Rattle.water_model.specs.Basin.{is_senior, is_at, instream_link}

@@ -1,4 +1,5 @@
 pub mod Entries
 pub mod Holders
 pub mod Book
+pub mod Shortages
 pub mod Laws

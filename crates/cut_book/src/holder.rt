@@ -1,11 +1,9 @@
 //! For whom water is kept on a link.
 ghost use Rattle.std.specs.Prelude.{◌≡◌, ◌<◌, ◌==◌, length, slice_index, if◌then◌else◌, IfSome};
-ghost use Rattle.water_model.specs.Valid.{IsValidBasin};
-ghost use Rattle.rights_roll.specs.Rolls.{IsRollOf};
 ghost use Rattle.cut_book.specs.Holders.{holder_of, more_senior};
 
+use crate::shortage::Shortage;
 use cut_cert::is_senior_to;
-use rights_roll::roll::Roll;
 use water_model::types::Basin;
 
 /// The more senior of a right and the one before, if there is one.
@@ -21,21 +19,14 @@ fn more_senior(basin: &Basin, before: Option<u32>, right: u32) -> Option<u32>
 }
 
 /// The holder so far, or a further right on the link if it is delivered the amount and more senior.
-fn holder_with(
-    basin: &Basin,
-    delivered: &[u64],
-    amount: u64,
-    before: Option<u32>,
-    right: u32,
-) -> Option<u32>
-    requires delivered { length delivered.now ≡ length basin.now.rights }
-    requires before { IfSome before (λ r. r < length basin.now.rights) }
-    requires right { right < length basin.now.rights }
-    ensures { result ≡ (if slice_index delivered.now right == amount then more_senior basin.now before right
-        else before) }
+fn holder_with(shortage: &Shortage, amount: u64, before: Option<u32>, right: u32) -> Option<u32>
+    requires before { IfSome before (λ r. r < length shortage.now.basin.rights) }
+    requires right { right < length shortage.now.basin.rights }
+    ensures { result ≡ (if slice_index shortage.now.month.delivered right == amount
+        then more_senior shortage.now.basin before right else before) }
 {
-    if delivered[right as usize] == amount {
-        more_senior(basin, before, right)
+    if shortage.month.delivered[right as usize] == amount {
+        more_senior(shortage.basin, before, right)
     } else {
         before
     }
@@ -44,24 +35,15 @@ fn holder_with(
 /// The most senior instream right on a link that is delivered this amount, or `None` where there is none.
 ///
 /// Only the rights on the link are gone over, by the roll.
-pub fn holder_of(
-    basin: &Basin,
-    roll: &Roll,
-    delivered: &[u64],
-    link: u32,
-    amount: u64,
-) -> Option<u32>
-    requires basin { IsValidBasin basin.now }
-    requires roll { IsRollOf basin.now.rights roll.now }
-    requires delivered { length delivered.now ≡ length basin.now.rights }
-    ensures value { result ≡ holder_of basin.now delivered.now link amount }
-    ensures within { IfSome result (λ holder. holder < length basin.now.rights) }
+pub fn holder_of(shortage: &Shortage, link: u32, amount: u64) -> Option<u32>
+    ensures value { result ≡ holder_of shortage.now.basin shortage.now.month.delivered link amount }
+    ensures within { IfSome result (λ holder. holder < length shortage.now.basin.rights) }
 {
     let mut holder = None;
-    let mut next = roll.first_on(link);
+    let mut next = shortage.roll.first_on(link);
     while let Some(right) = next {
-        holder = holder_with(basin, delivered, amount, holder, right);
-        next = roll.next_on(right);
+        holder = holder_with(shortage, amount, holder, right);
+        next = shortage.roll.next_on(right);
     }
     holder
 }

@@ -10,6 +10,7 @@ mod entry;
 mod holder;
 pub mod laws;
 mod part;
+mod shortage;
 mod spelling;
 mod writer;
 

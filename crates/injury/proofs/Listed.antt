@@ -142,7 +142,8 @@ module _ (first second : Basin) (valid : IsValidBasin second) where
   is_injury [] others injury c = absurd (let l = c.1 in omega arith)
   is_injury (x ∷ xs) [] injury c = absurd (let l = c.1 in omega arith)
   is_injury (x ∷ xs) (y ∷ ys) injury c =
-      elim (Contains-append_cases (injuries_of (common_rights first second) x y) (injuries first second xs ys) injury c) [
+      elim (Contains-append_cases (injuries_of (common_rights first second) x y) (injuries first second xs ys)
+      injury c) [
         | inl here ↦ of_month x y xs ys injury here
         | inr behind ↦ next x y xs ys injury (is_injury xs ys injury behind)
       ]

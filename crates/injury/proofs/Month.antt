@@ -104,9 +104,11 @@ module _ (b : Basin) (at : ℕ) (x : Right) (more : HasOneMore b (with_right b a
         cut_kept (with_right b at x) delivered' (moved at r) cut ≡ cut_kept b delivered r cut
     kept_same r cut l = ap₂ (λ k t. k + t) links takes
       where
-        links : total_where (length b.links) (λ e. leaves b cut e && not (is_on_link (with_right b at x) (moved at r) e))
+        links : total_where (length b.links)
+            (λ e. leaves b cut e && not (is_on_link (with_right b at x) (moved at r) e))
             (λ e. kept_on (with_right b at x) delivered' (moved at r) e)
-            ≡ total_where (length b.links) (λ e. leaves b cut e && not (is_on_link b r e)) (λ e. kept_on b delivered r e)
+            ≡ total_where (length b.links) (λ e. leaves b cut e && not (is_on_link b r e))
+            (λ e. kept_on b delivered r e)
         links = total_same (length b.links)
             (λ e. if leaves b cut e && not (is_on_link (with_right b at x) (moved at r) e) then kept_on
             (with_right b at x) delivered' (moved at r) e else 0)
@@ -117,7 +119,8 @@ module _ (b : Basin) (at : ℕ) (x : Right) (more : HasOneMore b (with_right b a
         takes : total_where (length (with_right b at x).rights)
             (λ s. takes_within (with_right b at x) cut s && is_senior (with_right b at x) s (moved at r))
             (λ s. slice_index delivered' s)
-            ≡ total_where (length b.rights) (λ s. takes_within b cut s && is_senior b s r) (λ s. slice_index delivered s)
+            ≡ total_where (length b.rights) (λ s. takes_within b cut s && is_senior b s r)
+            (λ s. slice_index delivered s)
         takes = total_where_moved (length (with_right b at x).rights) (length b.rights) at
             (λ s. takes_within b cut s && is_senior b s r)
             (λ s. takes_within (with_right b at x) cut s && is_senior (with_right b at x) s (moved at r))

@@ -1,11 +1,11 @@
 -- Sums that grow by one place.
-use Rattle.std.proofs.Common.{◌≡◌, ℕ, zero, suc, ◌+◌, ◌*◌, ◌<◌, ◌≤◌, Bool, true, false, refl, sym, ◌∙◌, ap, subst}
+use Rattle.std.proofs.Common.{◌≡◌, ℕ, zero, suc, ◌+◌, ◌<◌, ◌≤◌, Bool, false, refl, sym, ◌∙◌, ap, subst}
 use Rattle.std.proofs.Common.{arith, List, [], ◌∷◌, length, replicate}
 use Rattle.std.specs.Prelude.{◌==◌, slice_index, slice_get, slice_set, Option, Some, None, if◌then◌else◌, unwrap_or}
 use Rattle.std.specs.Prelude.{option_map}
 use Rattle.std.proofs.lemmas.Option.{slice_get_within}
 use Rattle.std.proofs.lemmas.Bool.Decides.{nat_tests}
-use Rattle.place_sums.specs.Sums.{total, total_where, when}
+use Rattle.place_sums.specs.Sums.{total_where, when}
 use Rattle.place_sums.proofs.Totals.{total_more, total_grows, total_where_start}
 use Rattle.water_model.specs.Basin.{is_at, node_of_reservoir}
 use Rattle.water_model.specs.History.{is_zone_of, is_zone_of_kind}

@@ -1,11 +1,9 @@
 -- What flows in, comes back and is stored in a month is less than a river can carry.
 use Rattle.std.proofs.Common.{◌≡◌, ℕ, zero, suc, ◌+◌, ◌-◌, ◌*◌, ◌/◌, ◌^◌, ◌<◌, ◌≤◌, Bool, true, false, refl, sym, ◌∙◌}
-use Rattle.std.proofs.Common.{ap, arith, List, length, inl, inr}
+use Rattle.std.proofs.Common.{ap, arith, List, length}
 use Rattle.std.specs.Prelude.{◌==◌, slice_index, slice_get, Option, Some, None, if◌then◌else◌, unwrap_or, option_map}
-use Rattle.std.specs.Prelude.{All, nat_lt}
-use Rattle.std.proofs.lemmas.Bool.{cases_lt}
+use Rattle.std.specs.Prelude.{nat_lt}
 use Rattle.std.proofs.lemmas.Bool.Decides.{nat_tests}
-use Rattle.std.proofs.lemmas.List.{get_or_past}
 use Rattle.std.proofs.Math.Nat.{mul-le-mul_right}
 use Rattle.place_sums.specs.Sums.{total, total_where}
 use Rattle.place_sums.proofs.Totals.{total_le, total_same, total_zero, total_exchange, total_at, total_grows}

@@ -28,7 +28,8 @@ pub fn settle(
     requires index { index < basin.now.months }
     requires month { FitsRecord basin.now month.old }
     requires small { (evaporated : List ℕ) (n : ℕ) → n < length basin.now.nodes →
-        inflow_at basin.now series.now n index + slice_index month.old.returned n + stored_at basin.now month.old.closing evaporated n < 2 ^ 64 }
+        inflow_at basin.now series.now n index + slice_index month.old.returned n
+        + stored_at basin.now month.old.closing evaporated n < 2 ^ 64 }
     ensures { IsSettled basin.now series.now index month.old month.new }
 {
     let calendar = month_at(basin, index);

@@ -1,34 +1,35 @@
 use Rattle.std.proofs.Common.{arith}
-use Rattle.cut_cert.specs.Sets.{cut_at}
 use Rattle.result_text.proofs.Entries.{place_at, places_end}
 use Rattle.water_edge.proofs.Puts.{SoFar-none, SoFar-next, SoFar-fails, SoFar-whole}
-use Rattle.cut_book.specs.Book.{count_in, lines_at, places_in}
+use Rattle.cut_book.specs.Book.{count_in, places_in}
 use Rattle.cut_book.specs.Entries.{whole_line}
+use Rattle.cut_book.specs.Shortages.{lines_of}
 use Rattle.cut_book.proofs.writer.put_places.Goals as goal
 
 pub loop-place-init : goal.loop-place-init
 loop-place-init g c =
-    SoFar-none (whole_line c.args.basin.now)
-    (lines_at c.args.part c.args.basin.now c.args.month.now c.args.right
-    (cut_at c.args.month.now.cuts c.args.right))
-    (places_in c.args.part c.args.basin.now) (g.K.Sink.taken c.args.sink.now) (g.K.Sink.faults c.args.sink.now)
+    SoFar-none (whole_line c.args.shortage.now.basin) (lines_of c.args.shortage.now c.args.part)
+    (places_in c.args.part c.args.shortage.now.basin) (g.K.Sink.taken c.args.sink.now) (g.K.Sink.faults c.args.sink.now)
 
 pub returns-in_err-put_line-clause-text : goal.returns-in_err-put_line-clause-text
 returns-in_err-put_line-clause-text g c =
+    let b = c.args.shortage.now.basin in
     SoFar-fails c.loop-place.place (g.K.Sink.taken c.put_line.new.sink) c.from_residual.result c.loop-place.invariant
-    (place_at (places_in c.args.part c.args.basin.now) (count_in c.args.part c.args.basin.now) c.loop-place.place
-    c.requires.places (omega (arith, c.count_in-count.ensures)))
+    (place_at (places_in c.args.part b) (count_in c.args.part b) c.loop-place.place c.requires
+    (omega (arith, c.count_in-count.ensures)))
     c.in_err-put_line.ensures.text c.from_residual.ensures.0
 
 pub loop-place-preserved : goal.loop-place-preserved
 loop-place-preserved g c =
+    let b = c.args.shortage.now.basin in
     SoFar-next c.loop-place.place c.loop-place.invariant
-    (place_at (places_in c.args.part c.args.basin.now) (count_in c.args.part c.args.basin.now) c.loop-place.place
-    c.requires.places (omega (arith, c.count_in-count.ensures)))
+    (place_at (places_in c.args.part b) (count_in c.args.part b) c.loop-place.place c.requires
+    (omega (arith, c.count_in-count.ensures)))
     c.in_ok-put_line.ensures.text c.in_ok-put_line.ensures.cause.later
 
 pub returns-clause-text : goal.returns-clause-text
 returns-clause-text g c =
+    let b = c.args.shortage.now.basin in
     SoFar-whole c.loop-place.invariant
-    (places_end (places_in c.args.part c.args.basin.now) (count_in c.args.part c.args.basin.now) c.loop-place.place
-    c.requires.places (omega (arith, c.count_in-count.ensures)))
+    (places_end (places_in c.args.part b) (count_in c.args.part b) c.loop-place.place c.requires
+    (omega (arith, c.count_in-count.ensures)))

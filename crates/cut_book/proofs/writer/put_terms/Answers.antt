@@ -1,16 +1,13 @@
 use Rattle.std.proofs.lemmas.Option.{slice_get-get_or}
-use Rattle.cut_cert.specs.Sets.{cut_at}
 use Rattle.water_edge.proofs.Puts.{SoFar-none, SoFar-next, SoFar-fails, SoFar-whole}
-use Rattle.cut_book.specs.Book.{lines_in}
 use Rattle.cut_book.specs.Entries.{whole_line}
+use Rattle.cut_book.specs.Shortages.{part_of}
 use Rattle.cut_book.specs.declared.part.TheConstants.{PARTS}
 use Rattle.cut_book.proofs.writer.put_terms.Goals as goal
 
 pub loop-part-init : goal.loop-part-init
 loop-part-init g c =
-    SoFar-none (whole_line c.args.basin.now)
-    (λ p. lines_in p c.args.basin.now c.args.month.now c.args.right (cut_at c.args.month.now.cuts c.args.right))
-    PARTS
+    SoFar-none (whole_line c.args.shortage.now.basin) (part_of c.args.shortage.now) PARTS
     (g.K.Sink.taken c.args.sink.now) (g.K.Sink.faults c.args.sink.now)
 
 pub returns-in_err-put_part-clause-text : goal.returns-in_err-put_part-clause-text

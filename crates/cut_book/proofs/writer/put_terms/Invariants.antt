@@ -1,11 +1,9 @@
-use Rattle.cut_cert.specs.Sets.{cut_at}
 use Rattle.water_edge.proofs.Puts.{SoFar}
-use Rattle.cut_book.specs.Book.{lines_in}
 use Rattle.cut_book.specs.Entries.{whole_line}
+use Rattle.cut_book.specs.Shortages.{part_of}
 use Rattle.cut_book.proofs.writer.put_terms.Given as goal
 
 abbrev pub invariant-loop-part : goal.invariant-loop-part
 invariant-loop-part g l =
-    SoFar (whole_line l.basin) (λ p. lines_in p l.basin l.month l.right (cut_at l.month.cuts l.right)) l.part-items
-    l.part-index
+    SoFar (whole_line l.shortage.basin) (part_of l.shortage) l.part-items l.part-index
     (g.K.Sink.taken l.fn.sink) (g.K.Sink.taken l.sink) (g.K.Sink.faults l.fn.sink) (g.K.Sink.faults l.sink)

@@ -1,0 +1,173 @@
+//! A right that is short in a month, and the terms of its account.
+ghost use Rattle.std.specs.Prelude.{◌≡◌, ◌∷◌, [], ◌<◌, filter, length, slice_index, IfSome};
+ghost use Rattle.std.specs.Option.{option_to_list};
+ghost use Rattle.water_model.specs.Places.{seniors_first};
+ghost use Rattle.cut_book.specs.Book.{count_in};
+ghost use Rattle.cut_book.specs.Entries.{IsOfBasin, amount_of, has_amount};
+ghost use Rattle.cut_book.specs.Shortages.{lines_of};
+
+use crate::entry::Entry;
+use crate::holder::holder_of;
+use crate::part::Part;
+use cut_cert::{enters, holds, is_on_link, is_senior_to, kept_on, leaves, takes_within};
+use rights_roll::roll::Roll;
+use std::marker::Model;
+use water_model::calls::carry_of;
+use water_model::types::{Basin, MonthRecord};
+
+/// A right of a basin that is short in a month, with the basin's roll and the month's record. The record has a set of
+/// this right.
+#[derive(Drop)]
+pub struct Shortage<'b> {
+    pub basin: &'b Basin,
+    pub roll: &'b Roll,
+    pub month: &'b MonthRecord,
+    pub right: u32,
+}
+
+impl<'b> Model for Shortage<'b> {
+    ghost use Rattle.cut_book.specs.Shortages.{ShortageSeen, IsShortage, shortage};
+
+    ghost Value = { ShortageSeen };
+
+    ghost view = { λ s. shortage s.basin.now s.roll.now s.month.now s.right };
+
+    ghost invariant = { λ s. IsShortage (shortage s.basin.now s.roll.now s.month.now s.right) };
+}
+
+/// A term as a line, which it is unless its amount is 0.
+fn unless_zero(entry: Entry, amount: u64) -> Option<Entry>
+    requires { amount_of entry ≡ amount }
+    ensures lines { option_to_list result ≡ filter has_amount (entry ∷ []) }
+    ensures same { IfSome result (λ line. line ≡ entry) }
+{
+    if amount == 0 { None } else { Some(entry) }
+}
+
+impl<'b> Shortage<'b> {
+    /// How many places a part goes over.
+    pub fn count_in(&self, part: Part) -> u32
+        ensures { result ≡ count_in part self.now.basin }
+    {
+        match part {
+            Part::Supplies => self.basin.nodes.len() as u32,
+            Part::Enters | Part::Keeps => self.basin.links.len() as u32,
+            Part::Takes => self.basin.rights.len() as u32,
+        }
+    }
+
+    /// The rights of the basin, seniors first.
+    pub fn by_seniority(&self) -> &[u32]
+        ensures { result.now ≡ seniors_first self.now.basin }
+    {
+        self.roll.by_seniority()
+    }
+
+    /// The line of a node's supply.
+    fn supply_at(&self, node: u32) -> Option<Entry>
+        requires { node < length self.now.basin.nodes }
+        ensures lines { option_to_list result ≡ lines_of self.now Part.Supplies node }
+        ensures named { IfSome result (IsOfBasin self.now.basin) }
+    {
+        if !holds(&self.month.cuts, self.right, node) {
+            return None;
+        }
+        let amount = self.month.supply[node as usize];
+        unless_zero(Entry::Supply { node, amount }, amount)
+    }
+
+    /// The line of a link that enters the set.
+    fn enter_at(&self, link: u32) -> Option<Entry>
+        requires { link < length self.now.basin.links }
+        ensures lines { option_to_list result ≡ lines_of self.now Part.Enters link }
+        ensures named { IfSome result (IsOfBasin self.now.basin) }
+    {
+        if !enters(self.basin, &self.month.cuts, self.right, link) {
+            return None;
+        }
+        let amount = carry_of(self.basin, link, self.month.month);
+        unless_zero(Entry::Enter { link, amount }, amount)
+    }
+
+    /// The line of a link that leaves the set, other than the right's own.
+    fn keep_at(&self, link: u32) -> Option<Entry>
+        requires { link < length self.now.basin.links }
+        ensures lines { option_to_list result ≡ lines_of self.now Part.Keeps link }
+        ensures named { IfSome result (IsOfBasin self.now.basin) }
+    {
+        if !leaves(self.basin, &self.month.cuts, self.right, link)
+            || is_on_link(self.basin, self.right, link)
+        {
+            return None;
+        }
+        let delivered = self.month.delivered.as_slice();
+        let amount = kept_on(self.basin, self.roll, delivered, self.right, link);
+        let holder = holder_of(self, link, amount)?;
+        unless_zero(
+            Entry::Keep {
+                link,
+                amount,
+                holder,
+            },
+            amount,
+        )
+    }
+
+    /// The line of a senior diversion or zone that takes in the set.
+    fn take_at(&self, taker: u32) -> Option<Entry>
+        requires { taker < length self.now.basin.rights }
+        ensures lines { option_to_list result ≡ lines_of self.now Part.Takes taker }
+        ensures named { IfSome result (IsOfBasin self.now.basin) }
+    {
+        if !takes_within(self.basin, &self.month.cuts, self.right, taker)
+            || !is_senior_to(self.basin, taker, self.right)
+        {
+            return None;
+        }
+        let amount = self.month.delivered[taker as usize];
+        unless_zero(
+            Entry::Take {
+                right: taker,
+                amount,
+            },
+            amount,
+        )
+    }
+
+    /// The line of a place of a part, if it has one.
+    pub fn line_at(&self, part: Part, place: u32) -> Option<Entry>
+        requires { place < count_in part self.now.basin }
+        ensures lines { option_to_list result ≡ lines_of self.now part place }
+        ensures named { IfSome result (IsOfBasin self.now.basin) }
+    {
+        match part {
+            Part::Supplies => self.supply_at(place),
+            Part::Enters => self.enter_at(place),
+            Part::Keeps => self.keep_at(place),
+            Part::Takes => self.take_at(place),
+        }
+    }
+
+    /// The first line of the right's book.
+    pub fn why(&self) -> Entry
+        ensures value { result ≡ Entry.Why self.now.month.month self.now.right
+            (slice_index self.now.month.delivered self.now.right) (slice_index self.now.month.want self.now.right) }
+        ensures named { IsOfBasin self.now.basin result }
+    {
+        Entry::Why {
+            month: self.month.month,
+            right: self.right,
+            amount: self.month.delivered[self.right as usize],
+            want: self.month.want[self.right as usize],
+        }
+    }
+
+    /// The last line of the right's book, where its set is tight: what the right got is what the terms sum to.
+    pub fn sum(&self) -> Entry
+        ensures { result ≡ Entry.Sum (slice_index self.now.month.delivered self.now.right) }
+    {
+        Entry::Sum {
+            amount: self.month.delivered[self.right as usize],
+        }
+    }
+}
