@@ -33,7 +33,8 @@ pub struct Document<'a> {
     ghost reservoirs_kept: { KeepsPlaces reservoirs (texts_of (table_view tree.now) Reservoirs) },
     ghost diversions_kept: { KeepsPlaces diversions (texts_of (table_view tree.now) Diversions) },
     ghost rights_kept: { KeepsPlaces rights (texts_of (table_view tree.now) Rights) },
-    ghost earlier_kept: { earlier.items ≡ earlier_from [] (texts_behind (codes "diversion") (items_at (table_view tree.now) Return)) },
+    ghost earlier_kept: { earlier.items
+        ≡ earlier_from [] (texts_behind (codes "diversion") (items_at (table_view tree.now) Return)) },
 }
 
 /// What a table lists.
@@ -178,7 +179,8 @@ impl<'a> Document<'a> {
 
     /// How many earlier return rows have the row's diversion, by the place of the row from 0.
     pub fn earlier_rows(&self, place: u64) -> u64
-        ensures { result ≡ earlier_like (texts_behind (codes "diversion") (items_at (tree_of self.now) BasinTable.Return)) place }
+        ensures { result
+            ≡ earlier_like (texts_behind (codes "diversion") (items_at (tree_of self.now) BasinTable.Return)) place }
     {
         self.earlier.get(place as usize).copied().unwrap_or(0)
     }
