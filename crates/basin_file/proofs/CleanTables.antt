@@ -12,7 +12,8 @@ use Rattle.std.specs.Option.{option_map_or}
 use Rattle.toml.specs.Data.{Data, string, table, Members, no_members, member, get, get_item, get_member, as_bool}
 use Rattle.toml.specs.View.{items_of}
 use Rattle.toml_tree.specs.Items.{items_len}
-use Rattle.toml_tree.specs.Texts.{texts_behind, is_the_text, first_from}
+use Rattle.first_places.specs.Places.{first_from}
+use Rattle.toml_tree.specs.Texts.{texts_behind, is_the_text}
 use Rattle.toml_tree.specs.Values.{text_at, whole_of}
 use Rattle.water_text.specs.Days.{is_date}
 use Rattle.water_model.specs.Basin.{is_outlet, node_name, link_name, reservoir_name, right_name}

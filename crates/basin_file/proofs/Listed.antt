@@ -8,7 +8,8 @@ use Rattle.std.proofs.lemmas.Option.{slice_get-map, slice_get_within}
 use Rattle.std.proofs.lemmas.Slice.Eq.{bytes_eq-Decides}
 use Rattle.toml.specs.Data.{Data, table, Items, no_items, Members, as_array}
 use Rattle.toml.specs.View.{items_of}
-use Rattle.toml_tree.specs.Texts.{texts_behind, is_the_text, first_from}
+use Rattle.first_places.specs.Places.{first_from}
+use Rattle.toml_tree.specs.Texts.{texts_behind, is_the_text}
 use Rattle.toml_tree.specs.Values.{text_at}
 use Rattle.water_model.specs.Lookups.{of_entry}
 use Rattle.water_model.specs.Valid.{AreRanked, is_diversion_kind, rank_of_kind}

@@ -10,7 +10,8 @@ use Rattle.std.proofs.lemmas.Slice.Eq.{bytes_eq-Decides}
 use Rattle.std.specs.Option.{option_map_or}
 use Rattle.toml.specs.Data.{Members}
 use Rattle.toml_tree.specs.Items.{items_len}
-use Rattle.toml_tree.specs.Texts.{is_the_text, first_from}
+use Rattle.first_places.specs.Places.{first_from}
+use Rattle.toml_tree.specs.Texts.{is_the_text}
 use Rattle.toml_tree.specs.Values.{text_at}
 use Rattle.water_text.specs.Names.{is_name}
 use Rattle.water_model.specs.Lookups.{of_entry}

@@ -8,7 +8,8 @@ use Rattle.std.specs.Option.{option_map_or}
 use Rattle.toml.specs.Data.{Data, Items, no_items, item, Members, get, get_item, get_member, as_str, as_table}
 use Rattle.toml.specs.Data as toml
 use Rattle.toml_tree.specs.Items.{items_all, items_len}
-use Rattle.toml_tree.specs.Texts.{texts_behind, is_the_text, first_from}
+use Rattle.first_places.specs.Places.{first_from}
+use Rattle.toml_tree.specs.Texts.{texts_behind, is_the_text}
 use Rattle.toml_tree.specs.Values.{text_at}
 use Rattle.water_text.specs.Names.{is_name}
 use Rattle.basin_tree.specs.declared.tables.BasinTable.{BasinTable}

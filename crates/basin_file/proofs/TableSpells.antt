@@ -5,7 +5,8 @@ use Rattle.std.specs.Prelude.{Option, Some, None, option_map, option_and_then, u
 use Rattle.std.proofs.lemmas.Bool.{cases_Bool, ltb-true, not-false}
 use Rattle.std.proofs.lemmas.Bool.Decides.{nat_tests}
 use Rattle.toml.specs.Data.{Data, string, array, Members, no_members, member, get_member, as_str}
-use Rattle.toml_tree.specs.Texts.{texts_behind, is_the_text, first_from}
+use Rattle.first_places.specs.Places.{first_from}
+use Rattle.toml_tree.specs.Texts.{texts_behind, is_the_text}
 use Rattle.toml_tree.specs.Values.{monthly_of, text_at, whole_at, whole_of}
 use Rattle.water_text.specs.Days.{is_date}
 use Rattle.water_text.specs.Names.{is_name}

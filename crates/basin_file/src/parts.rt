@@ -95,7 +95,8 @@ fn shut_at(row: &Table) -> [bool; 12]
 }
 
 fn carry_at(row: &Table) -> Carry
-    ensures { result ≡ carry_of (get_member (codes "per_day") (table_view row.now)) (get_member (codes "closed") (table_view row.now)) }
+    ensures { result ≡ carry_of (get_member (codes "per_day") (table_view row.now))
+        (get_member (codes "closed") (table_view row.now)) }
 {
     match member(row, "per_day") {
         Some(value) => Carry::Canal {

@@ -293,8 +293,10 @@ fn put_right(alloc: Global, row: &mut Table, right: &Right) -> Result<(), AllocE
     requires order { right.now.order ≤ 1000000 }
     requires want { IsMonthly (10 ^ 9) right.now.want }
     requires date { is_date right.now.date ≡ true }
-    ensures { OnOk result (table_view row.new ≡ with_member (codes "want") (want_data right.now) (with_member (codes "order") (number right.now.order)
-        (with_member (codes "name") (string right.now.name) (with_member (codes "date") (string (day_text right.now.date)) (table_view row.old))))) }
+    ensures { OnOk result (table_view row.new ≡ with_member (codes "want") (want_data right.now)
+        (with_member (codes "order") (number right.now.order)
+        (with_member (codes "name") (string right.now.name)
+        (with_member (codes "date") (string (day_text right.now.date)) (table_view row.old))))) }
 {
     put_date(alloc, row, "date", right.date)?;
     put_name(alloc, row, "name", right.name.bytes())?;
@@ -305,7 +307,8 @@ fn put_right(alloc: Global, row: &mut Table, right: &Right) -> Result<(), AllocE
 /// Adds the volume of a diversion, if it has one.
 fn put_volume(alloc: Global, row: &mut Table, volume: Option<u64>) -> Result<(), AllocError>
     requires { All (λ n. n ≤ 16000000000) (option_to_list volume) }
-    ensures { OnOk result (table_view row.new ≡ with_option (codes "volume") (option_map number volume) (table_view row.old)) }
+    ensures { OnOk result
+        (table_view row.new ≡ with_option (codes "volume") (option_map number volume) (table_view row.old)) }
 {
     match volume {
         Some(volume) => put_number(alloc, row, "volume", volume),
@@ -487,9 +490,12 @@ fn put_rights(
 /// Adds the keys of the whole table that come last in its order.
 fn put_last(alloc: Global, top: &mut Table, basin: &Basin) -> Result<(), AllocError>
     requires { IsValidBasin basin.now }
-    ensures { OnOk result (table_view top.new ≡ with_option (codes "reservoir") (listed (reservoir_row basin.now) basin.now.reservoirs)
-        (with_option (codes "return") (listed (return_row basin.now) basin.now.returns) (with_member (codes "year_start") (number basin.now.year_start)
-        (with_option (codes "zone") (listed (right_row basin.now) (rights_in BasinTable.Zone basin.now.rights)) (table_view top.old))))) }
+    ensures { OnOk result
+        (table_view top.new ≡ with_option (codes "reservoir") (listed (reservoir_row basin.now) basin.now.reservoirs)
+        (with_option (codes "return") (listed (return_row basin.now) basin.now.returns)
+        (with_member (codes "year_start") (number basin.now.year_start)
+        (with_option (codes "zone") (listed (right_row basin.now) (rights_in BasinTable.Zone basin.now.rights))
+        (table_view top.old))))) }
 {
     put_rights(alloc, top, "zone", basin, BasinTable::Zone)?;
     put_number(alloc, top, "year_start", u64::from(basin.year_start))?;

@@ -196,7 +196,8 @@ right_dated size s =
     (λ h. ap not (new_year 1940 (omega arith) (omega arith)))))
 
 -- which right a place has
-pub first_right : (size : ℕ) (s : States) (i : ℕ) → i < diversion_count size → right_made size s i ≡ diversion_made size s i
+pub first_right : (size : ℕ) (s : States) (i : ℕ) → i < diversion_count size →
+    right_made size s i ≡ diversion_made size s i
 first_right size s i l = joined_left (diversion_count size) (diversion_made size s) (other_made size s) i l
 
 next_right : (size : ℕ) (s : States) (i : ℕ) → diversion_count size ≤ i →

@@ -40,7 +40,8 @@ fn rights(alloc: Global, size: u32, draws: &mut Draws) -> Result<Roll, AllocErro
     requires some { 2 ≤ size }
     requires size { size ≤ 2000 }
     ensures rights { IfOk result (λ made. made.rights.items ≡ diversions_of size draws.old.state
-        ++ (instreams_of size draws.old.state ++ zones_of size (later draws.old.state (draws_of_turns (count_of_turns size))))) }
+        ++ (instreams_of size draws.old.state
+        ++ zones_of size (later draws.old.state (draws_of_turns (count_of_turns size))))) }
     ensures returns { IfOk result (λ made. made.returns.items ≡ returns_of size draws.old.state) }
 {
     let Made {

@@ -3,9 +3,7 @@
 #![tactic(auto)]
 
 mod nodes;
-mod places;
 mod rights;
 
 pub use nodes::NodeNames;
-pub use places::add_place;
 pub use rights::RightNames;

@@ -4,7 +4,7 @@ ghost use Rattle.water_model.specs.Valid.{IsValidBasin};
 ghost use Rattle.basin_names.specs.Named.{right_named};
 ghost use Rattle.basin_names.specs.Places.{HasRightPlaces};
 
-use crate::places::add_place;
+use first_places::add_place;
 use indexmap::IndexMap;
 use std::alloc::{AllocError, Global};
 use water_model::types::{Basin, Right};

@@ -3,8 +3,10 @@ use Rattle.std.proofs.Common.{◌≡◌, ℕ, ◌+◌, List, ◌++◌, length, B
 use Rattle.std.specs.Option.{option_or}
 use Rattle.toml.specs.View.{items_view}
 use Rattle.toml.specs.declared.value.Value.{Value}
-use Rattle.toml_tree.specs.Texts.{texts_behind, first_from}
-use Rattle.toml_tree.proofs.PlaceLaws.{first_from-append, texts_len}
+use Rattle.first_places.specs.Places.{first_from}
+use Rattle.first_places.proofs.First.{first_from-append}
+use Rattle.toml_tree.specs.Texts.{texts_behind}
+use Rattle.toml_tree.proofs.PlaceLaws.{texts_len}
 
 pub in_three : (p : Option (List ℕ) → Bool) (key : List ℕ) (xs ys zs : List Value) (k0 k1 k2 : Option ℕ)
     → k0 ≡ first_from p 0 (texts_behind key (items_view xs)) →

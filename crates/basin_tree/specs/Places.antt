@@ -1,7 +1,8 @@
 -- Which entry a text names.
 use Rattle.std.specs.Prelude.{ℕ, List, ◌++◌, codes, Option}
 use Rattle.toml.specs.Data.{Members}
-use Rattle.toml_tree.specs.Texts.{texts_behind, is_the_text, first_from}
+use Rattle.first_places.specs.Places.{first_from}
+use Rattle.toml_tree.specs.Texts.{texts_behind, is_the_text}
 use Rattle.basin_tree.specs.declared.tables.BasinTable.{BasinTable}
 use Rattle.basin_tree.specs.declared.tables.BasinTable.TheVariants.{Node, Link, Reservoir, Diversion, Instream, Zone}
 use Rattle.basin_tree.specs.declared.tables.Space.{Space}

@@ -1,6 +1,7 @@
 //! A document, and where the entries stand that its names name.
 ghost use Rattle.std.specs.Prelude.{◌≡◌, [], codes, IfOk, option_map, if◌then◌else◌};
 ghost use Rattle.toml.specs.View.{table_view, items_view};
+ghost use Rattle.first_places.specs.Places.{place_at};
 ghost use Rattle.toml_tree.specs.FirstPlaces.{KeepsPlaces, earlier_from};
 ghost use Rattle.toml_tree.specs.Texts.{texts_behind, earlier_like};
 ghost use Rattle.basin_tree.specs.Entries.{items_at};
@@ -21,18 +22,19 @@ use toml_tree::values::{items_of, member, whole_at};
 #[derive(Drop)]
 pub struct Document<'a> {
     pub tree: &'a Table,
-    nodes: IndexMap<&'a str, u64>,
-    links: IndexMap<&'a str, u64>,
-    reservoirs: IndexMap<&'a str, u64>,
-    diversions: IndexMap<&'a str, u64>,
-    rights: IndexMap<&'a str, u64>,
+    nodes: IndexMap<&'a [u8], u64>,
+    links: IndexMap<&'a [u8], u64>,
+    reservoirs: IndexMap<&'a [u8], u64>,
+    diversions: IndexMap<&'a [u8], u64>,
+    rights: IndexMap<&'a [u8], u64>,
     earlier: Vec<u64>,
     ghost nodes_kept: { KeepsPlaces nodes (texts_of (table_view tree.now) Nodes) },
     ghost links_kept: { KeepsPlaces links (texts_of (table_view tree.now) Links) },
     ghost reservoirs_kept: { KeepsPlaces reservoirs (texts_of (table_view tree.now) Reservoirs) },
     ghost diversions_kept: { KeepsPlaces diversions (texts_of (table_view tree.now) Diversions) },
     ghost rights_kept: { KeepsPlaces rights (texts_of (table_view tree.now) Rights) },
-    ghost earlier_kept: { earlier.items ≡ earlier_from [] (texts_behind (codes "diversion") (items_at (table_view tree.now) Return)) },
+    ghost earlier_kept: { earlier.items
+        ≡ earlier_from [] (texts_behind (codes "diversion") (items_at (table_view tree.now) Return)) },
 }
 
 /// What a table lists.
@@ -62,13 +64,13 @@ fn table_places<'a>(
     alloc: Global,
     tree: &'a Table,
     table: BasinTable,
-) -> Result<IndexMap<&'a str, u64>, AllocError>
+) -> Result<IndexMap<&'a [u8], u64>, AllocError>
     ensures { IfOk result (λ places. KeepsPlaces places (texts_in (table_view tree.now) table)) }
 {
     places_of(alloc, listed_at(tree, table), own_key(table))
 }
 
-fn right_places<'a>(alloc: Global, tree: &'a Table) -> Result<IndexMap<&'a str, u64>, AllocError>
+fn right_places<'a>(alloc: Global, tree: &'a Table) -> Result<IndexMap<&'a [u8], u64>, AllocError>
     ensures { IfOk result (λ places. KeepsPlaces places (texts_of (table_view tree.now) Space.Rights)) }
 {
     let diversions = listed_at(tree, BasinTable::Diversion);
@@ -89,7 +91,7 @@ fn right_places<'a>(alloc: Global, tree: &'a Table) -> Result<IndexMap<&'a str, 
 fn network_places<'a>(
     alloc: Global,
     tree: &'a Table,
-) -> Result<(IndexMap<&'a str, u64>, IndexMap<&'a str, u64>), AllocError>
+) -> Result<(IndexMap<&'a [u8], u64>, IndexMap<&'a [u8], u64>), AllocError>
     ensures { IfOk result (λ places. KeepsPlaces places.0 (texts_in (table_view tree.now) BasinTable.Node)
         × KeepsPlaces places.1 (texts_in (table_view tree.now) BasinTable.Link)) }
 {
@@ -104,9 +106,9 @@ fn use_places<'a>(
     tree: &'a Table,
 ) -> Result<
     (
-        IndexMap<&'a str, u64>,
-        IndexMap<&'a str, u64>,
-        IndexMap<&'a str, u64>,
+        IndexMap<&'a [u8], u64>,
+        IndexMap<&'a [u8], u64>,
+        IndexMap<&'a [u8], u64>,
     ),
     AllocError,
 >
@@ -118,6 +120,12 @@ fn use_places<'a>(
     let diversions = table_places(alloc, tree, BasinTable::Diversion)?;
     let rights = right_places(alloc, tree)?;
     Ok((reservoirs, diversions, rights))
+}
+
+fn place_of(places: &IndexMap<&[u8], u64>, name: &str) -> Option<u64>
+    ensures { result ≡ place_at places.now name.now }
+{
+    places.get(&name.as_bytes()).copied()
 }
 
 impl<'a> Document<'a> {
@@ -161,17 +169,18 @@ impl<'a> Document<'a> {
         ensures { result ≡ named_at (tree_of self.now) space name.now }
     {
         match space {
-            Space::Nodes => self.nodes.get(name).copied(),
-            Space::Links => self.links.get(name).copied(),
-            Space::Reservoirs => self.reservoirs.get(name).copied(),
-            Space::Diversions => self.diversions.get(name).copied(),
-            Space::Rights => self.rights.get(name).copied(),
+            Space::Nodes => place_of(&self.nodes, name),
+            Space::Links => place_of(&self.links, name),
+            Space::Reservoirs => place_of(&self.reservoirs, name),
+            Space::Diversions => place_of(&self.diversions, name),
+            Space::Rights => place_of(&self.rights, name),
         }
     }
 
     /// How many earlier return rows have the row's diversion, by the place of the row from 0.
     pub fn earlier_rows(&self, place: u64) -> u64
-        ensures { result ≡ earlier_like (texts_behind (codes "diversion") (items_at (tree_of self.now) BasinTable.Return)) place }
+        ensures { result
+            ≡ earlier_like (texts_behind (codes "diversion") (items_at (tree_of self.now) BasinTable.Return)) place }
     {
         self.earlier.get(place as usize).copied().unwrap_or(0)
     }

@@ -48,8 +48,25 @@ const RIVER: (&str, &str) = (
 
 /// Rights of all kinds, short in some months, in all and in none.
 const BASIN: (&str, &str) = (
-    "report 1950-10 60\nright z0a 0 14940 14940 -\nright z1a 0 9300 9300 -\nright d0 60 13800 2355 1951-04\nright d1 60 5880 3410 1951-02\nright s3 0 16740 16740 -\nright d2 60 17820 0 1950-10\nright z0b 0 12840 12840 -\nright z1b 34 5700 4631 1952-01\nbalance 554 131165 1030 713 2405 5765 123866\ndone 60\n",
-    "trial 7 85\nsize 85 105 8 60\nwanted 97020\ndelivered 64216\nshort 214\ncalled 60\nbalance 554 131165 1030 713 2405 5765 123866\ndone 60\n",
+    "report 1950-10 60\n\
+     right z0a 0 14940 14940 -\n\
+     right z1a 0 9300 9300 -\n\
+     right d0 60 13800 2355 1951-04\n\
+     right d1 60 5880 3410 1951-02\n\
+     right s3 0 16740 16740 -\n\
+     right d2 60 17820 0 1950-10\n\
+     right z0b 0 12840 12840 -\n\
+     right z1b 34 5700 4631 1952-01\n\
+     balance 554 131165 1030 713 2405 5765 123866\n\
+     done 60\n",
+    "trial 7 85\n\
+     size 85 105 8 60\n\
+     wanted 97020\n\
+     delivered 64216\n\
+     short 214\n\
+     called 60\n\
+     balance 554 131165 1030 713 2405 5765 123866\n\
+     done 60\n",
 );
 
 #[test]

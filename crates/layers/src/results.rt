@@ -17,8 +17,11 @@ const JANUARY: Month = Month {
 };
 
 /// A spring above an outlet, and a river between them.
-const BASIN: &str =
-    "format = 1\nfirst_month = \"1900-01\"\nmonths = 1\n[[node]]\nname = \"top\"\ninflow = 60\n[[node]]\nname = \"sea\"\noutlet = true\n[[link]]\nname = \"a\"\nfrom = \"top\"\nto = \"sea\"\n";
+const BASIN: &str = "\
+    format = 1\nfirst_month = \"1900-01\"\nmonths = 1\n\
+    [[node]]\nname = \"top\"\ninflow = 60\n\
+    [[node]]\nname = \"sea\"\noutlet = true\n\
+    [[link]]\nname = \"a\"\nfrom = \"top\"\nto = \"sea\"\n";
 
 /// The lines that a reader of the basin's text is given one after the other, with the answer to each.
 const LINES: &[(&str, Result<Item, BadLine>)] = &[
@@ -33,7 +36,8 @@ const LINES: &[(&str, Result<Item, BadLine>)] = &[
         }),
     ),
     (
-        "xxxxxxxxxxxxxxxxxxxxxxxxxxxxxxxxxxxxxxxxxxxxxxxxxxxxxxxxxxxxxxxxxxxxxxxxxxxxxxxxxxxxxxxxxxxxxxxxxxxxxxxxxxxxxxxxxxxxxxxxxxxxxxxxx",
+        "xxxxxxxxxxxxxxxxxxxxxxxxxxxxxxxxxxxxxxxxxxxxxxxxxxxxxxxxxxxxxxxxxxxxxxxxxxxxxxxxxxxxxxxxxxxxxxxxxx\
+         xxxxxxxxxxxxxxxxxxxxxxxxxxxxxxx",
         Err(BadLine::OverLong),
     ),
     ("months 1900-01", Err(BadLine::UnknownWord)),

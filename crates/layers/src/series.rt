@@ -9,8 +9,13 @@ use water_model::types::{Basin, Inflows};
 use water_text::month::Month;
 
 /// Two months. The nodes `top` and `hill` are gauged, and `mouth` isn't.
-const BASIN: &str =
-    "format = 1\nfirst_month = \"1900-01\"\nmonths = 2\n[[node]]\nname = \"top\"\ninflow = \"gauged\"\n[[node]]\nname = \"mouth\"\noutlet = true\n[[node]]\nname = \"hill\"\ninflow = \"gauged\"\n[[link]]\nname = \"a\"\nfrom = \"top\"\nto = \"mouth\"\n[[link]]\nname = \"b\"\nfrom = \"hill\"\nto = \"mouth\"\n";
+const BASIN: &str = "\
+    format = 1\nfirst_month = \"1900-01\"\nmonths = 2\n\
+    [[node]]\nname = \"top\"\ninflow = \"gauged\"\n\
+    [[node]]\nname = \"mouth\"\noutlet = true\n\
+    [[node]]\nname = \"hill\"\ninflow = \"gauged\"\n\
+    [[link]]\nname = \"a\"\nfrom = \"top\"\nto = \"mouth\"\n\
+    [[link]]\nname = \"b\"\nfrom = \"hill\"\nto = \"mouth\"\n";
 
 const JANUARY: Month = Month {
     year: 1900,
@@ -149,15 +154,35 @@ static SPELLED: [(&[u8], [u64; 4]); 5] = [
         [1, 2, 3, 4],
     ),
     (
-        b"month,node,amount\r1900-02,hill,0\r\r1900-01,hill,1000000000\r1900-02,top,007\r1900-01,top,0000000000000000001",
+        b"month,node,amount\r\
+          1900-02,hill,0\r\
+          \r\
+          1900-01,hill,1000000000\r\
+          1900-02,top,007\r\
+          1900-01,top,0000000000000000001",
         [1, 1_000_000_000, 7, 0],
     ),
     (
-        b"\"month\",\"node\",\"amount\"\n\"1900-01\",\"top\",\"1\"\n1900-01,\"hill\",2\n1900-02,top,\"3\"\n\n\n1900-02,hill,4",
+        b"\"month\",\"node\",\"amount\"\n\
+          \"1900-01\",\"top\",\"1\"\n\
+          1900-01,\"hill\",2\n\
+          1900-02,top,\"3\"\n\
+          \n\
+          \n\
+          1900-02,hill,4",
         [1, 2, 3, 4],
     ),
     (
-        b"month,node,amount\n1899-12,top,9\n1899-12,top,9\n1900-01,top,1\n1900-01,hill,2\n2999-12,hill,9\n1900-03,top,9\n1900-02,top,3\n1900-02,hill,4\n1900-03,top,9\n",
+        b"month,node,amount\n\
+          1899-12,top,9\n\
+          1899-12,top,9\n\
+          1900-01,top,1\n\
+          1900-01,hill,2\n\
+          2999-12,hill,9\n\
+          1900-03,top,9\n\
+          1900-02,top,3\n\
+          1900-02,hill,4\n\
+          1900-03,top,9\n",
         [1, 2, 3, 4],
     ),
 ];

@@ -71,11 +71,15 @@ const CHANGES: [(&str, &str); 14] = [
     // A junior diversion before the others of its kind, between them and behind them.
     (
         "[[diversion]]\nname = \"canalco\"",
-        "[[diversion]]\nname = \"new\"\nnode = \"weir\"\ndate = \"1999-01-01\"\nwant = 900\n\n[[diversion]]\nname = \"canalco\"",
+        "[[diversion]]\nname = \"new\"\nnode = \"weir\"\ndate = \"1999-01-01\"\nwant = 900\n\
+         \n\
+         [[diversion]]\nname = \"canalco\"",
     ),
     (
         "[[diversion]]\nname = \"city\"",
-        "[[diversion]]\nname = \"new\"\nnode = \"upper\"\ndate = \"1999-01-01\"\nwant = 900\n\n[[diversion]]\nname = \"city\"",
+        "[[diversion]]\nname = \"new\"\nnode = \"upper\"\ndate = \"1999-01-01\"\nwant = 900\n\
+         \n\
+         [[diversion]]\nname = \"city\"",
     ),
     (
         "[[instream]]",
@@ -215,8 +219,11 @@ fn junior_rights_injure_nobody(rt: HostRuntime) -> Result<(), Fail> {
 
 const FAULTY: &str = "format = 1\nfirst_month = \"1900-01\"\nmonths = 1\n[[node]]\ncolour = 1\n";
 
-const TWO_GAUGES: &str =
-    "format = 1\nfirst_month = \"1900-01\"\nmonths = 2\n[[node]]\nname = \"top\"\ninflow = \"gauged\"\n[[node]]\nname = \"mouth\"\noutlet = true\ninflow = \"gauged\"\n[[link]]\nname = \"a\"\nfrom = \"top\"\nto = \"mouth\"\n";
+const TWO_GAUGES: &str = "\
+    format = 1\nfirst_month = \"1900-01\"\nmonths = 2\n\
+    [[node]]\nname = \"top\"\ninflow = \"gauged\"\n\
+    [[node]]\nname = \"mouth\"\noutlet = true\ninflow = \"gauged\"\n\
+    [[link]]\nname = \"a\"\nfrom = \"top\"\nto = \"mouth\"\n";
 
 const TOP_ALONE: &str = "month,node,amount\n1900-01,top,7\n1900-02,top,8\n";
 

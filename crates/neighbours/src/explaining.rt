@@ -7,8 +7,14 @@ use stage::{expect, files};
 use std::alloc::Global;
 use std::test::Fail;
 
-const LIVE_BOOK: &str =
-    "why 1960-07 live 4460 9000\nsupply upper 2500\nsupply lake 7560\nkeep r5 1500 fish\ntake dead 1000\ntake canalco 3100\nsum 4460\n";
+const LIVE_BOOK: &str = "\
+    why 1960-07 live 4460 9000\n\
+    supply upper 2500\n\
+    supply lake 7560\n\
+    keep r5 1500 fish\n\
+    take dead 1000\n\
+    take canalco 3100\n\
+    sum 4460\n";
 
 /// Months and rights of the ordinary basin, and what is told of them: a zone, a diversion whose reach only a canal
 /// enters, one that gets nothing, the last month, and a right that is met.
@@ -24,13 +30,27 @@ const ORDINARY_BOOKS: [(&str, &str, Status, &str); 6] = [
         "1960-07",
         "city",
         Status::Done,
-        "why 1960-07 city 0 400\nsupply upper 2500\nsupply lake 7560\nkeep r5 1500 fish\ntake dead 1000\ntake canalco 3100\ntake live 4460\nsum 0\n",
+        "why 1960-07 city 0 400\n\
+         supply upper 2500\n\
+         supply lake 7560\n\
+         keep r5 1500 fish\n\
+         take dead 1000\n\
+         take canalco 3100\n\
+         take live 4460\n\
+         sum 0\n",
     ),
     (
         "1960-08",
         "live",
         Status::Done,
-        "why 1960-08 live 1562 9000\nsupply upper 1200\nsupply lake 5187\nsupply gauge 775\nkeep r5 1500 fish\ntake dead 1000\ntake canalco 3100\nsum 1562\n",
+        "why 1960-08 live 1562 9000\n\
+         supply upper 1200\n\
+         supply lake 5187\n\
+         supply gauge 775\n\
+         keep r5 1500 fish\n\
+         take dead 1000\n\
+         take canalco 3100\n\
+         sum 1562\n",
     ),
     ("1960-07", "fish", Status::No, "met 1960-07 fish\n"),
     ("1960-08", "dead", Status::No, "met 1960-08 dead\n"),

@@ -202,8 +202,18 @@ date = "1910-01-01"
 want = 1000
 "#;
 
-const STORING_TEXT: &str =
-    "ensemble 1900-01 2\nright city\nyearly 44 1\nyearly 104 1\nyearly 120 2\nright pool\nyearly 16 1\nyearly 360 1\nyearly 390 1\nyearly 630 1\ndone 2\n";
+const STORING_TEXT: &str = "\
+    ensemble 1900-01 2\n\
+    right city\n\
+    yearly 44 1\n\
+    yearly 104 1\n\
+    yearly 120 2\n\
+    right pool\n\
+    yearly 16 1\n\
+    yearly 360 1\n\
+    yearly 390 1\n\
+    yearly 630 1\n\
+    done 2\n";
 
 #[test]
 fn carries_storage_from_year_to_year(rt: HostRuntime) -> Result<(), Fail> {

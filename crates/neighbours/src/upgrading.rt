@@ -139,8 +139,17 @@ part = 1000
 lag = 2
 "#;
 
-const EVERY_SERIES: &str =
-    "month,kind,name,amount\n1900-01,inflow,lake,20\n1900-02,inflow,lake,30\n1900-03,inflow,lake,5\n1900-01,want,farm,10\n1900-02,want,farm,40\n1900-03,want,farm,9\n1900-01,want,trout,6\n1900-02,want,trout,0\n1900-03,want,trout,7\n";
+const EVERY_SERIES: &str = "\
+    month,kind,name,amount\n\
+    1900-01,inflow,lake,20\n\
+    1900-02,inflow,lake,30\n\
+    1900-03,inflow,lake,5\n\
+    1900-01,want,farm,10\n\
+    1900-02,want,farm,40\n\
+    1900-03,want,farm,9\n\
+    1900-01,want,trout,6\n\
+    1900-02,want,trout,0\n\
+    1900-03,want,trout,7\n";
 
 /// Each key and its value come through: a run of what is written writes what a run of the file does.
 #[test]

@@ -10,6 +10,7 @@ use Rattle.std.specs.Borrow.{Bor}
 use Rattle.std.specs.Str.{bytes_eq}
 use Rattle.std.specs.Option.{option_or}
 use Rattle.indexmap.specs.IndexMap.{IndexMap}
+use Rattle.first_places.specs.Places.{place_at}
 use Rattle.water_text.specs.Names.{is_name}
 use Rattle.water_model.proofs.Balance.{entry_at}
 use Rattle.water_model.proofs.Lists.{all_at, numbers_more}
@@ -22,7 +23,6 @@ use Rattle.water_model.specs.Entries.{count_in, name_in}
 use Rattle.water_model.specs.declared.space.Space.{Space}
 use Rattle.water_model.specs.declared.space.Space.TheVariants as space
 use Rattle.result_reader.specs.Names.{named}
-use Rattle.basin_names.specs.Places.{place_at}
 
 -- the first of some places that passes a test, and of one place more
 pub found-more : (p : ℕ → Bool) (i : ℕ) (before after : Option ℕ) → before ≡ find p (numbers_from 0 i) →

@@ -1,7 +1,7 @@
 -- What the lines of a month tell.
-use Rattle.std.proofs.Common.{◌≡◌, ℕ, zero, suc, ◌<◌, Bool, true, false, refl, sym, ap, ◌∙◌, arith, inl, inr, List, []}
+use Rattle.std.proofs.Common.{◌≡◌, ℕ, suc, ◌<◌, Bool, true, false, refl, sym, ap, ◌∙◌, arith, inl, inr, List, []}
 use Rattle.std.proofs.Common.{◌∷◌, ◌++◌, length, map, fold, replicate, append_assoc, length-append}
-use Rattle.std.specs.Prelude.{Option, Some, None, option_map, ◌⊎◌, slice_index, slice_set}
+use Rattle.std.specs.Prelude.{Some, option_map, ◌⊎◌, slice_index, slice_set}
 use Rattle.std.proofs.Math.ListN.{length-set}
 use Rattle.std.proofs.lemmas.Bool.{cases_eq}
 use Rattle.std.proofs.lemmas.List.{get_or-set_other}
@@ -13,7 +13,6 @@ use Rattle.water_model.specs.Places.{members_from}
 use Rattle.water_model.specs.Text.{call_items}
 use Rattle.result_reader.specs.Telling.{Told, tell, with_member}
 use Rattle.water_model.specs.CutSets.{set_of, with_set}
-use Rattle.water_model.specs.Lookups.{of_entry}
 use Rattle.water_model.specs.declared.item.Item.TheVariants as line
 use Rattle.water_model.proofs.Order.{Has}
 use Rattle.water_model.proofs.SetEntries.{entry_set, set_entry, set_twice}

@@ -2,7 +2,7 @@
 use Rattle.std.specs.Prelude.{◌≡◌, ℕ, List}
 use Rattle.std.specs.Borrow.{Bor}
 use Rattle.indexmap.specs.IndexMap.{IndexMap}
-use Rattle.basin_names.specs.Places.{place_at}
+use Rattle.first_places.specs.Places.{place_at}
 use Rattle.water_model.specs.declared.space.Space.{Space}
 use Rattle.water_model.specs.declared.types.Basin.{Basin}
 use Rattle.result_reader.specs.Names.{named}

@@ -8,7 +8,7 @@ ghost use Rattle.water_model.specs.declared.space.Space.TheVariants.{Nodes, Link
 ghost use Rattle.result_reader.specs.Names.{named};
 ghost use Rattle.result_reader.specs.NamePlaces.{KeepsNames};
 
-use basin_names::add_place;
+use first_places::add_place;
 use indexmap::IndexMap;
 use std::alloc::{AllocError, Global};
 use water_model::space::{Space, count_in};

@@ -1,6 +1,6 @@
 -- The lines of a right's set.
-use Rattle.std.proofs.Common.{◌≡◌, ℕ, zero, suc, ◌+◌, ◌-◌, ◌<◌, ◌≤◌, Bool, true, false, List, [], ◌∷◌, length, refl, sym, ap}
-use Rattle.std.proofs.Common.{◌∙◌, arith, map, Option, Some, ◌&&◌, subst}
+use Rattle.std.proofs.Common.{◌≡◌, ℕ, zero, suc, ◌+◌, ◌-◌, ◌<◌, ◌≤◌, Bool, true, false, List, [], ◌∷◌, length, refl}
+use Rattle.std.proofs.Common.{sym, ap, ◌∙◌, arith, map, Option, Some, ◌&&◌, subst}
 use Rattle.std.specs.Prelude.{if◌then◌else◌}
 use Rattle.std.specs.List.{flat_map}
 use Rattle.std.specs.Io.KnownBytes.{Appends}
@@ -81,7 +81,8 @@ skip b words nodes from (suc count) {old} {now} {before} {after} s l h =
     (skip b words nodes from count s (omega (arith, l)) (λ n above below. h n above (omega (arith, below))))
     (numbers_from-get 0 nodes (from + count) (from + count) (omega (arith, l)) (omega arith))
     (subst (λ (items : List Item). Appends now now (flat_map (whole_line b) items))
-    (sym (unmarked words (from + count) (h (from + count) (omega arith) (omega arith)))) (Appends-nil now)) (omega arith))
+    (sym (unmarked words (from + count) (h (from + count) (omega arith) (omega arith)))) (Appends-nil now))
+    (omega arith))
 
 -- all lines in front of the next node that is marked
 pub SoFar-at : (b : Basin) (words : List ℕ) (nodes from node : ℕ) {old now : Option (List ℕ)} {before after : ℕ} →

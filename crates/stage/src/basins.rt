@@ -1,12 +1,20 @@
 //! Basins that both crates of tests try, with the whole texts of runs, worked out by hand.
 
 /// A spring of 80 that runs by way of another node to the mouth.
-pub const RIVER: &str =
-    "format = 1\nfirst_month = \"1900-01\"\nmonths = 1\n[[node]]\nname = \"top\"\ninflow = 80\n[[node]]\nname = \"mid\"\n[[node]]\nname = \"mouth\"\noutlet = true\n[[link]]\nname = \"a\"\nfrom = \"top\"\nto = \"mid\"\n[[link]]\nname = \"b\"\nfrom = \"mid\"\nto = \"mouth\"\n";
+pub const RIVER: &str = "\
+    format = 1\nfirst_month = \"1900-01\"\nmonths = 1\n\
+    [[node]]\nname = \"top\"\ninflow = 80\n\
+    [[node]]\nname = \"mid\"\n\
+    [[node]]\nname = \"mouth\"\noutlet = true\n\
+    [[link]]\nname = \"a\"\nfrom = \"top\"\nto = \"mid\"\n\
+    [[link]]\nname = \"b\"\nfrom = \"mid\"\nto = \"mouth\"\n";
 
 /// A gauge at the head of one river.
-pub const GAUGED: &str =
-    "format = 1\nfirst_month = \"1900-01\"\nmonths = 2\n[[node]]\nname = \"top\"\ninflow = \"gauged\"\n[[node]]\nname = \"mouth\"\noutlet = true\n[[link]]\nname = \"a\"\nfrom = \"top\"\nto = \"mouth\"\n";
+pub const GAUGED: &str = "\
+    format = 1\nfirst_month = \"1900-01\"\nmonths = 2\n\
+    [[node]]\nname = \"top\"\ninflow = \"gauged\"\n\
+    [[node]]\nname = \"mouth\"\noutlet = true\n\
+    [[link]]\nname = \"a\"\nfrom = \"top\"\nto = \"mouth\"\n";
 
 /// The junior gets what the senior leaves.
 pub const JUNIOR_SHORT: (&str, &str) = (

@@ -1,62 +1,30 @@
 -- The first places of texts, kept in a map.
 use Rattle.std.proofs.Common.{◌≡◌, ℕ, ◌+◌, ◌<◌, ◌≤◌, suc, List, [], ◌∷◌, ◌++◌, length, map, take, drop, get_or}
-use Rattle.std.proofs.Common.{slice_get, slice_index, Bool, false, Option, Some, None, is_some, if◌then◌else◌}
-use Rattle.std.proofs.Common.{refl, sym, ap, ◌∙◌, inl, inr, arith, add-zero, count_by, option_map, option_and_then}
+use Rattle.std.proofs.Common.{slice_get, slice_index, Option, Some, None, if◌then◌else◌}
+use Rattle.std.proofs.Common.{refl, sym, ap, ◌∙◌, inl, inr, arith, count_by, option_map, option_and_then}
 use Rattle.std.proofs.Common.{IfSome, MatchOption, zero, append_assoc}
-use Rattle.std.proofs.lemmas.List.{drop_all, append-nil, take_more, length-take}
-use Rattle.std.proofs.lemmas.Option.{slice_get-map, slice_get_read, slice_get_within, get_or_from_slice_get}
-use Rattle.std.proofs.lemmas.Bool.{cases_Bool, false≢true}
+use Rattle.std.proofs.lemmas.List.{drop_all, append-nil}
+use Rattle.std.proofs.lemmas.Option.{slice_get-map, slice_get_read}
+use Rattle.std.proofs.lemmas.Bool.{cases_Bool}
 use Rattle.std.proofs.lemmas.Slice.Eq.{bytes_eq-Decides}
 use Rattle.std.proofs.lemmas.Map.Text.{hash_map_updates_str}
 use Rattle.std.specs.Borrow.{Bor}
 use Rattle.std.specs.Str.{bytes_eq}
 use Rattle.std.specs.List.{HoldsAt}
 use Rattle.std.specs.Option.{option_or, option_map_or}
-use Rattle.indexmap.specs.IndexMap.{IndexMap, get_by, UpdatesBy, IsUnchanged}
+use Rattle.indexmap.specs.IndexMap.{IndexMap, UpdatesBy, IsUnchanged}
 use Rattle.toml.specs.Data.{get_item, get, as_str}
 use Rattle.toml.specs.declared.value.Value.{Value}
 use Rattle.toml.specs.View.{view, items_view}
-use Rattle.toml_tree.specs.Texts.{earlier_like, texts_behind, is_the_text, first_from}
-use Rattle.toml_tree.specs.FirstPlaces.{kept_at, counted, earlier_from, AddsPlaces, AddsFront}
-
-pub bytes_eq-sym : (xs ys : List ℕ) → bytes_eq xs ys ≡ bytes_eq ys xs
-bytes_eq-sym xs ys =
-    elim (cases_Bool (bytes_eq xs ys)) [
-      | inl same ↦ same ∙ sym ((bytes_eq-Decides ys xs).1 (sym ((bytes_eq-Decides xs ys).0 same)))
-      | inr other ↦ elim (cases_Bool (bytes_eq ys xs)) [
-        | inl same ↦
-            absurd (false≢true (sym other ∙ (bytes_eq-Decides xs ys).1 (sym ((bytes_eq-Decides ys xs).0 same))))
-        | inr same ↦ other ∙ sym same
-      ]
-    ]
-
-none_there : (r : Option ℕ) → is_some r ≡ false → r ≡ None
-none_there None h = refl
-none_there (Some n) h = cc
-
-or_none : (r : Option ℕ) → option_or r None ≡ r
-or_none None = refl
-or_none (Some n) = refl
+use Rattle.first_places.specs.Places.{place_at, first_from}
+use Rattle.first_places.proofs.Added.{bytes_eq-sym, or_none}
+use Rattle.first_places.proofs.First.{first_more}
+use Rattle.toml_tree.specs.Texts.{earlier_like, texts_behind, is_the_text}
+use Rattle.toml_tree.specs.FirstPlaces.{counted, earlier_from, AddsPlaces, AddsFront}
 
 or_assoc : (r s t : Option ℕ) → option_or (option_or r s) t ≡ option_or r (option_or s t)
 or_assoc None s t = refl
 or_assoc (Some n) s t = refl
-
--- a text that was not kept is kept from now on
-pub added : {S : Type 0} (t : Bor (List ℕ)) (old new : IndexMap (Bor (List ℕ)) ℕ S) (place : ℕ)
-    → UpdatesBy (λ x y. bytes_eq x.now y.now) (λ k. bytes_eq t.now k.now) old new (Some place) →
-    is_some (get_by (λ k. bytes_eq t.now k.now) old) ≡ false
-    → (q : List ℕ) → kept_at new q ≡ option_or (kept_at old q) (if bytes_eq q t.now then Some place else None)
-added t old new place updates absent q =
-    let there = hash_map_updates_str t.now old new (Some place) updates q in
-    elim (cases_Bool (bytes_eq t.now q)) [
-      | inl same ↦ (let here : kept_at new q ≡ Some place = rw same at there in
-          let eq : t.now ≡ q = (bytes_eq-Decides t.now q).0 same in
-          let before : kept_at old q ≡ None = rw (← eq) (none_there _ absent) in
-          rw before (rw (bytes_eq-sym q t.now) (rw same here)))
-      | inr other ↦ (let here : kept_at new q ≡ kept_at old q = rw other at there in
-          rw (bytes_eq-sym q t.now) (rw other (here ∙ sym (or_none (kept_at old q)))))
-    ]
 
 pub texts_view : (key : List ℕ) (vs : List Value) →
     texts_behind key (items_view vs) ≡ map (λ v. option_and_then as_str (get key (view v))) vs
@@ -66,33 +34,6 @@ texts_view key (v ∷ vs) = ap (λ texts. option_and_then as_str (get key (view 
 pub texts_len : (key : List ℕ) (vs : List Value) → length (texts_behind key (items_view vs)) ≡ length vs
 texts_len key [] = refl
 texts_len key (v ∷ vs) = ap suc (texts_len key vs)
-
--- the first place in one list and then another
-pub first_from-append : {X : Type 0} (p : X → Bool) (n : ℕ) (xs ys : List X) →
-    first_from p n (xs ++ ys) ≡ option_or (first_from p n xs) (first_from p (n + length xs) ys)
-first_from-append p n [] ys = rw add-zero refl
-first_from-append p n (x ∷ xs) ys =
-    elim (cases_Bool (p x)) [
-      | inl here ↦ rw here refl
-      | inr other ↦
-          rw other (first_from-append p (n + 1) xs ys
-          ∙ ap (λ m. option_or (first_from p (n + 1) xs) (first_from p m ys)) (omega arith))
-    ]
-
--- and among one text more
-first_more : {X : Type 0} (p : X → Bool) (n : ℕ) (xs : List X) (i : ℕ) (x : X) → slice_get xs i ≡ Some x →
-    first_from p n (take (i + 1) xs) ≡ option_or (first_from p n (take i xs)) (if p x then Some (n + i) else None)
-first_more p n xs i x at =
-    ap (first_from p n)
-    (take_more xs i x within ∙ ap (λ y. take i xs ++ y ∷ []) (get_or_from_slice_get xs i x x at))
-    ∙ (first_from-append p n (take i xs) (x ∷ [])
-    ∙ ap (λ m. option_or (first_from p n (take i xs)) (if p x then Some m else None)) place)
-  where
-    within : i < length xs
-    within = slice_get_within xs i x at
-
-    place : n + length (take i xs) ≡ n + i
-    place = omega (arith, length-take i xs, within)
 
 -- the text of a value stands at the value's place
 pub text_there : (key : List ℕ) (vs : List Value) (i : ℕ) (v : Value) (text : Option (List ℕ)) → i < length vs →
@@ -108,27 +49,27 @@ text_there key vs i v text within at is =
 
 -- nothing is added yet
 pub places_none : {S : Type 0} (old : IndexMap (Bor (List ℕ)) ℕ S) (from : ℕ) → AddsPlaces old old from []
-places_none old from q = sym (or_none (kept_at old q))
+places_none old from q = sym (or_none (place_at old q))
 
 module _ {S : Type 0} (old mid new : IndexMap (Bor (List ℕ)) ℕ S) (from : ℕ) (texts : List (Option (List ℕ))) (i : ℕ)
     (before : AddsPlaces old mid from (take i texts)) where
   -- one text more is added
   pub places_more : (text : Option (List ℕ)) → slice_get texts i ≡ Some text →
-      ((q : List ℕ) → kept_at new q
-      ≡ option_or (kept_at mid q) (if is_the_text q text then Some (from + i) else None)) →
+      ((q : List ℕ) → place_at new q
+      ≡ option_or (place_at mid q) (if is_the_text q text then Some (from + i) else None)) →
       AddsPlaces old new from (take (i + 1) texts)
   places_more text at here q =
       let place : Option ℕ = if is_the_text q text then Some (from + i) else None in
       here q
       ∙ (ap (λ o. option_or o place) (before q)
-      ∙ (or_assoc (kept_at old q) (first_from (is_the_text q) from (take i texts)) place
-      ∙ ap (option_or (kept_at old q)) (sym (first_more (is_the_text q) from texts i text at))))
+      ∙ (or_assoc (place_at old q) (first_from (is_the_text q) from (take i texts)) place
+      ∙ ap (option_or (place_at old q)) (sym (first_more (is_the_text q) from texts i text at))))
 
   -- memory is lacking for one
   pub places_front : i < length texts → IsUnchanged mid new → AddsFront old new from texts
   places_front within same = (i, within, λ q. kept q ∙ before q)
     where
-      kept : (q : List ℕ) → kept_at new q ≡ kept_at mid q
+      kept : (q : List ℕ) → place_at new q ≡ place_at mid q
       kept q = rw same refl
 
 -- after a count
@@ -139,10 +80,10 @@ pub counted_more : {S : Type 0} (t : Bor (List ℕ)) (old new : IndexMap (Bor (L
 counted_more t old new before updates was q =
     let there = hash_map_updates_str t.now old new (Some (before + 1)) updates q in
     elim (cases_Bool (bytes_eq t.now q)) [
-      | inl same ↦ (let here : kept_at new q ≡ Some (before + 1) = rw same at there in
+      | inl same ↦ (let here : place_at new q ≡ Some (before + 1) = rw same at there in
           let eq : t.now ≡ q = (bytes_eq-Decides t.now q).0 same in
           rw (bytes_eq-sym q t.now) (rw same (rw here (rw was (ap (λ b. counted old b + 1) eq)))))
-      | inr other ↦ (let here : kept_at new q ≡ kept_at old q = rw other at there in
+      | inr other ↦ (let here : place_at new q ≡ place_at old q = rw other at there in
           rw (bytes_eq-sym q t.now) (rw other (rw here (omega arith))))
     ]
 

@@ -2,23 +2,19 @@
 use Rattle.std.specs.Prelude.{◌≡◌, ℕ, ◌<◌, ◌++◌, List, [], ◌∷◌, length, take, count_by, Option, unwrap_or}
 use Rattle.std.specs.Borrow.{Bor}
 use Rattle.std.specs.Option.{option_map_or, option_or}
-use Rattle.std.specs.Str.{bytes_eq}
-use Rattle.indexmap.specs.IndexMap.{IndexMap, get_by}
-use Rattle.toml_tree.specs.Texts.{first_from, is_the_text}
-
--- what a map has at a text
-abbrev pub kept_at : {S : Type 0} → IndexMap (Bor (List ℕ)) ℕ S → List ℕ → Option ℕ
-kept_at places q = get_by (λ key. bytes_eq q key.now) places
+use Rattle.indexmap.specs.IndexMap.{IndexMap}
+use Rattle.first_places.specs.Places.{place_at, first_from}
+use Rattle.toml_tree.specs.Texts.{is_the_text}
 
 -- a map has the first place of each text
 abbrev pub KeepsPlaces : {S : Type 0} → IndexMap (Bor (List ℕ)) ℕ S → List (Option (List ℕ)) → Type 0
-KeepsPlaces places texts = (q : List ℕ) → kept_at places q ≡ first_from (is_the_text q) 0 texts
+KeepsPlaces places texts = (q : List ℕ) → place_at places q ≡ first_from (is_the_text q) 0 texts
 
 -- the texts are added, where the first one's place is `from`
 abbrev pub AddsPlaces : {S : Type 0} →
     IndexMap (Bor (List ℕ)) ℕ S → IndexMap (Bor (List ℕ)) ℕ S → ℕ → List (Option (List ℕ)) → Type 0
 AddsPlaces old new from texts =
-    (q : List ℕ) → kept_at new q ≡ option_or (kept_at old q) (first_from (is_the_text q) from texts)
+    (q : List ℕ) → place_at new q ≡ option_or (place_at old q) (first_from (is_the_text q) from texts)
 
 -- of the texts only the first ones are added
 abbrev pub AddsFront : {S : Type 0} →
@@ -28,7 +24,7 @@ AddsFront old new from texts =
 
 -- how often a map counts a text
 abbrev pub counted : {S : Type 0} → IndexMap (Bor (List ℕ)) ℕ S → List ℕ → ℕ
-counted counts q = unwrap_or (kept_at counts q) 0
+counted counts q = unwrap_or (place_at counts q) 0
 
 -- how many of the texts seen so far are the next text, for each in turn
 abbrev pub earlier_from : List (Option (List ℕ)) → List (Option (List ℕ)) → List ℕ

@@ -1,6 +1,5 @@
--- The texts of a list of tables, and the first place of one.
-use Rattle.std.specs.Prelude.{ℕ, ◌+◌, List, [], ◌∷◌, take, count_by, slice_get, Bool, false, Option, Some, None}
-use Rattle.std.specs.Prelude.{option_and_then, if◌then◌else◌}
+-- The texts of a list of tables.
+use Rattle.std.specs.Prelude.{ℕ, List, [], ◌∷◌, take, count_by, slice_get, Bool, false, Option, option_and_then}
 use Rattle.std.specs.Option.{option_map_or}
 use Rattle.std.specs.Str.{bytes_eq}
 use Rattle.toml.specs.Data.{Items, no_items, item, get, as_str}
@@ -12,11 +11,6 @@ texts_behind key (item d ds) = option_and_then as_str (get key d) ∷ texts_behi
 
 abbrev pub is_the_text : List ℕ → Option (List ℕ) → Bool
 is_the_text q text = option_map_or (bytes_eq q) text false
-
--- the place of the first that passes a test, in a list that begins at place n
-abbrev pub first_from : {X : Type 0} → (X → Bool) → ℕ → List X → Option ℕ
-first_from test n [] = None
-first_from test n (x ∷ xs) = if test x then Some n else first_from test (n + 1) xs
 
 -- how many of the texts before a place are the one at the place
 abbrev pub earlier_like : List (Option (List ℕ)) → ℕ → ℕ

@@ -5,9 +5,11 @@ ghost use Rattle.std.specs.Option.{option_or, option_map_or};
 ghost use Rattle.indexmap.specs.IndexMap.{IsUnchanged};
 ghost use Rattle.toml.specs.Data.{as_str, get};
 ghost use Rattle.toml.specs.View.{view, items_view};
+ghost use Rattle.first_places.specs.Places.{place_at};
 ghost use Rattle.toml_tree.specs.Texts.{texts_behind, is_the_text};
-ghost use Rattle.toml_tree.specs.FirstPlaces.{kept_at, KeepsPlaces, AddsPlaces, AddsFront, earlier_from, counted};
+ghost use Rattle.toml_tree.specs.FirstPlaces.{KeepsPlaces, AddsPlaces, AddsFront, earlier_from, counted};
 
+use first_places::add_place;
 use indexmap::IndexMap;
 use std::alloc::{AllocError, Global};
 use toml::Value;
@@ -21,22 +23,20 @@ fn text_of<'a>(value: &'a Value, key: &str) -> Option<&'a str>
     }
 }
 
-fn add_place<'a>(
-    places: &mut IndexMap<&'a str, u64>,
+fn add_text<'a>(
+    places: &mut IndexMap<&'a [u8], u64>,
     text: Option<&'a str>,
     place: u64,
 ) -> Result<(), AllocError>
     ensures added { OnOk result ((q : List ℕ) →
-        kept_at places.new q ≡ option_or (kept_at places.old q)
+        place_at places.new q ≡ option_or (place_at places.old q)
         (if is_the_text q (option_map (λ t. t.now) text.entry) then Some place else None)) }
     ensures same { OnErr result (IsUnchanged places.old places.new) }
 {
-    if let Some(text) = text {
-        if !places.contains_key(text) {
-            places.insert(text, place)?;
-        }
+    match text {
+        Some(text) => add_place(places, text.as_bytes(), place),
+        None => Ok(()),
     }
-    Ok(())
 }
 
 /// Adds the texts at a key of some values, where the first value's place is `from`. A text that has a place keeps it.
@@ -44,7 +44,7 @@ fn add_place<'a>(
 /// It takes memory. AllocError comes where memory is lacking for the text of some value: the texts of the values before
 /// it are then added, and no other.
 pub fn add_places<'a>(
-    places: &mut IndexMap<&'a str, u64>,
+    places: &mut IndexMap<&'a [u8], u64>,
     values: &'a [Value],
     key: &str,
     from: u64,
@@ -55,7 +55,7 @@ pub fn add_places<'a>(
         (λ _. AddsFront places.old places.new from texts) }
 {
     for (i, value) in values.iter().enumerate() {
-        add_place(places, text_of(value, key), from + i as u64)?;
+        add_text(places, text_of(value, key), from + i as u64)?;
     }
     Ok(())
 }
@@ -65,7 +65,7 @@ pub fn places_of<'a>(
     alloc: Global,
     values: &'a [Value],
     key: &str,
-) -> Result<IndexMap<&'a str, u64>, AllocError>
+) -> Result<IndexMap<&'a [u8], u64>, AllocError>
     ensures { IfOk result (λ places. KeepsPlaces places (texts_behind key.now (items_view values.now))) }
 {
     let mut places = IndexMap::new(alloc);

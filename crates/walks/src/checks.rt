@@ -102,9 +102,49 @@ fn accepts_other_cuts(rt: HostRuntime) -> Result<(), Fail> {
 /// A senior whose reach has the node of a junior: the text of the run, and one in which a smaller set shows the same
 /// shortage, so that nobody calls the junior.
 const HIDDEN: [&str; 3] = [
-    "format = 1\nfirst_month = \"1900-07\"\nmonths = 1\n[[node]]\nname = \"top\"\ninflow = 50\n[[node]]\nname = \"low\"\n[[node]]\nname = \"mouth\"\noutlet = true\n[[link]]\nname = \"a\"\nfrom = \"top\"\nto = \"low\"\n[[link]]\nname = \"b\"\nfrom = \"low\"\nto = \"mouth\"\n[[diversion]]\nname = \"old\"\nnode = \"top\"\ndate = \"1890-01-01\"\nwant = 100\n[[diversion]]\nname = \"new\"\nnode = \"low\"\ndate = \"1920-01-01\"\nwant = 10\n",
-    "river-result 1\nrun 1900-07 1\nmonth 1900-07\nflow a 0\nflow b 0\ndeliver old 50 100\ndeliver new 0 10\nout mouth 0\ncall old\nin top\nin low\nin mouth\ncall new\nin top\nin low\nin mouth\ncalled new old\nend\ndone 1\n",
-    "river-result 1\nrun 1900-07 1\nmonth 1900-07\nflow a 0\nflow b 0\ndeliver old 50 100\ndeliver new 0 10\nout mouth 0\ncall old\nin top\ncall new\nin top\nin low\nin mouth\nend\ndone 1\n",
+    "format = 1\nfirst_month = \"1900-07\"\nmonths = 1\n\
+     [[node]]\nname = \"top\"\ninflow = 50\n\
+     [[node]]\nname = \"low\"\n\
+     [[node]]\nname = \"mouth\"\noutlet = true\n\
+     [[link]]\nname = \"a\"\nfrom = \"top\"\nto = \"low\"\n\
+     [[link]]\nname = \"b\"\nfrom = \"low\"\nto = \"mouth\"\n\
+     [[diversion]]\nname = \"old\"\nnode = \"top\"\ndate = \"1890-01-01\"\nwant = 100\n\
+     [[diversion]]\nname = \"new\"\nnode = \"low\"\ndate = \"1920-01-01\"\nwant = 10\n",
+    "river-result 1\n\
+     run 1900-07 1\n\
+     month 1900-07\n\
+     flow a 0\n\
+     flow b 0\n\
+     deliver old 50 100\n\
+     deliver new 0 10\n\
+     out mouth 0\n\
+     call old\n\
+     in top\n\
+     in low\n\
+     in mouth\n\
+     call new\n\
+     in top\n\
+     in low\n\
+     in mouth\n\
+     called new old\n\
+     end\n\
+     done 1\n",
+    "river-result 1\n\
+     run 1900-07 1\n\
+     month 1900-07\n\
+     flow a 0\n\
+     flow b 0\n\
+     deliver old 50 100\n\
+     deliver new 0 10\n\
+     out mouth 0\n\
+     call old\n\
+     in top\n\
+     call new\n\
+     in top\n\
+     in low\n\
+     in mouth\n\
+     end\n\
+     done 1\n",
 ];
 
 #[test]
@@ -412,13 +452,42 @@ const TWICE: [((&str, &str), &str, &str); 6] = [
     // Less for the senior than there was: its set lets 50 in, and it got 40.
     (
         JUNIOR_DRY,
-        "river-result 1\nrun 1900-01 1\nmonth 1900-01\nflow a 40\nflow b 0\ndeliver old 40 60\ndeliver new 10 50\nout mouth 0\ncall old\nin top\nin mid\nin mouth\ncall new\nin top\nin mid\nin mouth\ncalled new old\nend\ndone 1\n",
+        "river-result 1\n\
+         run 1900-01 1\n\
+         month 1900-01\n\
+         flow a 40\n\
+         flow b 0\n\
+         deliver old 40 60\n\
+         deliver new 10 50\n\
+         out mouth 0\n\
+         call old\n\
+         in top\n\
+         in mid\n\
+         in mouth\n\
+         call new\n\
+         in top\n\
+         in mid\n\
+         in mouth\n\
+         called new old\n\
+         end\n\
+         done 1\n",
         "refuted 9 CutLoose\n",
     ),
     // The junior has no set, and the line that passes over it ends the senior's, which is loose.
     (
         JUNIOR_DRY,
-        "river-result 1\nrun 1900-01 1\nmonth 1900-01\nflow a 50\nflow b 0\ndeliver old 50 60\ndeliver new 0 50\nout mouth 0\ncall old\nin mid\nend\ndone 1\n",
+        "river-result 1\n\
+         run 1900-01 1\n\
+         month 1900-01\n\
+         flow a 50\n\
+         flow b 0\n\
+         deliver old 50 60\n\
+         deliver new 0 50\n\
+         out mouth 0\n\
+         call old\n\
+         in mid\n\
+         end\n\
+         done 1\n",
         "refuted 9 CutLoose\n",
     ),
     // The lake opens and loses other amounts.

@@ -10,31 +10,101 @@ use std::test::Fail;
 const SERIES: [(&str, &str); 7] = [
     (
         "month,node,amount\n1900-01,top,7\n1900-02,top,8\n",
-        "river-result 1\nrun 1900-01 2\nmonth 1900-01\nflow a 7\nout mouth 7\nend\nmonth 1900-02\nflow a 8\nout mouth 8\nend\ndone 2\n",
+        "river-result 1\n\
+         run 1900-01 2\n\
+         month 1900-01\n\
+         flow a 7\n\
+         out mouth 7\n\
+         end\n\
+         month 1900-02\n\
+         flow a 8\n\
+         out mouth 8\n\
+         end\n\
+         done 2\n",
     ),
     (
         "month,node,amount\n1899-12,top,5\n1900-01,top,007\n1900-02,top,8\n",
-        "river-result 1\nrun 1900-01 2\nmonth 1900-01\nflow a 7\nout mouth 7\nend\nmonth 1900-02\nflow a 8\nout mouth 8\nend\ndone 2\n",
+        "river-result 1\n\
+         run 1900-01 2\n\
+         month 1900-01\n\
+         flow a 7\n\
+         out mouth 7\n\
+         end\n\
+         month 1900-02\n\
+         flow a 8\n\
+         out mouth 8\n\
+         end\n\
+         done 2\n",
     ),
     (
         "﻿month,node,amount\r\n1900-01,top,7\r\n1900-02,top,8\r\n",
-        "river-result 1\nrun 1900-01 2\nmonth 1900-01\nflow a 7\nout mouth 7\nend\nmonth 1900-02\nflow a 8\nout mouth 8\nend\ndone 2\n",
+        "river-result 1\n\
+         run 1900-01 2\n\
+         month 1900-01\n\
+         flow a 7\n\
+         out mouth 7\n\
+         end\n\
+         month 1900-02\n\
+         flow a 8\n\
+         out mouth 8\n\
+         end\n\
+         done 2\n",
     ),
     (
         "month,node,amount\n1900-02,top,8\n1900-01,top,7",
-        "river-result 1\nrun 1900-01 2\nmonth 1900-01\nflow a 7\nout mouth 7\nend\nmonth 1900-02\nflow a 8\nout mouth 8\nend\ndone 2\n",
+        "river-result 1\n\
+         run 1900-01 2\n\
+         month 1900-01\n\
+         flow a 7\n\
+         out mouth 7\n\
+         end\n\
+         month 1900-02\n\
+         flow a 8\n\
+         out mouth 8\n\
+         end\n\
+         done 2\n",
     ),
     (
         "month,node,amount\n\n1900-01,\"top\",7\n\n\"1900-02\",top,\"8\"\n",
-        "river-result 1\nrun 1900-01 2\nmonth 1900-01\nflow a 7\nout mouth 7\nend\nmonth 1900-02\nflow a 8\nout mouth 8\nend\ndone 2\n",
+        "river-result 1\n\
+         run 1900-01 2\n\
+         month 1900-01\n\
+         flow a 7\n\
+         out mouth 7\n\
+         end\n\
+         month 1900-02\n\
+         flow a 8\n\
+         out mouth 8\n\
+         end\n\
+         done 2\n",
     ),
     (
         "month,node,amount\n1900-03,top,1\n1900-03,top,2\n1900-01,top,1000000000\n1900-02,top,0000000000000000000\n",
-        "river-result 1\nrun 1900-01 2\nmonth 1900-01\nflow a 1000000000\nout mouth 1000000000\nend\nmonth 1900-02\nflow a 0\nout mouth 0\nend\ndone 2\n",
+        "river-result 1\n\
+         run 1900-01 2\n\
+         month 1900-01\n\
+         flow a 1000000000\n\
+         out mouth 1000000000\n\
+         end\n\
+         month 1900-02\n\
+         flow a 0\n\
+         out mouth 0\n\
+         end\n\
+         done 2\n",
     ),
     (
         "month,node,amount\r1900-01,top,7\r1900-02,top,8\r",
-        "river-result 1\nrun 1900-01 2\nmonth 1900-01\nflow a 7\nout mouth 7\nend\nmonth 1900-02\nflow a 8\nout mouth 8\nend\ndone 2\n",
+        "river-result 1\n\
+         run 1900-01 2\n\
+         month 1900-01\n\
+         flow a 7\n\
+         out mouth 7\n\
+         end\n\
+         month 1900-02\n\
+         flow a 8\n\
+         out mouth 8\n\
+         end\n\
+         done 2\n",
     ),
 ];
 

@@ -26,7 +26,12 @@ const REPORTED: [((&str, &str), &str); 3] = [
     ),
     (
         LAKE,
-        "report 1900-01 1\nright dead 0 20 20 -\nright city 1 50 40 1900-01\nright high 1 100 0 1900-01\nbalance 60 0 0 20 0 40 0\ndone 1\n",
+        "report 1900-01 1\n\
+         right dead 0 20 20 -\n\
+         right city 1 50 40 1900-01\n\
+         right high 1 100 0 1900-01\n\
+         balance 60 0 0 20 0 40 0\n\
+         done 1\n",
     ),
     (
         RETURNS,

@@ -186,8 +186,15 @@ date = "1890-01-01"
 want = "series"
 "#;
 
-const RANCH_SERIES: &str =
-    "month,kind,name,amount\n1900-02,want,trout,0\n1900-01,want,trout,3\n1900-01,want,ranch,4\n1900-01,inflow,ranch,10\n1899-12,want,ranch,9\n1900-02,inflow,ranch,20\n1900-02,want,ranch,30\n";
+const RANCH_SERIES: &str = "\
+    month,kind,name,amount\n\
+    1900-02,want,trout,0\n\
+    1900-01,want,trout,3\n\
+    1900-01,want,ranch,4\n\
+    1900-01,inflow,ranch,10\n\
+    1899-12,want,ranch,9\n\
+    1900-02,inflow,ranch,20\n\
+    1900-02,want,ranch,30\n";
 
 const RANCH_TEXT: &str = r#"river-result 1
 run 1900-01 2
@@ -348,7 +355,12 @@ const REFUSED_SERIES: [(&str, &str); 31] = [
         "series: Missing 1900-02 ranch\n",
     ),
     (
-        "month,kind,name,amount\n1900-01,inflow,ranch,1\n1900-01,want,ranch,1\n1900-01,want,trout,1\n1900-02,inflow,ranch,1\n1900-02,want,ranch,1\n",
+        "month,kind,name,amount\n\
+         1900-01,inflow,ranch,1\n\
+         1900-01,want,ranch,1\n\
+         1900-01,want,trout,1\n\
+         1900-02,inflow,ranch,1\n\
+         1900-02,want,ranch,1\n",
         "series: MissingWant 1900-02 trout\n",
     ),
     (
@@ -499,13 +511,18 @@ const REFUSED_BASINS: [(u32, &str, &str, &str); 21] = [
     (
         2,
         "per_day = 1\n",
-        "want = 1\n[[reservoir]]\nnode = \"h\"\nopening = 1\n[[zone]]\nname = \"pool\"\nreservoir = \"h\"\nlevel = 1\ndate = \"1899-01-01\"\nwant = \"\"\n",
+        "want = 1\n\
+         [[reservoir]]\nnode = \"h\"\nopening = 1\n\
+         [[zone]]\nname = \"pool\"\nreservoir = \"h\"\nlevel = 1\ndate = \"1899-01-01\"\nwant = \"\"\n",
         "basin: WrongKind zone 1\n",
     ),
     (
         1,
         "per_day = 1\n",
-        "want = 1\n[[reservoir]]\nnode = \"h\"\nopening = 1\n[[zone]]\nname = \"pool\"\nreservoir = \"h\"\nlevel = 1\ndate = \"1899-01-01\"\nwant = \"series\"\n",
+        "want = 1\n\
+         [[reservoir]]\nnode = \"h\"\nopening = 1\n\
+         [[zone]]\nname = \"pool\"\nreservoir = \"h\"\nlevel = 1\ndate = \"1899-01-01\"\n\
+         want = \"series\"\n",
         "basin: WrongKind zone 1\n",
     ),
 ];
@@ -513,7 +530,12 @@ const REFUSED_BASINS: [(u32, &str, &str, &str); 21] = [
 /// A basin of this format with a canal and a diversion that say this.
 fn seasonal(alloc: Global, format: u32, canal: &str, want: &str) -> Result<String, Fail> {
     let text = format!(in alloc;
-        "format = {format}\nfirst_month = \"1900-01\"\nmonths = 1\n[[node]]\nname = \"h\"\n[[node]]\nname = \"m\"\noutlet = true\n[[link]]\nname = \"c\"\nfrom = \"h\"\nto = \"m\"\n{canal}[[link]]\nname = \"a\"\nfrom = \"h\"\nto = \"m\"\n[[diversion]]\nname = \"farm\"\nnode = \"h\"\ndate = \"1900-01-01\"\n{want}"
+        "format = {format}\nfirst_month = \"1900-01\"\nmonths = 1\n\
+         [[node]]\nname = \"h\"\n\
+         [[node]]\nname = \"m\"\noutlet = true\n\
+         [[link]]\nname = \"c\"\nfrom = \"h\"\nto = \"m\"\n{canal}\
+         [[link]]\nname = \"a\"\nfrom = \"h\"\nto = \"m\"\n\
+         [[diversion]]\nname = \"farm\"\nnode = \"h\"\ndate = \"1900-01-01\"\n{want}"
     )?;
     Ok(text)
 }

@@ -1,6 +1,6 @@
 -- The sets of rights after writes.
 use Rattle.std.proofs.Common.{◌≡◌, ◌≢◌, ℕ, zero, suc, ◌<◌, Bool, List, [], ◌∷◌, length, refl, sym, ap, arith}
-use Rattle.std.specs.Prelude.{Option, Some, None, slice_set}
+use Rattle.std.specs.Prelude.{Option, None, slice_set}
 use Rattle.water_model.specs.CutSets.{CutSets, set_of, with_set}
 use Rattle.water_model.specs.Lookups.{of_entry}
 

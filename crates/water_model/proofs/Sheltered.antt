@@ -55,7 +55,8 @@ called_in_record b series before m follows r caller l k is_called =
     -- the caller is senior, and its set holds the right's node
     told : (is_senior b caller r ≡ true) × (option_map_or (λ cut. takes_within b cut r) (cut_of m caller) false ≡ true)
     told = parts (nat_lt (slice_index m.delivered caller) (slice_index m.want caller)) (is_senior b caller r)
-        (nat_lt 0 (slice_index m.want r)) (option_map_or (λ cut. takes_within b cut r) (cut_of m caller) false) is_called
+        (nat_lt 0 (slice_index m.want r)) (option_map_or (λ cut. takes_within b cut r) (cut_of m caller) false)
+        is_called
       where
         parts : (p q s t : Bool) → p && q && s && t ≡ true → (q ≡ true) × (t ≡ true)
         parts true true true true h = (refl, refl)

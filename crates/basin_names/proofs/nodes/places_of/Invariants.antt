@@ -1,8 +1,7 @@
 use Rattle.std.proofs.Common.{◌≡◌, ℕ, List, drop}
 use Rattle.std.specs.Option.{option_or}
 use Rattle.std.specs.Str.{bytes_eq}
-use Rattle.basin_names.specs.Places.{place_at}
-use Rattle.basin_names.proofs.First.{first_from}
+use Rattle.first_places.specs.Places.{place_at, first_from}
 use Rattle.basin_names.proofs.nodes.places_of.Given as goal
 
 -- the place that a name has, and else that of the first node behind

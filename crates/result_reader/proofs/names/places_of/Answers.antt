@@ -3,7 +3,7 @@ use Rattle.std.specs.Option.{option_or}
 use Rattle.std.specs.Str.{bytes_eq}
 use Rattle.water_model.specs.Places.{numbers_from}
 use Rattle.water_model.specs.Entries.{name_in}
-use Rattle.basin_names.specs.Places.{place_at}
+use Rattle.first_places.specs.Places.{place_at}
 use Rattle.result_reader.proofs.NameLaws.{found-more, kept-none}
 use Rattle.result_reader.proofs.names.places_of.Goals as goal
 
@@ -16,6 +16,6 @@ loop-at-preserved c = λ q.
     found-more (λ at. bytes_eq q (name_in c.args.space c.args.basin.now at)) c.loop-at.at (place_at c.loop-at.places q)
     (place_at c.add_place.new.places q)
     (c.loop-at.invariant q)
-    (c.in_ok-add_place.ensures q
+    (c.in_ok-add_place.ensures.added q
     ∙ ap (λ name. option_or (place_at c.loop-at.places q) (if bytes_eq q name then Some c.loop-at.at else None))
     c.name_in.ensures)

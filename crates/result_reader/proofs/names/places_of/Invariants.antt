@@ -3,7 +3,7 @@ use Rattle.std.specs.Prelude.{find}
 use Rattle.std.specs.Str.{bytes_eq}
 use Rattle.water_model.specs.Places.{numbers_from}
 use Rattle.water_model.specs.Entries.{name_in}
-use Rattle.basin_names.specs.Places.{place_at}
+use Rattle.first_places.specs.Places.{place_at}
 use Rattle.result_reader.proofs.names.places_of.Given as goal
 
 abbrev pub invariant-loop-at : goal.invariant-loop-at

@@ -17,19 +17,19 @@ loop-i-preserved c =
     let key = c.args.key.now in
     let values = c.args.values.now in
     let text = option_map (λ t. t.now) c.text_of.result in
-    places_more c.args.places.now c.loop-i.places c.add_place.new.places c.args.from
+    places_more c.args.places.now c.loop-i.places c.add_text.new.places c.args.from
     (texts_behind key (items_view values)) c.loop-i.i c.loop-i.invariant text
     (text_there key values c.loop-i.i c.index-values-i.result text c.loop-i-test.true c.index-values-i.is
     c.text_of.ensures)
-    c.in_ok-add_place.ensures.added
+    c.in_ok-add_text.ensures.added
 
-pub returns-in_err-add_place : goal.returns-in_err-add_place
-returns-in_err-add_place c =
+pub returns-in_err-add_text : goal.returns-in_err-add_text
+returns-in_err-add_text c =
     let texts = texts_behind c.args.key.now (items_view c.args.values.now) in
     on_error c.from_residual.result _ _ c.from_residual.ensures.0
-    (places_front c.args.places.now c.loop-i.places c.add_place.new.places c.args.from texts c.loop-i.i
+    (places_front c.args.places.now c.loop-i.places c.add_text.new.places c.args.from texts c.loop-i.i
     c.loop-i.invariant (omega (arith, texts_len c.args.key.now c.args.values.now, c.loop-i-test.true))
-    c.in_err-add_place.ensures.same)
+    c.in_err-add_text.ensures.same)
 
 pub returns : goal.returns
 returns c =
