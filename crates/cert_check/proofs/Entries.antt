@@ -27,7 +27,7 @@ use Rattle.cert_check.specs.declared.answering.Due.{Due}
 use Rattle.cert_check.proofs.Fitting.{Stays, answered_stay, callers_same, callers_stay, none_answered, none_settled}
 use Rattle.cert_check.proofs.Fitting.{nobody, put_both, record_with, settled_stay, stays, supply_stays, with_amount}
 use Rattle.cert_check.proofs.Rows.{good_row}
-use Rattle.cert_check.proofs.RunSound.{opens_with_last}
+use Rattle.water_model.proofs.Histories.{opens_with_last}
 
 clash : {X : Type 0} → false ≡ true → X
 clash e = cc

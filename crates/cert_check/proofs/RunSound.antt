@@ -17,7 +17,7 @@ use Rattle.water_model.specs.declared.item.Item.TheVariants as line
 use Rattle.water_model.specs.declared.types.Basin.{Basin}
 use Rattle.water_model.specs.declared.types.Inflows.{Inflows}
 use Rattle.water_model.specs.declared.types.MonthRecord.{MonthRecord}
-use Rattle.water_model.proofs.Histories.{nothing_is_partial, one_month_more}
+use Rattle.water_model.proofs.Histories.{nothing_is_partial, one_month_more, opens_with_last}
 use Rattle.result_reader.specs.Form.{Fills, IsFront, due, due_in_month, due_for_month}
 use Rattle.result_reader.specs.Telling.{Told, tell, nothing_told, blank_month}
 use Rattle.result_reader.specs.declared.shape.Shape.{Shape}
@@ -123,24 +123,6 @@ nothing_behind (x ∷ xs) (i ∷ items) rest d e none some =
     other false q e k = k
 
 -- The months.
-
-pub opens_with_last : (b : Basin) (records : List MonthRecord) (m : MonthRecord) →
-    opening_after b (records ++ m ∷ []) ≡ m.closing
-opens_with_last b records m =
-    ap (λ n. of_entry (records ++ m ∷ []) (n - 1) (λ k. k.closing) (map (λ v. v.opening) b.reservoirs))
-    (length-append records (m ∷ []))
-    ∙ last records
-  where
-    at : (xs : List MonthRecord) → slice_get (xs ++ m ∷ []) (length xs) ≡ Some m
-    at [] = refl
-    at (x ∷ xs) = at xs
-
-    place : (n : ℕ) → n + 1 - 1 ≡ n
-    place n = omega arith
-
-    last : (xs : List MonthRecord) →
-        of_entry (xs ++ m ∷ []) (length xs + 1 - 1) (λ k. k.closing) (map (λ v. v.opening) b.reservoirs) ≡ m.closing
-    last xs = rw (place (length xs), at xs) refl
 
 -- what stands behind some months that are not refuted
 pub record BehindMonths (b : Basin) (series : Inflows) (before : List MonthRecord) (t : Told) : Type 0 where
