@@ -1,5 +1,6 @@
 -- The words of a circulation at the start of a month.
-use Rattle.std.proofs.Common.{ℕ, ◌≡◌, ◌+◌, ◌-◌, ◌*◌, ◌^◌, ◌<◌, ◌≤◌, List, ◌++◌, length, take, drop, map, replicate, arith, ap}
+use Rattle.std.proofs.Common.{ℕ, ◌≡◌, ◌+◌, ◌-◌, ◌*◌, ◌^◌, ◌<◌, ◌≤◌, List, ◌++◌, length, take, drop, map, replicate}
+use Rattle.std.proofs.Common.{arith, ap}
 use Rattle.std.proofs.Common.{refl, sym, subst, ◌∙◌, take-append-drop, length-drop, length-take-le}
 use Rattle.std.proofs.lemmas.List.{take_at, drop_at, length-map}
 use Rattle.circulation.specs.Rows.{Rows}
@@ -90,5 +91,6 @@ month_same circ c d m kept supply upper start scratch w v is =
     (sym (ap (λ (e : Contents). e.scratch) is))
 
 -- the contents have as many arcs as the words tell
-pub frame_arcs : (circ : Circulation) (c : Contents) (kept : List ℕ) → AreFixedOf circ c kept → length c.from ≡ circ.arcs
+pub frame_arcs : (circ : Circulation) (c : Contents) (kept : List ℕ) → AreFixedOf circ c kept →
+    length c.from ≡ circ.arcs
 frame_arcs circ c kept w = ap length w.from ∙ (length-map w.pairs tail_of ∙ w.arcs)

@@ -9,7 +9,8 @@
 //! no call takes memory.
 #![tactic(auto)]
 
-ghost use Rattle.std.specs.Prelude.{IsTrue, ◌↔◌, ◌≡◌, ℕ, ◌+◌, ◌-◌, ◌*◌, ◌^◌, ◌<◌, ◌≤◌, ◌≢◌, List, length, IfOk, OnOk, OnErr, All};
+ghost use Rattle.std.specs.Prelude.{IsTrue, ◌↔◌, ◌≡◌, ℕ, ◌+◌, ◌-◌, ◌*◌, ◌^◌, ◌<◌, ◌≤◌, ◌≢◌, List, length};
+ghost use Rattle.std.specs.Prelude.{IfOk, OnOk, OnErr, All};
 ghost use Rattle.std.specs.Prelude.{◌++◌, drop, replicate};
 ghost use Rattle.circulation.specs.Contents.{Contents, empty_contents, month_contents, on_last, IsStart};
 ghost use Rattle.circulation.specs.Rows.{Rows};
@@ -143,8 +144,10 @@ impl Circulation {
         requires few { length start.now ≤ self.now.arcs }
         requires start { (c : Contents) × (AreFixedOf self.now c fixed.now ×
             IsStart c supply.now upper.now (on_last self.now.arcs start.now)) }
-        ensures { (c : Contents) → AreFixedOf self.now c fixed.now → result ≡
-            record (month_contents c supply.now upper.now (on_last self.now.arcs start.now)) { scratch = result.scratch } }
+        ensures { (c : Contents) → AreFixedOf self.now c fixed.now →
+            result ≡ record (month_contents c supply.now upper.now (on_last self.now.arcs start.now)) {
+              scratch = result.scratch;
+            } }
     {
         write_month(moving, self.arcs as usize, supply, upper, start);
         self.lend(fixed, moving)

@@ -54,9 +54,11 @@ pub fn answer<K: Sink, L: Ledger>(
     ensures series { session.new.series ≡ edited_by session.old.series edit }
     ensures kept { OnOk result
         (length session.new.kept ≡ kept_by (length session.old.kept) edit + solved_by (length session.old.kept) edit) }
-    ensures answers { Answers session.old.basin session.old.series (edit ∷ []) result (K.taken out.old) (K.taken out.new) }
+    ensures answers { Answers session.old.basin session.old.series (edit ∷ []) result (K.taken out.old)
+        (K.taken out.new) }
     ensures cause { HasCause (K.faults out.old) (K.faults out.new) (result ≡ Err SinkFailed) }
-    ensures pushes { searches.new ≤ searches.old + solved_by (length session.old.kept) edit * month_pushes session.old.basin }
+    ensures pushes { searches.new ≤ searches.old + solved_by (length session.old.kept) edit * month_pushes
+        session.old.basin }
 {
     match edit {
         Edit::Inflow {

@@ -28,7 +28,8 @@ fn answer_each<K: Sink, L: Ledger>(
     searches: &mut Steps<L>,
 ) -> Result<(), EditStop>
     requires { All (IsPlaced session.old.basin session.old.series) edits.now }
-    ensures answers { Answers session.old.basin session.old.series edits.now result (K.taken out.old) (K.taken out.new) }
+    ensures answers { Answers session.old.basin session.old.series edits.now result (K.taken out.old)
+        (K.taken out.new) }
     ensures cause { HasCause (K.faults out.old) (K.faults out.new) (result ≡ Err stop.SinkFailed) }
     ensures pushes { searches.new ≤ searches.old + cost_from (length session.old.kept) edits.now * month_pushes
         session.old.basin }
@@ -84,7 +85,8 @@ fn put_answers<K: Sink, L: Ledger>(
     searches: &mut Steps<L>,
 ) -> Result<(), EditStop>
     requires { All (IsPlaced session.old.basin session.old.series) edits.now }
-    ensures answers { AnswersWhole session.old.basin session.old.series edits.now result (K.taken out.old) (K.taken out.new) }
+    ensures answers { AnswersWhole session.old.basin session.old.series edits.now result (K.taken out.old)
+        (K.taken out.new) }
     ensures cause { HasCause (K.faults out.old) (K.faults out.new) (result ≡ Err stop.SinkFailed) }
     ensures pushes { searches.new ≤ searches.old + cost_from (length session.old.kept) edits.now * month_pushes
         session.old.basin }

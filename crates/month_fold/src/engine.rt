@@ -28,8 +28,8 @@ use water_model::types::{Basin, Inflows, MonthRecord};
 /// What a run of a basin is made with, apart from its series: the solver and the area tables, and the memory for what
 /// is on its way, what was used of volumes and the record of the last month. One engine serves one run after another.
 ///
-/// All memory is taken where an engine is opened. What it was opened with, the network, the roll and the area tables, is
-/// lent on by it: no run, and nobody who writes of one, builds them anew.
+/// All memory is taken where an engine is opened. The network, the roll and the area tables are built there once: no run
+/// that it serves, and nobody who writes of one, builds them anew.
 #[derive(Drop)]
 pub struct Engine<'b> {
     basin: &'b Basin,
@@ -81,9 +81,9 @@ impl<'b> Engine<'b> {
         })
     }
 
-    /// Goes behind these months of a run, which may have been solved by another engine: behind none it stands before the
-    /// first. Nothing is left of the run that it served before. No month is solved: the cost is linear in the return
-    /// rows times the months.
+    /// Goes behind these months of a run, which another engine may have solved: behind none it stands before the first.
+    /// Nothing is left of the run that it served before. No month is solved, and no memory is taken: the cost is linear
+    /// in the return rows times the months.
     pub fn go_behind(&mut self, months: &[Box<MonthRecord>])
         requires deliveries { All (λ m. HasDeliveries self.old.basin m.value) months.now }
         requires told { TellUse self.old.basin (map (λ m. m.value) months.now) }
@@ -123,8 +123,8 @@ impl<'b> Engine<'b> {
         &self.month
     }
 
-    /// Solves the month behind so many of a series, whose record `month` then gives. Each search that finds a walk ticks
-    /// `searches` once.
+    /// Solves the month behind so many of a series, whose record `month` then gives. Each search that finds a walk
+    /// ticks `searches` once.
     pub fn step<L: Ledger>(&mut self, series: &Inflows, done: u32, searches: &mut Steps<L>)
         requires left { done < self.old.basin.months }
         requires months { HasMonths (run_with self.old series.now done) }

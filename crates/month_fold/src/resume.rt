@@ -22,7 +22,10 @@ pub fn store_behind(basin: &Basin, months: &[Box<MonthRecord>], month: &mut Mont
     } }
 {
     match months.last() {
-        Some(last) => month.closing.as_mut_slice().copy_from_slice(last.closing.as_slice()),
+        Some(last) => month
+            .closing
+            .as_mut_slice()
+            .copy_from_slice(last.closing.as_slice()),
         None => write_openings(basin, month.closing.as_mut_slice()),
     }
 }
@@ -50,7 +53,8 @@ fn use_last(basin: &Basin, month: &MonthRecord, used: &mut Rows<u64>)
     requires little { (r : ℕ) → r < length basin.now.rights → slice_index month.now.used r ≤ 10 ^ 15 }
     requires room { length used.old ≡ length basin.now.rights }
     ensures { (deliveries : List (List ℕ)) → length deliveries ≡ month.now.index →
-        HasUsed basin.now deliveries month.now.used → HasUsed basin.now (deliveries ++ month.now.delivered ∷ []) used.new }
+        HasUsed basin.now deliveries month.now.used →
+        HasUsed basin.now (deliveries ++ month.now.delivered ∷ []) used.new }
 {
     used.as_mut_slice().copy_from_slice(month.used.as_slice());
     use_volumes(basin, month.index, month, used);

@@ -1,5 +1,6 @@
 -- Nodes are freed, one after another.
-use Rattle.std.proofs.Common.{ℕ, nat_lt, ◌≡◌, ◌≢◌, ◌+◌, ◌-◌, ◌<◌, ◌≤◌, ◌⊎◌, List, length, replicate, slice_index, slice_set}
+use Rattle.std.proofs.Common.{ℕ, nat_lt, ◌≡◌, ◌≢◌, ◌+◌, ◌-◌, ◌<◌, ◌≤◌, ◌⊎◌, List, length, replicate, slice_index}
+use Rattle.std.proofs.Common.{slice_set}
 use Rattle.std.proofs.Common.{refl, arith, ap, sym, subst, inl, inr, ◌∙◌}
 use Rattle.std.proofs.lemmas.Bool.{cases_eq, cases_lt}
 use Rattle.std.proofs.lemmas.List.{get_or-set_other, get_or-set_same, get_or-replicate, length-set, length-replicate}
@@ -13,7 +14,8 @@ use Rattle.residual_tree.specs.Growth.{Stands, none, IsFreeing, IsWornTree, IsWa
 use Rattle.residual_tree.specs.Hanging.{IsClear, IsHung, IsFreedNode}
 use Rattle.circulation.proofs.Scans.{end_within}
 use Rattle.residual_tree.proofs.Hangs.{tree_hang}
-use Rattle.residual_tree.proofs.Changes.{count_most, count_freed, count_kept, stands_more, stands_here, stands_or, freed_word}
+use Rattle.residual_tree.proofs.Changes.{count_most, count_freed, count_kept, stands_more, stands_here, stands_or}
+use Rattle.residual_tree.proofs.Changes.{freed_word}
 use Rattle.residual_tree.proofs.Changes.{tree_free, tree_map}
 
 -- a node with a step is a basin node

@@ -1,5 +1,6 @@
-//! A node whose step lost its room hangs on another step, where one is near: with room, and from a node to which the tree
-//! comes from the outside by few steps and not through the node itself. So what is below the node stays in the tree.
+//! A node whose step lost its room hangs on another step, where one is near: with room, and from a node to which the
+//! tree comes from the outside by few steps and not through the node itself. So what is below the node stays in the
+//! tree.
 //!
 //! That is the adoption of orphans of Boykov and Kolmogorov (2004), as far as a short look goes.
 ghost use Rattle.std.specs.Prelude.{◌≡◌, true, ℕ, ◌+◌, ◌-◌, ◌<◌, ◌≤◌, length};

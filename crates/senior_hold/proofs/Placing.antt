@@ -86,7 +86,8 @@ parts_lent b r p fixed moving tree h l =
     record {
       arcs = record {
         contents = h.contents;
-        fixed = subst (λ (xs : List ℕ). AreFixedOf p.circ h.contents xs) (sym (l.first ∙ ap (take n) held)) h.held.fixed;
+        fixed = subst (λ (xs : List ℕ). AreFixedOf p.circ h.contents xs) (sym (l.first ∙ ap (take n) held))
+            h.held.fixed;
         ends = h.ends;
         count = ap length l.rest ∙ length-drop n l.held ∙ ap (λ (k : ℕ). k - n) (long ∙ h.held.size);
       };

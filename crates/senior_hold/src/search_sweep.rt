@@ -38,8 +38,8 @@ fn run_river(basin: &Basin, net: &Net, supply: &[u64], plan: &mut Plan)
     net.natural(supply, plan.flow.as_mut_slice(), plan.out.as_mut_slice());
 }
 
-/// Starts a month from the run of the river, with no arc held. Where a node is no outlet, its spill carries nothing. The
-/// words that change may be any.
+/// Starts a month from the run of the river, with no arc held. Where a node is no outlet, its spill carries nothing.
+/// The words that change may be any.
 fn begin_river<'r>(
     basin: &Basin,
     layout: &Layout,

@@ -79,8 +79,8 @@ CalledRightsGetNothing =
     (i : ℕ) (m : MonthRecord) → slice_get records i ≡ Some m → (right caller : ℕ) → right < length b.rights →
     caller < length b.rights → IsTrue (calls b m right caller) → slice_index m.delivered right ≡ 0
 
--- Cuts let nothing outside help. Whatever is supplied outside the set that a history has of a right, and whatever anyone
--- wants, no plan of that month that delivers at least as much to each senior of the right delivers it more than it got.
+-- Cuts let nothing outside help. Whatever is supplied outside the set that a history has of a right, and whatever
+-- anyone wants, no plan of that month that delivers at least as much to each senior of the right delivers it more than it got.
 abbrev pub CutsLetNothingOutsideHelp : Type 0
 CutsLetNothingOutsideHelp =
     (b : Basin) (series : Inflows) (records : List MonthRecord) → IsPartialHistory b series records →

@@ -10,5 +10,6 @@ returns-in_err-write_month-clause-stops g c =
 
 pub returns-in_err-write_month-clause-pushes : goal.returns-in_err-write_month-clause-pushes
 returns-in_err-write_month-clause-pushes g c =
-    within_run c.args.run.now.basin c.args.searches.now c.loop-month.searches c.write_month.new.searches c.loop-month._month
+    within_run c.args.run.now.basin c.args.searches.now c.loop-month.searches c.write_month.new.searches
+    c.loop-month._month
     c.loop-month.invariant.pushes c.in_err-write_month.ensures.pushes c.loop-month-test.true

@@ -15,8 +15,8 @@ use Rattle.senior_hold.proofs.search_sweep.solve_by_searches.Goals as goal
 pub loop-turn-init : goal.loop-turn-init
 loop-turn-init g c = record {
   standing = standing_start c.args.basin.now c.args.month c.args.supply.now c.args.want.now c.args.layout.now.roll.order
-      c.begin_river-circ.result c.args.cuts.now c.begin_river-circ.new.plan c.args.plan.now c.begin_river-circ.ensures.begun
-      c.requires.given;
+      c.begin_river-circ.result c.args.cuts.now c.begin_river-circ.new.plan c.args.plan.now
+      c.begin_river-circ.ensures.begun c.requires.given;
   outlets = c.begin_river-circ.ensures.begun.outlets;
   first = λ e. refl;
   cost = omega arith;
