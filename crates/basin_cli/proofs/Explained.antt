@@ -127,7 +127,8 @@ one_answer b series month name right other m n valid one two short =
         two.of_month.partial
         (omega (arith, place, length-append one.of_month.before (m ∷ []), length-append two.of_month.before (n ∷ [])))
         (length one.of_month.before) m n (get_behind one.of_month.before [] m)
-        (subst (λ k. slice_get (two.of_month.before ++ n ∷ []) k ≡ Some n) (sym place) (get_behind two.of_month.before [] n))
+        (subst (λ k. slice_get (two.of_month.before ++ n ∷ []) k ≡ Some n) (sym place)
+        (get_behind two.of_month.before [] n))
 
     along : IsShort n right
     along = omega

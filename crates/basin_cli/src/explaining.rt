@@ -207,7 +207,8 @@ fn explain_in<K: Sink, L: Ledger>(
     requires index { index < basin.now.months }
     requires right { right < length basin.now.rights }
     ensures answers { MayWrite (status_of result) →
-        AnswersAt basin.now run.old.series index right result (Rose (K.faults out.old) (K.faults out.new)) (K.taken out.old) (K.taken out.new) }
+        AnswersAt basin.now run.old.series index right result (Rose (K.faults out.old) (K.faults out.new))
+        (K.taken out.old) (K.taken out.new) }
     ensures memory { (MayWrite (status_of result) → ⊥) → result ≡ OutOfMemory }
     ensures out_stays { (MayWrite (status_of result) → ⊥) → out.new ≡ out.old }
     ensures idle { (MayWrite (status_of result) → ⊥) → searches.new ≡ searches.old }
@@ -233,7 +234,8 @@ fn explain_at<K: Sink, L: Ledger>(
     requires index { index < basin.now.months }
     requires right { right < length basin.now.rights }
     ensures answers { MayWrite (status_of result) →
-        AnswersAt basin.now series.now index right result (Rose (K.faults out.old) (K.faults out.new)) (K.taken out.old) (K.taken out.new) }
+        AnswersAt basin.now series.now index right result (Rose (K.faults out.old) (K.faults out.new))
+        (K.taken out.old) (K.taken out.new) }
     ensures memory { (MayWrite (status_of result) → ⊥) → result ≡ OutOfMemory }
     ensures out_stays { (MayWrite (status_of result) → ⊥) → out.new ≡ out.old }
     ensures idle { (MayWrite (status_of result) → ⊥) → searches.new ≡ searches.old }
