@@ -133,9 +133,14 @@ asking_cause told files month name b series (ending.ScriptRefused script.Outside
 asking_cause told files month name b series (ending.ScriptRefused script.NoSuchName line) read write valid fits loaded
     ends = (
       ends.0,
-      behind_both (told files.basin) (series_told told files.series) b series (λ bytes _. IsUnknownRight month name bytes)
-          fits loaded.from_basin loaded.from_series
-          (λ bytes s spelled. record { basin = b; spelled = spelled.basin_spelled; has_month = ends.1; unknown = ends.2 }),
+      behind_both (told files.basin) (series_told told files.series) b series
+          (λ bytes _. IsUnknownRight month name bytes) fits loaded.from_basin loaded.from_series
+          (λ bytes s spelled. record {
+            basin = b;
+            spelled = spelled.basin_spelled;
+            has_month = ends.1;
+            unknown = ends.2;
+          }),
     )
 asking_cause told files month name b series ending.OutOfMemory read write valid fits loaded ends = tt
 asking_cause told files month name b series other read write valid fits loaded ends = absurd ends

@@ -9,6 +9,7 @@ pub mod Edited
 pub mod Upgrading
 pub mod Comparison
 pub mod Outcome
+pub mod Serving
 pub mod Code
 pub mod Drafts
 pub mod Written

@@ -163,7 +163,8 @@ fn put_checked(line: &mut Line, months: u32)
 /// Makes the line of a text that is refuted.
 fn put_refuted(line: &mut Line, refuted: &Refuted)
     requires { line.old ≡ [] }
-    ensures { line.new ≡ codes "refuted " ++ decimal refuted.now.line ++ codes " " ++ kind_name refuted.now.kind ++ codes "\n" }
+    ensures { line.new ≡ codes "refuted " ++ decimal refuted.now.line ++ codes " " ++ kind_name refuted.now.kind ++
+        codes "\n" }
 {
     let number = refuted.line;
     line.word(b"refuted ");

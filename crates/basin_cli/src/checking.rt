@@ -75,7 +75,8 @@ pub fn check_file<S: Shelf, K: Sink>(
     ensures ends { EndsChecking basin.now series.now (S.told shelf.old name.now) result
         (Rose (S.faults shelf.old) (S.faults shelf.new)) (Rose (K.faults out.old) (K.faults out.new)) }
     ensures leaves { IfSome (S.told shelf.old name.now) (λ text. MayWrite (status_of result) →
-        Leaves (status_of result) (answer_line basin.now (text_verdict basin.now series.now text)) (K.taken out.old) (K.taken out.new)) }
+        Leaves (status_of result) (answer_line basin.now (text_verdict basin.now series.now text)) (K.taken out.old)
+        (K.taken out.new)) }
     ensures out_stays { (MayWrite (status_of result) → ⊥) → out.new ≡ out.old }
     ensures unread { result ≡ ending.OutOfMemory → shelf.new ≡ shelf.old }
     ensures handed { IsQuiet (status_of result) → K.handed out.new ≡ K.taken out.new }

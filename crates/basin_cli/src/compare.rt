@@ -1,10 +1,7 @@
 //! The command `compare`.
-ghost use Rattle.std.specs.Prelude.{◌≡◌, Some};
-ghost use Rattle.water_edge.specs.Edge.{Rose};
+ghost use Rattle.std.specs.Prelude.{Some};
 ghost use Rattle.basin_cli.specs.Command.{ServesFiles, compare, named};
-ghost use Rattle.basin_cli.specs.Ending.{status_of, CanBeTold};
-ghost use Rattle.basin_cli.specs.Out.{IsRefusal, MayLeave};
-ghost use Rattle.basin_cli.specs.Outcome.{EndingHasCause, IsQuiet, PushesFor, WritesFor};
+ghost use Rattle.basin_cli.specs.Serving.{Serves};
 
 use crate::command::Inputs;
 use crate::comparing::compare_basins;
@@ -25,17 +22,8 @@ pub fn do_compare<S: Shelf, K: Sink, L: Ledger>(
     searches: &mut Steps<L>,
 ) -> Ending
     requires { ServesFiles (S.serves shelf.old) (Some (compare (named inputs) second.now)) }
-    ensures cause { EndingHasCause (Some (compare (named inputs.entry) second.now)) result (S.told shelf.old)
-        (Rose (S.faults shelf.old) (S.faults shelf.new)) (Rose (K.faults out.old) (K.faults out.new)) }
-    ensures writes { WritesFor (Some (compare (named inputs.entry) second.now)) (status_of result) (S.told shelf.old)
-        (K.taken out.old) (K.taken out.new) searches.old searches.new }
-    ensures out_stays { (MayLeave (Some (compare (named inputs.entry) second.now)) (status_of result) → ⊥) →
-        out.new ≡ out.old }
-    ensures idle { IsRefusal (status_of result) → searches.new ≡ searches.old }
-    ensures pushes { PushesFor (Some (compare (named inputs.entry) second.now)) (S.told shelf.old) searches.old
-        searches.new }
-    ensures told { CanBeTold result }
-    ensures handed { IsQuiet (status_of result) → K.handed out.new ≡ K.taken out.new }
+    ensures { Serves S.Shelf K.Sink (Some (compare (named inputs.entry) second.now)) result shelf.old shelf.new out.old
+        out.new searches.old searches.new }
 {
     let pair = match read_pair(alloc, shelf, inputs, second) {
         Ok(pair) => pair,

@@ -211,7 +211,8 @@ pub fn compare_basins<K: Sink, L: Ledger>(
     requires series { IsSeriesOf basin.now series.now }
     requires other_series { IsSeriesOf other.now other_series.now }
     ensures compares { MayWrite (status_of result) →
-        Compares basin.now other.now series.now other_series.now result (Rose (K.faults out.old) (K.faults out.new)) (K.taken out.old) (K.taken out.new) }
+        Compares basin.now other.now series.now other_series.now result (Rose (K.faults out.old) (K.faults out.new))
+        (K.taken out.old) (K.taken out.new) }
     ensures out_stays { (MayWrite (status_of result) → ⊥) → out.new ≡ out.old }
     ensures memory { (MayWrite (status_of result) → ⊥) → result ≡ OutOfMemory }
     ensures idle { IsRefusal (status_of result) → ⊥ }

@@ -1,12 +1,11 @@
 //! All that the program does.
-ghost use Rattle.std.specs.Prelude.{◌≡◌, ◌+◌, ◌*◌, ◌≤◌, Some, map, option_map, string_bytes};
+ghost use Rattle.std.specs.Prelude.{◌≡◌, ℕ, Some, map, string_bytes};
 ghost use Rattle.water_edge.specs.Edge.{Rose};
 ghost use Rattle.water_text.specs.Months.{IsMonth};
-ghost use Rattle.basin_cli.specs.Command.{IsInForm, ServesFiles, ServesSeries, check, command_named, command_of, edit};
-ghost use Rattle.basin_cli.specs.Command.{named, ensemble, report, run, why};
-ghost use Rattle.basin_cli.specs.Ending.{status_of, CanBeTold};
+ghost use Rattle.basin_cli.specs.Command.{ServesFiles, check, command_of, edit, ensemble, named, report, run, why};
 ghost use Rattle.basin_cli.specs.Out.{IsIdle, IsUnread, MayLeave};
-ghost use Rattle.basin_cli.specs.Outcome.{EndingHasCause, Ends, Completes, WritesFor, PushesFor, IsQuiet};
+ghost use Rattle.basin_cli.specs.Outcome.{Completes, Ends, IsQuiet, PushesFor, WritesFor};
+ghost use Rattle.basin_cli.specs.Serving.{Serves};
 
 use crate::actions::{gather_basin, report_basin, run_basin, try_basin};
 use crate::checking::check_file;
@@ -33,15 +32,8 @@ fn do_run<S: Shelf, K: Sink, L: Ledger>(
     searches: &mut Steps<L>,
 ) -> Ending
     requires { ServesFiles (S.serves shelf.old) (Some (run (named inputs))) }
-    ensures cause { EndingHasCause (Some (run (named inputs.entry))) result (S.told shelf.old)
-        (Rose (S.faults shelf.old) (S.faults shelf.new)) (Rose (K.faults out.old) (K.faults out.new)) }
-    ensures writes { WritesFor (Some (run (named inputs.entry))) (status_of result) (S.told shelf.old) (K.taken out.old)
-        (K.taken out.new) searches.old searches.new }
-    ensures out_stays { (MayLeave (Some (run (named inputs.entry))) (status_of result) → ⊥) → out.new ≡ out.old }
-    ensures idle { IsIdle (Some (run (named inputs.entry))) (status_of result) → searches.new ≡ searches.old }
-    ensures pushes { PushesFor (Some (run (named inputs.entry))) (S.told shelf.old) searches.old searches.new }
-    ensures told { CanBeTold result }
-    ensures handed { IsQuiet (status_of result) → K.handed out.new ≡ K.taken out.new }
+    ensures { Serves S.Shelf K.Sink (Some (run (named inputs.entry))) result shelf.old shelf.new out.old out.new
+        searches.old searches.new }
 {
     let files = match read_inputs(alloc, shelf, inputs) {
         Ok(files) => files,
@@ -59,15 +51,8 @@ fn do_report<S: Shelf, K: Sink, L: Ledger>(
     searches: &mut Steps<L>,
 ) -> Ending
     requires { ServesFiles (S.serves shelf.old) (Some (report (named inputs))) }
-    ensures cause { EndingHasCause (Some (report (named inputs.entry))) result (S.told shelf.old)
-        (Rose (S.faults shelf.old) (S.faults shelf.new)) (Rose (K.faults out.old) (K.faults out.new)) }
-    ensures writes { WritesFor (Some (report (named inputs.entry))) (status_of result) (S.told shelf.old)
-        (K.taken out.old) (K.taken out.new) searches.old searches.new }
-    ensures out_stays { (MayLeave (Some (report (named inputs.entry))) (status_of result) → ⊥) → out.new ≡ out.old }
-    ensures idle { IsIdle (Some (report (named inputs.entry))) (status_of result) → searches.new ≡ searches.old }
-    ensures pushes { PushesFor (Some (report (named inputs.entry))) (S.told shelf.old) searches.old searches.new }
-    ensures told { CanBeTold result }
-    ensures handed { IsQuiet (status_of result) → K.handed out.new ≡ K.taken out.new }
+    ensures { Serves S.Shelf K.Sink (Some (report (named inputs.entry))) result shelf.old shelf.new out.old out.new
+        searches.old searches.new }
 {
     let files = match read_inputs(alloc, shelf, inputs) {
         Ok(files) => files,
@@ -86,16 +71,8 @@ fn do_check<S: Shelf, K: Sink>(
     out: &mut K,
 ) -> Ending
     requires { ServesFiles (S.serves shelf.old) (Some (check (named inputs) result_name.now)) }
-    ensures cause { EndingHasCause (Some (check (named inputs.entry) result_name.now)) result (S.told shelf.old)
-        (Rose (S.faults shelf.old) (S.faults shelf.new)) (Rose (K.faults out.old) (K.faults out.new)) }
-    ensures writes { WritesFor (Some (check (named inputs.entry) result_name.now)) (status_of result) (S.told shelf.old)
-        (K.taken out.old) (K.taken out.new) 0 0 }
-    ensures out_stays { (MayLeave (Some (check (named inputs.entry) result_name.now)) (status_of result) → ⊥) →
-        out.new ≡ out.old }
-    ensures unread { IsUnread (Some (check (named inputs.entry) result_name.now)) (status_of result) (S.asked shelf.old)
-        (S.asked shelf.new) }
-    ensures told { CanBeTold result }
-    ensures handed { IsQuiet (status_of result) → K.handed out.new ≡ K.taken out.new }
+    ensures { (count : ℕ) → Serves S.Shelf K.Sink (Some (check (named inputs.entry) result_name.now)) result shelf.old
+        shelf.new out.old out.new count count }
 {
     let files = match read_inputs(alloc, shelf, inputs) {
         Ok(files) => files,
@@ -117,18 +94,8 @@ fn do_why<S: Shelf, K: Sink, L: Ledger>(
 ) -> Ending
     requires files { ServesFiles (S.serves shelf.old) (Some (why (named inputs) month right.now)) }
     requires month { IsMonth month }
-    ensures cause { EndingHasCause (Some (why (named inputs.entry) month right.now)) result (S.told shelf.old)
-        (Rose (S.faults shelf.old) (S.faults shelf.new)) (Rose (K.faults out.old) (K.faults out.new)) }
-    ensures writes { WritesFor (Some (why (named inputs.entry) month right.now)) (status_of result) (S.told shelf.old)
-        (K.taken out.old) (K.taken out.new) searches.old searches.new }
-    ensures out_stays { (MayLeave (Some (why (named inputs.entry) month right.now)) (status_of result) → ⊥) →
-        out.new ≡ out.old }
-    ensures idle { IsIdle (Some (why (named inputs.entry) month right.now)) (status_of result) →
-        searches.new ≡ searches.old }
-    ensures pushes { PushesFor (Some (why (named inputs.entry) month right.now)) (S.told shelf.old) searches.old
-        searches.new }
-    ensures told { CanBeTold result }
-    ensures handed { IsQuiet (status_of result) → K.handed out.new ≡ K.taken out.new }
+    ensures { Serves S.Shelf K.Sink (Some (why (named inputs.entry) month right.now)) result shelf.old shelf.new out.old
+        out.new searches.old searches.new }
 {
     let files = match read_inputs(alloc, shelf, inputs) {
         Ok(files) => files,
@@ -155,15 +122,8 @@ fn do_ensemble<S: Shelf, K: Sink, L: Ledger>(
     searches: &mut Steps<L>,
 ) -> Ending
     requires { ServesFiles (S.serves shelf.old) (Some (ensemble (named inputs))) }
-    ensures cause { EndingHasCause (Some (ensemble (named inputs.entry))) result (S.told shelf.old)
-        (Rose (S.faults shelf.old) (S.faults shelf.new)) (Rose (K.faults out.old) (K.faults out.new)) }
-    ensures writes { WritesFor (Some (ensemble (named inputs.entry))) (status_of result) (S.told shelf.old)
-        (K.taken out.old) (K.taken out.new) searches.old searches.new }
-    ensures out_stays { (MayLeave (Some (ensemble (named inputs.entry))) (status_of result) → ⊥) → out.new ≡ out.old }
-    ensures idle { IsIdle (Some (ensemble (named inputs.entry))) (status_of result) → searches.new ≡ searches.old }
-    ensures pushes { PushesFor (Some (ensemble (named inputs.entry))) (S.told shelf.old) searches.old searches.new }
-    ensures told { CanBeTold result }
-    ensures handed { IsQuiet (status_of result) → K.handed out.new ≡ K.taken out.new }
+    ensures { Serves S.Shelf K.Sink (Some (ensemble (named inputs.entry))) result shelf.old shelf.new out.old out.new
+        searches.old searches.new }
 {
     let files = match read_record(alloc, shelf, inputs) {
         Ok(files) => files,
@@ -182,18 +142,8 @@ fn do_edit<S: Shelf, K: Sink, L: Ledger>(
     searches: &mut Steps<L>,
 ) -> Ending
     requires { ServesFiles (S.serves shelf.old) (Some (edit (named inputs) script.now)) }
-    ensures cause { EndingHasCause (Some (edit (named inputs.entry) script.now)) result (S.told shelf.old)
-        (Rose (S.faults shelf.old) (S.faults shelf.new)) (Rose (K.faults out.old) (K.faults out.new)) }
-    ensures writes { WritesFor (Some (edit (named inputs.entry) script.now)) (status_of result) (S.told shelf.old)
-        (K.taken out.old) (K.taken out.new) searches.old searches.new }
-    ensures out_stays { (MayLeave (Some (edit (named inputs.entry) script.now)) (status_of result) → ⊥) →
-        out.new ≡ out.old }
-    ensures idle { IsIdle (Some (edit (named inputs.entry) script.now)) (status_of result) →
-        searches.new ≡ searches.old }
-    ensures pushes { PushesFor (Some (edit (named inputs.entry) script.now)) (S.told shelf.old) searches.old
-        searches.new }
-    ensures told { CanBeTold result }
-    ensures handed { IsQuiet (status_of result) → K.handed out.new ≡ K.taken out.new }
+    ensures { Serves S.Shelf K.Sink (Some (edit (named inputs.entry) script.now)) result shelf.old shelf.new out.old
+        out.new searches.old searches.new }
 {
     let files = match read_inputs(alloc, shelf, inputs) {
         Ok(files) => files,
@@ -215,18 +165,8 @@ fn decide<S: Shelf, K: Sink, L: Ledger>(
     searches: &mut Steps<L>,
 ) -> Ending
     requires { ServesFiles (S.serves shelf.old) (command_of (map string_bytes words.now)) }
-    ensures cause { EndingHasCause (command_of (map string_bytes words.now)) result (S.told shelf.old)
-        (Rose (S.faults shelf.old) (S.faults shelf.new)) (Rose (K.faults out.old) (K.faults out.new)) }
-    ensures writes { WritesFor (command_of (map string_bytes words.now)) (status_of result) (S.told shelf.old)
-        (K.taken out.old) (K.taken out.new) searches.old searches.new }
-    ensures out_stays { (MayLeave (command_of (map string_bytes words.now)) (status_of result) → ⊥) →
-        out.new ≡ out.old }
-    ensures idle { IsIdle (command_of (map string_bytes words.now)) (status_of result) → searches.new ≡ searches.old }
-    ensures pushes { PushesFor (command_of (map string_bytes words.now)) (S.told shelf.old) searches.old searches.new }
-    ensures unread { IsUnread (command_of (map string_bytes words.now)) (status_of result) (S.asked shelf.old)
-        (S.asked shelf.new) }
-    ensures told { CanBeTold result }
-    ensures handed { IsQuiet (status_of result) → K.handed out.new ≡ K.taken out.new }
+    ensures { Serves S.Shelf K.Sink (command_of (map string_bytes words.now)) result shelf.old shelf.new out.old out.new
+        searches.old searches.new }
 {
     match command(words) {
         None => Ending::Usage,

@@ -1,10 +1,7 @@
 //! Basin files in format 2.
-ghost use Rattle.std.specs.Prelude.{◌≡◌, Some};
-ghost use Rattle.water_edge.specs.Edge.{Rose};
+ghost use Rattle.std.specs.Prelude.{ℕ, Some};
 ghost use Rattle.basin_cli.specs.Command.{ServesFiles, upgrade};
-ghost use Rattle.basin_cli.specs.Ending.{status_of, CanBeTold};
-ghost use Rattle.basin_cli.specs.Out.{MayLeave};
-ghost use Rattle.basin_cli.specs.Outcome.{EndingHasCause, WritesFor, IsQuiet};
+ghost use Rattle.basin_cli.specs.Serving.{Serves};
 
 use crate::ending::Ending;
 use crate::files::read_basin_file;
@@ -21,13 +18,8 @@ pub fn do_upgrade<S: Shelf, K: Sink>(
     out: &mut K,
 ) -> Ending
     requires { ServesFiles (S.serves shelf.old) (Some (upgrade name.now)) }
-    ensures cause { EndingHasCause (Some (upgrade name.now)) result (S.told shelf.old)
-        (Rose (S.faults shelf.old) (S.faults shelf.new)) (Rose (K.faults out.old) (K.faults out.new)) }
-    ensures writes { WritesFor (Some (upgrade name.now)) (status_of result) (S.told shelf.old) (K.taken out.old)
-        (K.taken out.new) 0 0 }
-    ensures out_stays { (MayLeave (Some (upgrade name.now)) (status_of result) → ⊥) → out.new ≡ out.old }
-    ensures told { CanBeTold result }
-    ensures handed { IsQuiet (status_of result) → K.handed out.new ≡ K.taken out.new }
+    ensures { (count : ℕ) → Serves S.Shelf K.Sink (Some (upgrade name.now)) result shelf.old shelf.new out.old out.new
+        count count }
 {
     let basin = match read_basin_file(alloc, shelf, name) {
         Ok(basin) => basin,

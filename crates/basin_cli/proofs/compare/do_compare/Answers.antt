@@ -1,27 +1,36 @@
+use Rattle.std.proofs.Common.{rules}
+use Rattle.water_edge.specs.Edge.{Rose}
 use Rattle.basin_cli.specs.Command.{named}
 use Rattle.basin_cli.proofs.Injured.{cause, writes, pushes}
 use Rattle.basin_cli.proofs.Stops.{refused_writes}
 use Rattle.basin_cli.proofs.compare.do_compare.Goals as goal
 
-pub returns-clause-cause : goal.returns-clause-cause
-returns-clause-cause g c =
-    cause (g.S.Shelf.told c.args.shelf.now) (named c.args.inputs) c.args.second.now c.in-Ok.pair c.in-Ok.ensures.paired
-    c.compare_basins.result _ _ _ _
-    c.compare_basins.ensures.compares c.compare_basins.ensures.memory
+pub returns-in-Err : goal.returns-in-Err
+returns-in-Err g c = search (
+  rules,
+  refused_writes (g.S.Shelf.told c.args.shelf.now) (named c.args.inputs) c.args.second.now c.in-Err.ending
+      (Rose (g.S.Shelf.faults c.args.shelf.now) (g.S.Shelf.faults c.read_pair.new.shelf))
+      (g.K.Sink.taken c.args.out.now) (g.K.Sink.taken c.args.out.now) c.in-Err.ensures.stops,
+)
 
-pub returns-clause-writes : goal.returns-clause-writes
-returns-clause-writes g c =
-    writes (g.S.Shelf.told c.args.shelf.now) (named c.args.inputs) c.args.second.now c.in-Ok.pair c.in-Ok.ensures.paired
-    c.compare_basins.result _ _ _
-    c.compare_basins.ensures.compares
-
-pub returns-clause-pushes : goal.returns-clause-pushes
-returns-clause-pushes g c =
-    pushes (g.S.Shelf.told c.args.shelf.now) (named c.args.inputs) c.args.second.now c.in-Ok.pair c.in-Ok.ensures.paired
-    c.args.searches.now c.compare_basins.new.searches
-    c.compare_basins.ensures.pushes
-
-pub returns-in-Err-clause-writes : goal.returns-in-Err-clause-writes
-returns-in-Err-clause-writes g c =
-    refused_writes (g.S.Shelf.told c.args.shelf.now) (named c.args.inputs) c.args.second.now c.in-Err.ending _ _ _
-    c.in-Err.ensures.stops
+pub returns : goal.returns
+returns g c =
+    let told = g.S.Shelf.told c.args.shelf.now in
+    let files = named c.args.inputs in
+    let second = c.args.second.now in
+    let how = c.compare_basins.result in
+    record {
+      cause =
+          cause told files second c.in-Ok.pair c.in-Ok.ensures.paired how _ _ _ _ c.compare_basins.ensures.compares
+          c.compare_basins.ensures.memory;
+      can_be_told = search rules;
+      writes =
+          writes told files second c.in-Ok.pair c.in-Ok.ensures.paired how _ _ _ c.compare_basins.ensures.compares;
+      out_stays = c.compare_basins.ensures.out_stays;
+      handed = c.compare_basins.ensures.handed;
+      unread = tt;
+      idle = λ refused. absurd (c.compare_basins.ensures.idle refused);
+      pushes =
+          pushes told files second c.in-Ok.pair c.in-Ok.ensures.paired c.args.searches.now
+          c.compare_basins.new.searches c.compare_basins.ensures.pushes;
+    }

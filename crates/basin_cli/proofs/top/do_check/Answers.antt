@@ -1,4 +1,4 @@
-use Rattle.std.proofs.Common.{subst, ap, ◌∙◌, List, Option, ℕ}
+use Rattle.std.proofs.Common.{rules, subst, ap, ◌∙◌, List, Option, ℕ}
 use Rattle.std.specs.Prelude.{IfSome}
 use Rattle.cert_check.specs.Whole.{text_verdict}
 use Rattle.water_edge.specs.Edge.{Rose}
@@ -12,43 +12,46 @@ use Rattle.basin_cli.proofs.Stops.{rose_since}
 use Rattle.basin_cli.proofs.Unread.{unread}
 use Rattle.basin_cli.proofs.top.do_check.Goals as goal
 
-pub returns-clause-cause : goal.returns-clause-cause
-returns-clause-cause g c =
-    let start = g.S.Shelf.faults c.args.shelf.now in
-    let mid = g.S.Shelf.faults c.read_inputs.new.shelf in
-    let end = g.S.Shelf.faults c.check_file.new.shelf in
-    let write = Rose (g.K.Sink.faults c.args.out.now) (g.K.Sink.faults c.check_file.new.out) in
-    checking_cause (g.S.Shelf.told c.args.shelf.now) (named c.args.inputs) c.args.result_name.now c.in-Ok.files.basin
-    c.in-Ok.files.series c.check_file.result (Rose start end) write c.in-Ok.ensures.valid c.in-Ok.ensures.fits
-    c.in-Ok.ensures.loaded
-    (ends_later c.in-Ok.files.basin c.in-Ok.files.series (g.S.Shelf.told c.args.shelf.now c.args.result_name.now)
-    c.check_file.result
-    (Rose mid end) (Rose start end) write (rose_since start mid end c.in-Ok.ensures.later)
-    (subst (λ (told : Option (List ℕ)). EndsChecking c.in-Ok.files.basin c.in-Ok.files.series told c.check_file.result
-    (Rose mid end) write)
-    (c.in-Ok.ensures.same.told c.args.result_name.now) c.check_file.ensures.ends))
+pub returns-in-Err : goal.returns-in-Err
+returns-in-Err g c = λ count. search (
+  rules,
+  unread (named c.args.inputs) c.args.result_name.now (g.S.Shelf.asked c.args.shelf.now)
+      (g.S.Shelf.asked c.read_inputs.new.shelf) c.in-Err.ending
+      (λ _. c.read_inputs.ensures.asked c.args.result_name.now),
+)
 
-pub returns-clause-writes : goal.returns-clause-writes
-returns-clause-writes g c =
+pub returns : goal.returns
+returns g c = λ count.
+    (let told = g.S.Shelf.told c.args.shelf.now in
+    let files = named c.args.inputs in
+    let result = c.args.result_name.now in
+    let b = c.in-Ok.files.basin in
+    let series = c.in-Ok.files.series in
+    let how = c.check_file.result in
+    let mid = Rose (g.S.Shelf.faults c.read_inputs.new.shelf) (g.S.Shelf.faults c.check_file.new.shelf) in
+    let read = Rose (g.S.Shelf.faults c.args.shelf.now) (g.S.Shelf.faults c.check_file.new.shelf) in
+    let write = Rose (g.K.Sink.faults c.args.out.now) (g.K.Sink.faults c.check_file.new.out) in
     let old = g.K.Sink.taken c.args.out.now in
     let new = g.K.Sink.taken c.check_file.new.out in
-    let status = status_of c.check_file.result in
-    checking_writes (g.S.Shelf.told c.args.shelf.now) (named c.args.inputs) c.args.result_name.now c.in-Ok.files.basin
-    c.in-Ok.files.series c.check_file.result old new c.in-Ok.ensures.fits c.in-Ok.ensures.loaded
-    (subst (λ (told : Option (List ℕ)). IfSome told (λ text. MayWrite status →
-    Leaves status (answer_line c.in-Ok.files.basin (text_verdict c.in-Ok.files.basin c.in-Ok.files.series text)) old
-    new))
-    (c.in-Ok.ensures.same.told c.args.result_name.now) c.check_file.ensures.leaves)
-
-pub returns-in-Err-clause-unread : goal.returns-in-Err-clause-unread
-returns-in-Err-clause-unread g c =
-    unread (named c.args.inputs) c.args.result_name.now (g.S.Shelf.asked c.args.shelf.now)
-    (g.S.Shelf.asked c.read_inputs.new.shelf) c.in-Err.ending
-    (λ _. c.read_inputs.ensures.asked c.args.result_name.now)
-
-pub returns-clause-unread : goal.returns-clause-unread
-returns-clause-unread g c =
-    unread (named c.args.inputs) c.args.result_name.now (g.S.Shelf.asked c.args.shelf.now)
-    (g.S.Shelf.asked c.check_file.new.shelf) c.check_file.result
-    (λ e not_basin not_series. ap (λ s. g.S.Shelf.asked s c.args.result_name.now) (c.check_file.ensures.unread e)
-    ∙ c.read_inputs.ensures.asked c.args.result_name.now not_basin not_series)
+    record {
+      cause =
+          checking_cause told files result b series how read write c.in-Ok.ensures.valid c.in-Ok.ensures.fits
+          c.in-Ok.ensures.loaded
+          (ends_later b series (told result) how mid read write (rose_since _ _ _ c.in-Ok.ensures.later)
+          (subst (λ (o : Option (List ℕ)). EndsChecking b series o how mid write) (c.in-Ok.ensures.same.told result)
+          c.check_file.ensures.ends));
+      can_be_told = search rules;
+      writes =
+          checking_writes told files result b series how old new c.in-Ok.ensures.fits c.in-Ok.ensures.loaded
+          (subst (λ (o : Option (List ℕ)). IfSome o (λ text. MayWrite (status_of how) →
+          Leaves (status_of how) (answer_line b (text_verdict b series text)) old new))
+          (c.in-Ok.ensures.same.told result) c.check_file.ensures.leaves);
+      out_stays = c.check_file.ensures.out_stays;
+      handed = c.check_file.ensures.handed;
+      unread =
+          unread files result (g.S.Shelf.asked c.args.shelf.now) (g.S.Shelf.asked c.check_file.new.shelf) how
+          (λ e not_basin not_series. ap (λ s. g.S.Shelf.asked s result) (c.check_file.ensures.unread e)
+          ∙ c.read_inputs.ensures.asked result not_basin not_series);
+      idle = search rules;
+      pushes = search rules;
+    })

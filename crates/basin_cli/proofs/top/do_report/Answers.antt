@@ -1,7 +1,17 @@
+use Rattle.std.proofs.Common.{arith, rules}
+use Rattle.std.proofs.lemmas.Grind.{common_steps}
 use Rattle.basin_cli.specs.Ending.{status_of}
 use Rattle.basin_cli.proofs.Idle.{stopped_writes}
 use Rattle.basin_cli.proofs.top.do_report.Goals as goal
 
-pub returns-clause-idle : goal.returns-clause-idle
-returns-clause-idle g c =
-    λ stopped. c.report_basin.ensures.idle (stopped_writes (status_of c.report_basin.result) stopped)
+pub returns : goal.returns
+returns g c = record {
+  cause = first_of (search rules, grind (arith, common_steps));
+  can_be_told = first_of (search rules, grind (arith, common_steps));
+  writes = first_of (search rules, grind (arith, common_steps));
+  out_stays = c.report_basin.ensures.out_stays;
+  handed = c.report_basin.ensures.handed;
+  unread = tt;
+  idle = λ stopped. c.report_basin.ensures.idle (stopped_writes (status_of c.report_basin.result) stopped);
+  pushes = first_of (search rules, grind (arith, common_steps));
+}

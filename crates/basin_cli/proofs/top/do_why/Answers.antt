@@ -1,29 +1,32 @@
+use Rattle.std.proofs.Common.{rules}
 use Rattle.basin_cli.specs.Command.{named}
 use Rattle.basin_cli.specs.Ending.{status_of}
 use Rattle.basin_cli.proofs.Idle.{stopped_writes}
 use Rattle.basin_cli.proofs.Accounts.{asking_cause, asking_solves, asking_writes}
 use Rattle.basin_cli.proofs.top.do_why.Goals as goal
 
-pub returns-clause-cause : goal.returns-clause-cause
-returns-clause-cause g c =
-    asking_cause (g.S.Shelf.told c.args.shelf.now) (named c.args.inputs) c.args.month c.args.right.now
-    c.in-Ok.files.basin c.in-Ok.files.series
-    c.explain_right.result _ _ c.in-Ok.ensures.valid c.in-Ok.ensures.fits c.in-Ok.ensures.loaded
-    (rw c.as_bytes.ensures.value at c.explain_right.ensures.ends)
-
-pub returns-clause-writes : goal.returns-clause-writes
-returns-clause-writes g c =
-    asking_writes (g.S.Shelf.told c.args.shelf.now) (named c.args.inputs) c.args.month c.args.right.now
-    c.in-Ok.files.basin c.in-Ok.files.series
-    c.explain_right.result _ _ c.in-Ok.ensures.fits c.in-Ok.ensures.loaded
-    (rw c.as_bytes.ensures.value at c.explain_right.ensures.answers)
-
-pub returns-clause-pushes : goal.returns-clause-pushes
-returns-clause-pushes g c =
-    asking_solves (g.S.Shelf.told c.args.shelf.now) (named c.args.inputs) c.args.month c.in-Ok.files.basin
-    c.in-Ok.files.series
-    c.args.searches.now c.explain_right.new.searches c.in-Ok.ensures.loaded c.explain_right.ensures.pushes
-
-pub returns-clause-idle : goal.returns-clause-idle
-returns-clause-idle g c =
-    λ stopped. c.explain_right.ensures.idle (stopped_writes (status_of c.explain_right.result) stopped)
+pub returns : goal.returns
+returns g c =
+    let told = g.S.Shelf.told c.args.shelf.now in
+    let files = named c.args.inputs in
+    let right = c.args.right.now in
+    let b = c.in-Ok.files.basin in
+    let series = c.in-Ok.files.series in
+    let how = c.explain_right.result in
+    record {
+      cause =
+          asking_cause told files c.args.month right b series how _ _ c.in-Ok.ensures.valid c.in-Ok.ensures.fits
+          c.in-Ok.ensures.loaded
+          (rw c.as_bytes.ensures.value at c.explain_right.ensures.ends);
+      can_be_told = search rules;
+      writes =
+          asking_writes told files c.args.month right b series how _ _ c.in-Ok.ensures.fits c.in-Ok.ensures.loaded
+          (rw c.as_bytes.ensures.value at c.explain_right.ensures.answers);
+      out_stays = c.explain_right.ensures.out_stays;
+      handed = c.explain_right.ensures.handed;
+      unread = tt;
+      idle = λ stopped. c.explain_right.ensures.idle (stopped_writes (status_of how) stopped);
+      pushes =
+          asking_solves told files c.args.month b series c.args.searches.now c.explain_right.new.searches
+          c.in-Ok.ensures.loaded c.explain_right.ensures.pushes;
+    }

@@ -1,6 +1,0 @@
-use Rattle.basin_cli.specs.Ending.{status_of}
-use Rattle.basin_cli.proofs.Idle.{stopped_writes}
-use Rattle.basin_cli.proofs.top.do_run.Goals as goal
-
-pub returns-clause-idle : goal.returns-clause-idle
-returns-clause-idle g c = λ stopped. c.run_basin.ensures.idle (stopped_writes (status_of c.run_basin.result) stopped)

@@ -1,0 +1,25 @@
+-- What doing a command promises.
+use Rattle.std.specs.Prelude.{◌≡◌, ℕ, Option}
+use Rattle.water_edge.specs.Edge.{Rose}
+use Rattle.water_edge.specs.declared.shelf.Shelf
+use Rattle.water_edge.specs.declared.sink.Sink
+use Rattle.basin_cli.specs.declared.ending.Ending.{Ending}
+use Rattle.basin_cli.specs.Command.{Command}
+use Rattle.basin_cli.specs.Ending.{CanBeTold, status_of}
+use Rattle.basin_cli.specs.Out.{IsIdle, IsUnread, MayLeave}
+use Rattle.basin_cli.specs.Outcome.{EndingHasCause, IsQuiet, PushesFor, WritesFor}
+
+-- The ending has its cause and a line, and what is left on out, what was read and how often searches pushed are as the
+-- ending says. `shelf` and `sink` tell what a state of the shelf and of out is seen as, and `before` and `after` count
+-- the pushes.
+pub record Serves {S K : Type 0} (shelf : Shelf.Ghosts S) (sink : Sink.Ghosts K) (command : Option Command)
+    (how : Ending) (shelf_old shelf_new : S) (old new : K) (before after : ℕ) : Type 0 where
+  pub cause : EndingHasCause command how (shelf.told shelf_old)
+      (Rose (shelf.faults shelf_old) (shelf.faults shelf_new)) (Rose (sink.faults old) (sink.faults new))
+  pub can_be_told : CanBeTold how
+  pub writes : WritesFor command (status_of how) (shelf.told shelf_old) (sink.taken old) (sink.taken new) before after
+  pub out_stays : (MayLeave command (status_of how) → ⊥) → new ≡ old
+  pub handed : IsQuiet (status_of how) → sink.handed new ≡ sink.taken new
+  pub unread : IsUnread command (status_of how) (shelf.asked shelf_old) (shelf.asked shelf_new)
+  pub idle : IsIdle command (status_of how) → after ≡ before
+  pub pushes : PushesFor command (shelf.told shelf_old) before after
