@@ -28,8 +28,8 @@ use water_model::types::{Basin, Inflows, MonthRecord};
 /// What a run of a basin is made with, apart from its series: the solver and the area tables, and the memory for what
 /// is on its way, what was used of volumes and the record of the last month. One engine serves one run after another.
 ///
-/// All memory is taken where an engine is opened. The network, the roll and the area tables are built there once: no run
-/// that it serves, and nobody who writes of one, builds them anew.
+/// All memory is taken where an engine is opened. The network, the roll and the area tables are built there once: no
+/// run that it serves, and nobody who writes of one, builds them anew.
 #[derive(Drop)]
 pub struct Engine<'b> {
     basin: &'b Basin,

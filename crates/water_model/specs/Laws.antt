@@ -80,7 +80,8 @@ CalledRightsGetNothing =
     caller < length b.rights → IsTrue (calls b m right caller) → slice_index m.delivered right ≡ 0
 
 -- Cuts let nothing outside help. Whatever is supplied outside the set that a history has of a right, and whatever
--- anyone wants, no plan of that month that delivers at least as much to each senior of the right delivers it more than it got.
+-- anyone wants, no plan of that month that delivers at least as much to each senior of the right delivers it more than
+-- it got.
 abbrev pub CutsLetNothingOutsideHelp : Type 0
 CutsLetNothingOutsideHelp =
     (b : Basin) (series : Inflows) (records : List MonthRecord) → IsPartialHistory b series records →
