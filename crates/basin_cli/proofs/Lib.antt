@@ -20,4 +20,3 @@ pub mod Idle
 pub mod Handed
 pub mod Parts
 pub mod Unread
-pub mod Formats
