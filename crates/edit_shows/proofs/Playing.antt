@@ -99,12 +99,12 @@ one_more : (edits : List Edit) (i : ℕ) (e : Edit) → i < length edits → e �
     take (i + 1) edits ≡ take i edits ++ e ∷ []
 one_more edits i e l is = take_more edits i e l ∙ ap (λ x. take i edits ++ x ∷ []) (sym is)
 
-pub played_more : (b : Basin) (series now then' : Inflows) (edits : List Edit) (old mid new : Option (List ℕ)) (i : ℕ)
-    (e : Edit) (u : Unit {0}) →
+pub played_more : (b c : Basin) (series now then' : Inflows) (edits : List Edit) (old mid new : Option (List ℕ)) (i : ℕ)
+    (e : Edit) (u : Unit {0}) → c ≡ b →
     IsPlayed b series now edits old mid i → i < length edits → e ≡ get_or edits i e →
-    Answers b now (e ∷ []) (Ok u) mid new → then' ≡ edited_by now e →
+    Answers c now (e ∷ []) (Ok u) mid new → then' ≡ edited_by now e →
     IsPlayed b series then' edits old new (i + 1)
-played_more b series now then' edits old mid new i e u played l is answers next = record {
+played_more b c series now then' edits old mid new i e u same played l is shows next = record {
   shown = played.shown ++ answers.0;
   are = subst (λ (es : List Edit). AreShown b series es (played.shown ++ answers.0)) (sym (one_more edits i e l is))
       (shown_behind b series (take i edits) (e ∷ []) played.shown answers.0 played.are
@@ -115,6 +115,9 @@ played_more b series now then' edits old mid new i e u played l is answers next 
   put = subst (λ (bytes : List ℕ). Appends old new bytes) (sym (bytes_behind b played.shown answers.0))
       (Appends-trans old mid new _ _ played.put answers.2);
 }
+  where
+    answers : Answers b now (e ∷ []) (Ok u) mid new
+    answers = subst (λ (x : Basin). Answers x now (e ∷ []) (Ok u) mid new) same shows
 
 -- months shown by the line at i, and those before it
 have_more : (b : Basin) (series now : Inflows) (edits : List Edit) (old mid : Option (List ℕ)) (i : ℕ) (e : Edit)
@@ -148,22 +151,31 @@ have_more b series now edits old mid i e ys played l is have =
               (shown_behind b series (take i edits) (e ∷ []) played.shown ys played.are h);
         }
 
-pub played_stops : (b : Basin) (series now : Inflows) (edits : List Edit) (old mid new : Option (List ℕ)) (i : ℕ)
+stops_at : (b : Basin) (series now : Inflows) (edits : List Edit) (old mid new : Option (List ℕ)) (i : ℕ)
     (e : Edit) (why : EditStop) →
     IsPlayed b series now edits old mid i → i < length edits → e ≡ get_or edits i e →
     Answers b now (e ∷ []) (Err why) mid new → Answers b series edits (Err why) old new
-played_stops b series now edits old mid new i e stop.SinkFailed played l is answers = (
+stops_at b series now edits old mid new i e stop.SinkFailed played l is answers = (
   played.shown ++ answers.0,
   have_more b series now edits old mid i e answers.0 played l is answers.1,
   subst (λ (bytes : List ℕ). PutsFront old new bytes) (sym (bytes_behind b played.shown answers.0))
       (PutsFront-then old mid new _ _ played.put answers.2),
 )
-played_stops b series now edits old mid new i e stop.OutOfMemory played l is answers = (
+stops_at b series now edits old mid new i e stop.OutOfMemory played l is answers = (
   played.shown ++ answers.0,
   have_more b series now edits old mid i e answers.0 played l is answers.1,
   subst (λ (bytes : List ℕ). Appends old new bytes) (sym (bytes_behind b played.shown answers.0))
       (Appends-trans old mid new _ _ played.put answers.2),
 )
+
+-- of a session whose basin is still the same
+pub played_stops : (b c : Basin) (series now : Inflows) (edits : List Edit) (old mid new : Option (List ℕ)) (i : ℕ)
+    (e : Edit) (why : EditStop) → c ≡ b →
+    IsPlayed b series now edits old mid i → i < length edits → e ≡ get_or edits i e →
+    Answers c now (e ∷ []) (Err why) mid new → Answers b series edits (Err why) old new
+played_stops b c series now edits old mid new i e why same played l is answers =
+    stops_at b series now edits old mid new i e why played l is
+    (subst (λ (x : Basin). Answers x now (e ∷ []) (Err why) mid new) same answers)
 
 -- the pushes, by the cost of the lines to come
 pub costs_more : (edits : List Edit) (i : ℕ) (e : Edit) (kept kept_then p start before after whole : ℕ) →

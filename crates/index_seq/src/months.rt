@@ -2,7 +2,7 @@
 ghost use Rattle.std.specs.Prelude.{ℕ, ◌≡◌, ◌+◌, ◌*◌, ◌<◌, ◌≤◌, length, slice_index, IfOk, OnOk};
 ghost use Rattle.water_model.specs.Valid.{IsValidBasin, IsSeriesOf};
 ghost use Rattle.index_seq.specs.Sums.{IsUnderWay, IsEmptyYear, HaveSums};
-ghost use Rattle.index_seq.specs.Traces.{HasWholeYears, IsTurnOf, begun_after, years_of};
+ghost use Rattle.index_seq.specs.Traces.{HasWholeYears, IsTurnOf, years_of};
 ghost use Rattle.senior_hold.specs.MonthNetwork.{month_pushes};
 ghost use Rattle.month_fold.specs.Runs.{run_pushes};
 
@@ -34,8 +34,6 @@ fn run_month<L: Ledger>(
     year: &mut [u64],
     searches: &mut Steps<L>,
 )
-    requires basin { IsValidBasin basin.now }
-    requires begun { IsSeriesOf basin.now (begun_after series.now at.trace) }
     requires left { run.old.done < basin.now.months }
     requires under_way { IsUnderWay basin.now series.now at.trace at.years at.months run.old sums.now year.old }
     ensures done { run.new.done ≡ run.old.done + 1 }
@@ -57,8 +55,6 @@ fn run_year<L: Ledger>(
     year: &mut [u64],
     searches: &mut Steps<L>,
 )
-    requires basin { IsValidBasin basin.now }
-    requires begun { IsSeriesOf basin.now (begun_after series.now trace) }
     requires left { run.old.done + 12 ≤ basin.now.months }
     requires under_way { IsUnderWay basin.now series.now trace years 0 run.old sums.now year.old }
     ensures done { run.new.done ≡ run.old.done + 12 }
@@ -86,8 +82,6 @@ fn next_year<L: Ledger>(
     year: &mut [u64],
     searches: &mut Steps<L>,
 ) -> Result<(), AllocError>
-    requires basin { IsValidBasin basin.now }
-    requires begun { IsSeriesOf basin.now (begun_after series.now trace) }
     requires left { run.old.done + 12 ≤ basin.now.months }
     requires under_way { IsUnderWay basin.now series.now trace years 0 run.old sums.old year.old }
     ensures done { OnOk result (run.new.done ≡ run.old.done + 12) }
@@ -110,8 +104,6 @@ fn run_years<L: Ledger>(
     year: &mut [u64],
     searches: &mut Steps<L>,
 ) -> Result<(), AllocError>
-    requires basin { IsValidBasin basin.now }
-    requires begun { IsSeriesOf basin.now (begun_after series.now trace) }
     requires whole { HasWholeYears basin.now }
     requires first { run.old.done ≡ 0 }
     requires under_way { IsUnderWay basin.now series.now trace 0 0 run.old sums.old year.old }

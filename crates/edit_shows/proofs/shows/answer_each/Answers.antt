@@ -32,21 +32,23 @@ read_again [] i d e l = absurd (omega arith)
 read_again (x ∷ xs) zero d e l = refl
 read_again (x ∷ xs) (suc i) d e l = read_again xs i d e (omega arith)
 
-pub answer-requires-clause-placed : goal.answer-requires-clause-placed
-answer-requires-clause-placed g c =
+pub answer-requires : goal.answer-requires
+answer-requires g c =
     let l : c.loop-edit.edit-index < length c.args.edits.now = omega arith in
-    next_placed c.args.session.now.basin c.args.session.now.series c.loop-edit.session.series c.args.edits.now _ _
+    rw c.loop-edit.invariant.basin
+    (next_placed c.args.session.now.basin c.args.session.now.series c.loop-edit.session.series c.args.edits.now _ _
     c.loop-edit.edit-index (line_at c.args.edits.now c.loop-edit.edit-index)
-    c.loop-edit.invariant.played c.requires l (read_again c.args.edits.now c.loop-edit.edit-index _ _ l)
+    c.loop-edit.invariant.played c.requires l (read_again c.args.edits.now c.loop-edit.edit-index _ _ l))
 
 pub loop-edit-preserved : goal.loop-edit-preserved
 loop-edit-preserved g c =
     let l : c.loop-edit.edit-index < length c.args.edits.now = omega arith in
     record {
       basin = c.in_ok-answer.ensures.basin ∙ c.loop-edit.invariant.basin;
-      played = played_more c.args.session.now.basin c.args.session.now.series c.loop-edit.session.series
+      played = played_more c.args.session.now.basin c.loop-edit.session.basin c.args.session.now.series c.loop-edit.session.series
           c.answer.new.session.series c.args.edits.now _ _ _ c.loop-edit.edit-index
-          (line_at c.args.edits.now c.loop-edit.edit-index) _ c.loop-edit.invariant.played l
+          (line_at c.args.edits.now c.loop-edit.edit-index) _ c.loop-edit.invariant.basin
+          c.loop-edit.invariant.played l
           (read_again c.args.edits.now c.loop-edit.edit-index _ _ l)
           c.in_ok-answer.ensures.answers c.in_ok-answer.ensures.series;
       later = omega (arith, c.loop-edit.invariant.later, c.in_ok-answer.ensures.cause.later);
@@ -55,7 +57,7 @@ loop-edit-preserved g c =
           (month_pushes c.args.session.now.basin) c.args.searches.now c.loop-edit.searches c.answer.new.searches
           (cost_from (length c.args.session.now.kept) c.args.edits.now) l
           (read_again c.args.edits.now c.loop-edit.edit-index _ _ l) c.loop-edit.invariant.cost
-          c.in_ok-answer.ensures.pushes c.in_ok-answer.ensures.kept;
+          (rw c.loop-edit.invariant.basin at c.in_ok-answer.ensures.pushes) c.in_ok-answer.ensures.kept;
     }
 
 pub returns-in_err-answer-clause-answers : goal.returns-in_err-answer-clause-answers
@@ -63,9 +65,10 @@ returns-in_err-answer-clause-answers g c =
     let l : c.loop-edit.edit-index < length c.args.edits.now = omega arith in
     let p = err_from_is_err_and c.from_residual.result c.from_residual.ensures.1 in
     rw (p.1, p.2)
-    (played_stops c.args.session.now.basin c.args.session.now.series c.loop-edit.session.series c.args.edits.now _ _ _
+    (played_stops c.args.session.now.basin c.loop-edit.session.basin c.args.session.now.series c.loop-edit.session.series c.args.edits.now _ _ _
     c.loop-edit.edit-index
-    (line_at c.args.edits.now c.loop-edit.edit-index) c.in_err-answer.field-0.0 c.loop-edit.invariant.played l
+    (line_at c.args.edits.now c.loop-edit.edit-index) c.in_err-answer.field-0.0 c.loop-edit.invariant.basin
+    c.loop-edit.invariant.played l
     (read_again c.args.edits.now c.loop-edit.edit-index _ _ l)
     c.in_err-answer.ensures.answers)
 
@@ -76,4 +79,5 @@ returns-in_err-answer-clause-pushes g c =
     (length c.loop-edit.session.kept) (month_pushes c.args.session.now.basin)
     c.args.searches.now c.loop-edit.searches c.answer.new.searches
     (cost_from (length c.args.session.now.kept) c.args.edits.now) l
-    (read_again c.args.edits.now c.loop-edit.edit-index _ _ l) c.loop-edit.invariant.cost c.in_err-answer.ensures.pushes
+    (read_again c.args.edits.now c.loop-edit.edit-index _ _ l) c.loop-edit.invariant.cost
+    (rw c.loop-edit.invariant.basin at c.in_err-answer.ensures.pushes)

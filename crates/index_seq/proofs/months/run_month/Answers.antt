@@ -19,7 +19,8 @@ pub add_month-requires-clause-room : goal.add_month-requires-clause-room
 add_month-requires-clause-room g c =
     let u = c.requires.under_way in
     month_room c.args.basin.now c.args.series.now c.args.at.trace c.args.at.years c.args.at.months c.args.run.now
-    c.args.sums.now c.args.year.now c.month.result.now c.requires.basin c.requires.begun u
+    c.args.sums.now c.args.year.now c.month.result.now (rw (← u.basin) u.stands.valid)
+    (rw (← u.basin, ← u.fits) u.stands.fits) u
     (partial_next c.args.basin.now (begun_after c.args.series.now c.args.at.trace) c.step.new.self u.records
     c.month.result.now
     (c.step.ensures.basin ∙ u.basin) (c.step.ensures.series ∙ u.fits)

@@ -12,10 +12,6 @@ begin-run-requires g c =
     (subst (λ (s : Inflows). IsSeriesOf c.args.basin.now s) (sym c.turn_series.ensures.value)
     (begun_fits c.args.basin.now c.args.series.now c.args.trace c.requires.series c.requires.trace))
 
-pub run_years-requires-clause-begun : goal.run_years-requires-clause-begun
-run_years-requires-clause-begun g c =
-    begun_fits c.args.basin.now c.args.series.now c.args.trace c.requires.series c.requires.trace
-
 pub run_years-requires-clause-first : goal.run_years-requires-clause-first
 run_years-requires-clause-first g c = c.begin-run.ensures.stands.done
 
