@@ -1,10 +1,10 @@
 -- What a visit does to the tree.
-use Rattle.std.proofs.Common.{ℕ, Bool, true, false, ◌-◌, ◌%◌, ◌≡◌, ◌≢◌, ◌+◌, ◌*◌, ◌<◌, ◌≤◌, List, length, slice_index}
+use Rattle.std.proofs.Common.{ℕ, true, false, ◌-◌, ◌%◌, ◌≡◌, ◌≢◌, ◌+◌, ◌*◌, ◌<◌, ◌≤◌, List, length, slice_index}
 use Rattle.std.proofs.Common.{slice_set, refl, arith, sym, subst, inl, inr, ◌∙◌}
 use Rattle.std.proofs.lemmas.Bool.{cases_eq, eq-eqb, ne_eqb}
 use Rattle.std.proofs.lemmas.List.{get_or-set_other, get_or-set_same, length-set}
 use Rattle.circulation.specs.Contents.{Contents, network, flow_of, arcs, IsCirculation}
-use Rattle.circulation.specs.Residual.{arc_of, is_back, by_way, start_of, end_of, room_of}
+use Rattle.circulation.specs.Residual.{arc_of, is_back, start_of, end_of, room_of}
 use Rattle.augment.specs.Search.{node_at, step_at, HasTree, IsVisitedBy}
 use Rattle.augment.specs.Raised.{position_of}
 use Rattle.augment.proofs.Trees.{tree_next, grows_next, grows_none, start_within}
@@ -126,25 +126,6 @@ visited c d r least size more s node k t b l room seen fresh = elim (cases_eq (p
         reached = omega arith;
       })
 ]
-
--- a step over an arc other than r with room, from a node that was reached
-pub leads : (c : Contents) (r least via s node : ℕ) (back : Bool) → arc_of s ≡ via → is_back s ≡ back → via < arcs c →
-    via ≢ r → by_way back (slice_index c.to via) (slice_index c.from via) ≡ node →
-    0 < position_of c (by_way back (slice_index c.from via) (slice_index c.to via)) →
-    least ≤ by_way back (slice_index c.upper via - flow_of c via) (flow_of c via - slice_index c.lower via) →
-    LeadsTo c r least s node
-leads c r least via s node back is way b ne enters marked room =
-    let end = λ (t : Bool) (a : ℕ). by_way t (slice_index c.to a) (slice_index c.from a) ≡ node in
-    let start = λ (t : Bool) (a : ℕ). 0 < position_of c (by_way t (slice_index c.from a) (slice_index c.to a)) in
-    let enough = λ (t : Bool) (a : ℕ). least ≤ by_way t (slice_index c.upper a - flow_of c a)
-    (flow_of c a - slice_index c.lower a) in
-    record {
-      arc = omega arith;
-      other = λ e. ne (sym is ∙ e);
-      enters = subst (λ (t : Bool). end t (arc_of s)) (sym way) (subst (λ (a : ℕ). end back a) (sym is) enters);
-      marked = subst (λ (t : Bool). start t (arc_of s)) (sym way) (subst (λ (a : ℕ). start back a) (sym is) marked);
-      room = subst (λ (t : Bool). enough t (arc_of s)) (sym way) (subst (λ (a : ℕ). enough back a) (sym is) room);
-    }
 
 -- the arc of a forward step
 pub arc-forward : (a s : ℕ) → s ≡ 2 * a → arc_of s ≡ a

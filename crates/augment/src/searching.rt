@@ -6,8 +6,8 @@ ghost use Rattle.augment.specs.Search.{IsTried, IsExpanded, IsClosed, HasTree, I
 ghost use Rattle.augment.specs.Raised.{position_of, IsReached};
 
 use crate::scratch::{clear, position, visit, word};
-use crate::tracing::{arc_of_step, room};
 use circulation::Lent;
+use circulation::residual::{arc_of_step, room};
 
 /// Visits the node that a step enters, if the step has enough room and doesn't go over `arc`.
 fn try_step(circ: &mut Lent<'_>, arc: u32, least: u64, step: u64, end: u32, size: usize) -> usize

@@ -1,45 +1,13 @@
 //! The steps that a search goes over, and the closed walk along its tree.
 ghost use Rattle.std.specs.Prelude.{min, ◌≡◌, ℕ, ◌+◌, ◌*◌, ◌<◌, ◌≤◌, slice_index};
 ghost use Rattle.circulation.specs.Contents.{arcs, flow_of, network, step_of, IsCirculation};
-ghost use Rattle.circulation.specs.Residual.{arc_of, room_of, start_of, IsClosedWalk};
+ghost use Rattle.circulation.specs.Residual.{IsClosedWalk};
 ghost use Rattle.augment.specs.Search.{HasTree, SameButScratch};
 ghost use Rattle.augment.specs.Raised.{IsReached};
 
 use crate::scratch::{position, set_word, word};
 use circulation::Lent;
-
-/// The arc that a step goes over.
-pub fn arc_of_step(circ: &Lent<'_>, step: u64) -> u32
-    requires arc { arc_of step < arcs circ.now }
-    requires kept { IsCirculation circ.now }
-    ensures { result ≡ arc_of step }
-{
-    (step / 2) as u32
-}
-
-/// How much more a step can carry.
-pub fn room(circ: &Lent<'_>, step: u64) -> u64
-    requires arc { arc_of step < arcs circ.now }
-    requires kept { IsCirculation circ.now }
-    ensures { result ≡ room_of (network circ.now) (flow_of circ.now) step }
-{
-    let via = arc_of_step(circ, step);
-    if step % 2 == 1 {
-        circ.room(via, false)
-    } else {
-        circ.room(via, true)
-    }
-}
-
-/// The node that a step leaves.
-fn start(circ: &Lent<'_>, step: u64) -> u32
-    requires arc { arc_of step < arcs circ.now }
-    requires kept { IsCirculation circ.now }
-    ensures { result ≡ start_of (network circ.now) step }
-{
-    let ends = circ.ends(arc_of_step(circ, step));
-    if step % 2 == 1 { ends.to } else { ends.from }
-}
+use circulation::residual::{room, start};
 
 /// Where a walk begins among the scratch words, up to their end, and how much it can carry.
 #[derive(Clone, Copy)]

@@ -14,14 +14,6 @@ at_place n f q d below = get_or-map-range_with_len f 0 n q q d below (zero-add q
 count : {X : Type 0} (n : ℕ) (f : ℕ → X) → length (map f (range_with_len 0 n)) ≡ n
 count n f = length-map-range_with_len f 0 n
 
--- the same at each place
-pub each_same : {X : Type 0} (n : ℕ) (f g : ℕ → X) → ((q : ℕ) → q < n → g q ≡ f q) →
-    map g (range_with_len 0 n) ≡ map f (range_with_len 0 n)
-each_same n f g same =
-    same_lists (map g (range_with_len 0 n)) (map f (range_with_len 0 n)) (count n g ∙ sym (count n f)) (λ q d b.
-    let below : q < n = omega (arith, count n g) in
-    at_place n g q d below ∙ same q below ∙ sym (at_place n f q d below))
-
 -- another at one place
 pub one_changed : {X : Type 0} (n : ℕ) (f g : ℕ → X) (p : ℕ) → ((q : ℕ) → q < n → q ≢ p → g q ≡ f q) →
     map g (range_with_len 0 n) ≡ slice_set (map f (range_with_len 0 n)) p (g p)

@@ -10,7 +10,7 @@ use Rattle.std.proofs.lemmas.Grind.{get_or-set_at}
 use Rattle.std.proofs.lemmas.Nat.{shr-shr}
 use Rattle.std.proofs.lemmas.Nat.Bits.{bit_at-zero}
 use Rattle.bit_words.specs.Marks.{is_marked, marks}
-use Rattle.bit_words.proofs.Lists.{each_same, one_changed, all_one}
+use Rattle.bit_words.proofs.Lists.{one_changed, all_one}
 
 -- where only the bit of place p is changed in its word, the other places' marks stay
 pub others_stay : (words : List ℕ) (p x : ℕ) → p / 64 < length words →
@@ -53,11 +53,6 @@ length-marks n words = length-map-range_with_len (is_marked words) 0 n
 pub get_or-marks : (n : ℕ) (words : List ℕ) (p : ℕ) (d : Bool) → p < n →
     get_or (marks n words) p d ≡ is_marked words p
 get_or-marks n words p d below = get_or-map-range_with_len (is_marked words) 0 n p p d below (zero-add p)
-
--- words that mark the same of the places have the same marks
-pub marks_same : (n : ℕ) (xs ys : List ℕ) → ((q : ℕ) → q < n → is_marked ys q ≡ is_marked xs q) →
-    marks n ys ≡ marks n xs
-marks_same n xs ys same = each_same n (is_marked xs) (is_marked ys) same
 
 -- one more mark, or one less
 pub marks_one : (n : ℕ) (xs ys : List ℕ) (p : ℕ) (mark : Bool) → is_marked ys p ≡ mark →

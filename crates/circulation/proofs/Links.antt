@@ -2,10 +2,10 @@
 use Rattle.std.proofs.Common.{ℕ, ◌≡◌, ◌+◌, ◌-◌, ◌*◌, ◌<◌, ◌≤◌, List, length, slice_index, slice_set, arith, ap, sym}
 use Rattle.std.proofs.Common.{subst, inl, inr, ◌∙◌}
 use Rattle.std.proofs.lemmas.Bool.{cases_eq, cases_lt}
-use Rattle.std.proofs.lemmas.List.{get_or_append_left, get_or-append-add, get_or-set_same, get_or-set_other}
+use Rattle.std.proofs.lemmas.List.{get_or-set_same, get_or-set_other}
 use Rattle.std.proofs.lemmas.List.{length-append, length-map, length-set}
 use Rattle.circulation.specs.Places.{tail_of, head_of}
-use Rattle.circulation.specs.Chains.{IsNext, AreChains, tails_of, heads_of, keys_of}
+use Rattle.circulation.specs.Chains.{IsNext, tails_of, heads_of, keys_of}
 
 -- the turns from a on are chained
 pub record IsLinked (keys first next : List ℕ) (a : ℕ) : Type 0 where
@@ -79,42 +79,3 @@ link_next keys first next a k some within is inside sizes l =
 pub turns_are : (pairs : List ℕ) → length (keys_of pairs) ≡ 2 * length pairs
 turns_are pairs =
     omega (arith, length-append (tails_of pairs) (heads_of pairs), length-map pairs tail_of, length-map pairs head_of)
-
--- each key is a node
-pub keys_within : (pairs : List ℕ) (nodes : ℕ) → ((a : ℕ) → a < length pairs → slice_index (tails_of pairs) a ≤ nodes) →
-    ((a : ℕ) → a < length pairs → slice_index (heads_of pairs) a ≤ nodes) →
-    (a : ℕ) → a < length (keys_of pairs) → slice_index (keys_of pairs) a ≤ nodes
-keys_within pairs nodes from to a b =
-    let count = length-map pairs tail_of in
-    let all = turns_are pairs in
-    elim (cases_lt a (length pairs)) [
-      | inl less ↦
-          omega (
-            arith,
-            get_or_append_left (tails_of pairs) (heads_of pairs) 0 a (omega arith),
-            from a less,
-          )
-      | inr more ↦
-          let rest = a - length pairs in
-          let there : length (tails_of pairs) + rest ≡ a = omega arith in
-          omega (
-            arith,
-            ap (slice_index (keys_of pairs)) there,
-            get_or-append-add (tails_of pairs) (heads_of pairs) rest 0,
-            to rest (omega arith),
-          )
-    ]
-
--- all turns are chained
-pub chains_are : (pairs first next : List ℕ) (nodes : ℕ) → length first ≡ nodes + 1 →
-    length next ≡ 2 * length pairs →
-    ((v : ℕ) → v < length first → IsNext (keys_of pairs) v 0 (slice_index first v)) →
-    ((a : ℕ) → a < length (keys_of pairs) →
-    IsNext (keys_of pairs) (slice_index (keys_of pairs) a) (a + 1) (slice_index next a)) →
-    AreChains (keys_of pairs) nodes first next
-chains_are pairs first next nodes firsts nexts starts follows = record {
-  firsts = firsts;
-  nexts = omega (arith, nexts, turns_are pairs);
-  starts = λ v b. starts v (omega arith);
-  follows = follows;
-}

@@ -1,10 +1,9 @@
 -- A circulation that was just opened keeps its invariant.
 use Rattle.std.proofs.Common.{ℕ, Bool, true, false, ◌==◌, replicate, ◌≡◌, ◌≢◌, ◌+◌, ◌-◌, ◌*◌, ◌^◌, ◌<◌, ◌≤◌, List, ◌++◌}
 use Rattle.std.proofs.Common.{length, take, drop, slice_index, get_or, map, refl, arith, ap, sym, subst, ◌∙◌}
-use Rattle.std.proofs.Common.{append_assoc, take-append-drop, length-drop, length-take-le}
 use Rattle.std.specs.Prelude.{All}
 use Rattle.std.proofs.lemmas.Grind.{common_steps}
-use Rattle.std.proofs.lemmas.List.{get_or-map, length-map, get_or-replicate, length-append, replicate-append-replicate}
+use Rattle.std.proofs.lemmas.List.{get_or-map, length-map, get_or-replicate, replicate-append-replicate}
 use Rattle.circulation.specs.declared.Ends.{Ends}
 use Rattle.place_sums.specs.Sums.{when}
 use Rattle.circulation.specs.Network.{HasEnds, inflow, outflow}

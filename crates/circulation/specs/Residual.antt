@@ -26,6 +26,10 @@ start_of w s = by_way (is_back s) (w.from (arc_of s)) (w.to (arc_of s))
 abbrev pub end_of : Network → ℕ → ℕ
 end_of w s = by_way (is_back s) (w.to (arc_of s)) (w.from (arc_of s))
 
+-- the step over the same arc the other way
+abbrev pub opposite : ℕ → ℕ
+opposite s = by_way (is_back s) (s + 1) (s - 1)
+
 -- the residual capacity of a step: how much more it can carry
 abbrev pub room_of : Network → (ℕ → ℕ) → ℕ → ℕ
 room_of w g s = by_way (is_back s) (w.upper (arc_of s) - g (arc_of s)) (g (arc_of s) - w.lower (arc_of s))

@@ -1,9 +1,9 @@
 //! The words of a circulation that is opened.
 ghost use Rattle.std.specs.Prelude.{◌≡◌, ◌≢◌, ℕ, ◌+◌, ◌*◌, ◌-◌, ◌^◌, ◌<◌, ◌≤◌};
-ghost use Rattle.std.specs.Prelude.{All, length, map, take, drop, replicate, slice_index};
-ghost use Rattle.circulation.specs.Rows.{Rows, AreRows};
-ghost use Rattle.circulation.specs.Chains.{tails_of, heads_of, AreSmall};
-ghost use Rattle.circulation.specs.Places.{word_count, fixed_count, tails, heads, tail_of, head_of};
+ghost use Rattle.std.specs.Prelude.{All, length, take, drop, replicate, slice_index};
+ghost use Rattle.circulation.specs.Rows.{Rows};
+ghost use Rattle.circulation.specs.Chains.{tails_of, heads_of};
+ghost use Rattle.circulation.specs.Places.{word_count, fixed_count, tails, heads};
 ghost use Rattle.circulation.specs.Laid.{AreFixed, IsLaid};
 
 use crate::rows::make_rows;

@@ -9,7 +9,7 @@
 //! no call takes memory.
 #![tactic(auto)]
 
-ghost use Rattle.std.specs.Prelude.{IsTrue, ◌↔◌, ◌≡◌, ℕ, ◌+◌, ◌-◌, ◌*◌, ◌^◌, ◌<◌, ◌≤◌, ◌≢◌, List, length};
+ghost use Rattle.std.specs.Prelude.{IsTrue, ◌↔◌, ◌≡◌, ◌+◌, ◌-◌, ◌*◌, ◌^◌, ◌<◌, ◌≤◌, ◌≢◌, length};
 ghost use Rattle.std.specs.Prelude.{IfOk, OnOk, OnErr, All};
 ghost use Rattle.std.specs.Prelude.{◌++◌, drop, replicate};
 ghost use Rattle.circulation.specs.Contents.{Contents, empty_contents, month_contents, on_last, IsStart};
@@ -20,6 +20,7 @@ ghost use Rattle.word_region.specs.declared.Place.{Place};
 
 mod laying;
 mod lent;
+pub mod residual;
 mod rows;
 
 use crate::laying::lay;

@@ -2,7 +2,7 @@
 //!
 //! Rows are made once, in time linear in nodes and arcs: the steps are chained by the nodes that they leave, and each
 //! chain is then written down.
-ghost use Rattle.std.specs.Prelude.{◌≡◌, ◌++◌, ℕ, ◌+◌, ◌*◌, ◌^◌, ◌<◌, ◌≤◌, length, slice_index};
+ghost use Rattle.std.specs.Prelude.{◌≡◌, ℕ, ◌+◌, ◌*◌, ◌^◌, ◌<◌, ◌≤◌, length, slice_index};
 ghost use Rattle.circulation.specs.Residual.{arc_of, end_of};
 ghost use Rattle.circulation.specs.Rows.{over, AreRows};
 ghost use Rattle.circulation.specs.Chains.{turn_of, tails_of, heads_of, keys_of, IsNext, AreChains, IsPartRow};

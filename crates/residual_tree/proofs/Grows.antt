@@ -1,19 +1,17 @@
 -- Freed nodes are reached again.
-use Rattle.std.proofs.Common.{ℕ, ◌≢◌, ◌≡◌, ◌+◌, ◌-◌, ◌*◌, ◌<◌, ◌≤◌, ◌⊎◌, List, [], length, slice_index, slice_set, refl}
+use Rattle.std.proofs.Common.{ℕ, ◌≢◌, ◌≡◌, ◌+◌, ◌-◌, ◌*◌, ◌<◌, ◌≤◌, List, [], length, slice_index, slice_set, refl}
 use Rattle.std.proofs.Common.{arith, ap, sym, subst, inl, inr, ◌∙◌}
 use Rattle.std.proofs.lemmas.Bool.{cases_eq}
 use Rattle.std.proofs.lemmas.List.{get_or-set_other, get_or-set_same, length-set}
 use Rattle.circulation.specs.Contents.{Contents, network, flow_of, arcs, IsCirculation}
 use Rattle.circulation.specs.Residual.{arc_of, start_of, end_of, room_of}
 use Rattle.residual_tree.specs.declared.TheConstants.{ROOT}
-use Rattle.residual_tree.specs.Steps.{opposite}
 use Rattle.residual_tree.specs.Tree.{word_of, IsReached, IsResidualTree}
-use Rattle.residual_tree.specs.Growth.{Stands, none, only, no_step, IsFound, IsShut, IsFreeing, IsGrowing, IsWayIn}
+use Rattle.residual_tree.specs.Growth.{Stands, none, only, no_step, IsFreeing, IsGrowing}
 use Rattle.residual_tree.specs.Growth.{IsLentTree}
 use Rattle.residual_tree.proofs.Changes.{count_most, count_attached, stands_more, stands_here, stands_or}
 use Rattle.residual_tree.proofs.Changes.{stands_nowhere, IsLooseWay, tree_attach, tree_map}
 use Rattle.circulation.proofs.Scans.{end_within}
-use Rattle.residual_tree.proofs.Opposites.{opposite_is}
 use Rattle.residual_tree.proofs.Overs.{over_backward}
 
 -- nothing is in none
@@ -205,19 +203,6 @@ spreading_end c lent way queue done size node p tried = record {
   marked = p.state.marked;
   few = p.state.few;
 }
-
--- where all steps were tried, the tree is whole
-pub grown : (c : Contents) (lent : ℕ) (way queue : List ℕ) (done size : ℕ) → size ≤ done →
-    IsGrowing c lent way [] queue 0 0 done size → IsLentTree c way lent
-grown c lent way queue done size order g =
-    tree_map c way (only lent) none (Stands [] 0 0) (Stands queue done size)
-    (only lent) none none none g.tree
-    (λ u d m e o. inr o)
-    (λ u s d e b f o. o)
-    (λ s b r m o. elim o [
-      | inl free ↦ stands_nowhere [] 0 0 (end_of (network c) s) free (omega arith)
-      | inr raw ↦ stands_nowhere queue done size (start_of (network c) s) raw order
-    ])
 
 -- a tree in which no step is lent
 pub lent_none : (c : Contents) (way : List ℕ) → IsLentTree c way (no_step c) → IsResidualTree c way

@@ -3,7 +3,7 @@ use Rattle.std.proofs.Common.{ℕ, Bool, true, false, ◌≡◌, ◌+◌, ◌-�
 use Rattle.std.proofs.lemmas.Bool.{cases_Bool, eqb-true, eqb-false, eq-eqb, ne_eqb}
 use Rattle.circulation.specs.Network.{Network}
 use Rattle.circulation.specs.Residual.{arc_of, is_back, by_way, start_of, end_of}
-use Rattle.residual_tree.specs.Steps.{opposite}
+use Rattle.circulation.specs.Residual.{opposite}
 
 -- what is known of the step over the same arc the other way
 pub record IsOpposite (w : Network) (s t : ℕ) : Type 0 where

@@ -1,21 +1,17 @@
 -- Ways into freed nodes are found, and then taken.
-use Rattle.std.proofs.Common.{ℕ, ◌≢◌, ◌≡◌, ◌+◌, ◌-◌, ◌*◌, ◌<◌, ◌≤◌, ◌⊎◌, List, [], length, slice_index, slice_set, refl}
+use Rattle.std.proofs.Common.{ℕ, ◌≡◌, ◌+◌, ◌-◌, ◌<◌, ◌⊎◌, List, [], length, slice_index, slice_set}
 use Rattle.std.proofs.Common.{arith, ap, sym, subst, inl, inr, ◌∙◌}
 use Rattle.std.proofs.lemmas.Bool.{cases_eq}
-use Rattle.std.proofs.lemmas.List.{get_or-set_other, get_or-set_same, length-set}
-use Rattle.circulation.specs.Contents.{Contents, network, flow_of, arcs, IsCirculation}
+use Rattle.std.proofs.lemmas.List.{get_or-set_other, get_or-set_same}
+use Rattle.circulation.specs.Contents.{Contents, network, flow_of, arcs}
 use Rattle.circulation.specs.Residual.{arc_of, start_of, end_of, room_of}
-use Rattle.residual_tree.specs.declared.TheConstants.{ROOT}
-use Rattle.residual_tree.specs.Steps.{opposite}
-use Rattle.residual_tree.specs.Tree.{word_of, IsReached, IsResidualTree}
-use Rattle.residual_tree.specs.Growth.{Stands, none, only, no_step, IsFound, IsShut, IsFreeing, IsGrowing, IsWayIn}
-use Rattle.residual_tree.specs.Growth.{IsLentTree}
-use Rattle.residual_tree.proofs.Changes.{count_most, count_attached, stands_more, stands_here, stands_or}
-use Rattle.residual_tree.proofs.Changes.{stands_nowhere, IsLooseWay, tree_attach, tree_map}
-use Rattle.circulation.proofs.Scans.{end_within}
+use Rattle.circulation.specs.Residual.{opposite}
+use Rattle.residual_tree.specs.Tree.{word_of, IsReached}
+use Rattle.residual_tree.specs.Growth.{Stands, none, only, no_step, IsFound, IsShut, IsGrowing, IsWayIn}
+use Rattle.residual_tree.proofs.Changes.{stands_more, stands_here, stands_or}
+use Rattle.residual_tree.proofs.Changes.{stands_nowhere, tree_map}
 use Rattle.residual_tree.proofs.Opposites.{opposite_is}
-use Rattle.residual_tree.proofs.Overs.{over_backward}
-use Rattle.residual_tree.proofs.Grows.{IsLentWay, growing_attach, growing_room}
+use Rattle.residual_tree.proofs.Grows.{growing_attach, growing_room}
 
 -- where none of the steps that leave a node is a way in when turned, there is none
 pub shut_end : (c : Contents) (way : List ℕ) (v : ℕ) →
@@ -53,10 +49,6 @@ found_way c way v s word b starts m room is = record {
 -- what was found where there is no way
 pub found_none : (c : Contents) (way : List ℕ) (v : ℕ) → ((s : ℕ) → IsWayIn c way v s → ⊥) → IsFound c way v 0
 found_none c way v shut = record { none = λ e. shut; some = λ s e. absurd (omega (arith, e)) }
-
--- a way in has room
-pub way_lent : (c : Contents) (lent : ℕ) (way : List ℕ) (v s : ℕ) → IsWayIn c way v s → IsLentWay c lent way v s
-way_lent c lent way v s h = record { arc = h.arc; enters = h.enters; marked = h.marked; room = inl h.room }
 
 -- freed nodes are reached by the ways that were found when the words were those of `old`
 pub record IsSeeding (c : Contents) (old way freed queue found : List ℕ) (next count size : ℕ) : Type 0 where

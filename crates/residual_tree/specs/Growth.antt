@@ -4,7 +4,7 @@ use Rattle.residual_tree.specs.declared.TheConstants.{ROOT}
 use Rattle.place_sums.specs.Sums.{total, when}
 use Rattle.circulation.specs.Contents.{Contents, network, flow_of, arcs}
 use Rattle.circulation.specs.Residual.{arc_of, start_of, end_of, room_of}
-use Rattle.residual_tree.specs.Steps.{opposite}
+use Rattle.circulation.specs.Residual.{opposite}
 use Rattle.residual_tree.specs.Tree.{word_of, IsReached}
 
 -- x stands in the list at a place from `first` on and below `last`

@@ -1,4 +1,3 @@
-pub mod Steps
 pub mod Tree
 pub mod DryMarks
 pub mod TreeWords

@@ -9,9 +9,9 @@ ghost use Rattle.residual_tree.specs.Hanging.{HasSteps, IsHung, IsFreedNode};
 
 use crate::ROOT;
 use crate::hanging::find_near;
-use crate::residual::{end, room};
 use crate::words::Words;
 use circulation::Lent;
+use circulation::residual::{end, room};
 
 /// Frees the node that a step enters, where it is the step by which the node is reached. Takes and answers how many
 /// nodes were freed.

@@ -3,14 +3,14 @@ ghost use Rattle.std.specs.Prelude.{◌≡◌, true, false, ℕ, ◌+◌, ◌-�
 ghost use Rattle.std.specs.Prelude.{length, replicate, slice_index, slice_set};
 ghost use Rattle.circulation.specs.Contents.{arcs, flow_of, network, IsCirculation};
 ghost use Rattle.circulation.specs.Residual.{arc_of, room_of, end_of};
-ghost use Rattle.residual_tree.specs.Steps.{opposite};
+ghost use Rattle.circulation.specs.Residual.{opposite};
 ghost use Rattle.residual_tree.specs.Tree.{word_of, IsReached, IsResidualTree, dry};
 ghost use Rattle.residual_tree.specs.Growth.{no_step, IsFound, IsShut, IsFreeing, IsGrowing, IsLentTree};
 
 use crate::ROOT;
-use crate::residual::{room, turned};
 use crate::words::Words;
 use circulation::Lent;
+use circulation::residual::{opposite, room};
 
 /// Whether the opposite of a step to a node is a way into the node that the step leaves: it has room, and comes from a
 /// node that is reached.
@@ -27,7 +27,7 @@ pub fn is_way_back(circ: &Lent<'_>, way: &Words<'_>, step: u64, node: u32) -> bo
     if way.get(node) == 0 {
         return false;
     }
-    room(circ, turned(circ, step)) != 0
+    room(circ, opposite(circ, step)) != 0
 }
 
 /// One more than a step by which the outside reaches a node, or 0 where there is none.
@@ -40,7 +40,7 @@ fn find_way(circ: &Lent<'_>, way: &Words<'_>, node: u32) -> u64
     for place in circ.row_first(node)..circ.row_last(node) {
         let step = circ.step_at(place);
         if is_way_back(circ, way, step, circ.end_at(place)) {
-            return turned(circ, step) + 1;
+            return opposite(circ, step) + 1;
         }
     }
     0

@@ -4,16 +4,15 @@
 //!
 //! That is the adoption of orphans of Boykov and Kolmogorov (2004), as far as a short look goes.
 ghost use Rattle.std.specs.Prelude.{◌≡◌, true, ℕ, ◌+◌, ◌-◌, ◌<◌, ◌≤◌, length};
-ghost use Rattle.circulation.specs.Contents.{arcs, network, IsCirculation};
-ghost use Rattle.circulation.specs.Residual.{arc_of, start_of};
-ghost use Rattle.residual_tree.specs.Tree.{word_of, IsReached};
+ghost use Rattle.circulation.specs.Contents.{network, IsCirculation};
+ghost use Rattle.circulation.specs.Residual.{start_of};
 ghost use Rattle.residual_tree.specs.Growth.{IsWayIn};
 ghost use Rattle.residual_tree.specs.Hanging.{HasSteps, IsClear};
 
 use crate::growing::is_way_back;
-use crate::residual::{start, turned};
 use crate::words::Words;
 use circulation::Lent;
+use circulation::residual::{opposite, start};
 
 /// By how many steps, at most, a node is reached that is near.
 const NEAR: u32 = 2;
@@ -60,7 +59,7 @@ pub fn find_near(circ: &Lent<'_>, way: &Words<'_>, node: u32) -> u64
         let end = circ.end_at(place);
         if is_way_back(circ, way, step, end) {
             if is_near(circ, way, end, node) {
-                return turned(circ, step) + 1;
+                return opposite(circ, step) + 1;
             }
         }
     }

@@ -7,7 +7,7 @@
 //! All amounts are in units of 1,000 cubic metres. A tree lies in words that are borrowed: no call takes memory.
 #![tactic(auto)]
 
-ghost use Rattle.std.specs.Prelude.{◌≡◌, ℕ, ◌+◌, ◌-◌, ◌*◌, ◌<◌, ◌≤◌, ◌==◌, length, slice_index, replicate, IsTrue, ◌↔◌};
+ghost use Rattle.std.specs.Prelude.{◌≡◌, ℕ, ◌+◌, ◌-◌, ◌*◌, ◌<◌, ◌≤◌, ◌==◌, length, slice_index, IsTrue, ◌↔◌};
 ghost use Rattle.circulation.specs.Contents.{arcs, flow_of, step_of, held_contents, IsCirculation};
 ghost use Rattle.circulation.specs.Residual.{arc_of};
 ghost use Rattle.augment.specs.Search.{SameButScratch};
@@ -22,7 +22,6 @@ mod hanging;
 pub mod laws;
 mod parts;
 mod raising;
-mod residual;
 mod tracing;
 mod words;
 

@@ -6,8 +6,8 @@ ghost use Rattle.residual_tree.specs.Growth.{IsLent};
 ghost use Rattle.residual_tree.specs.Raised.{IsExit, IsFull, IsTraced};
 
 use crate::ResidualTree;
-use crate::residual::{room, start};
 use circulation::Lent;
+use circulation::residual::{room, start};
 
 /// Where a walk begins among the scratch words, up to their end, and how much it can carry.
 #[derive(Clone, Copy)]

@@ -5,10 +5,9 @@ use Rattle.std.specs.Prelude.{Vec, slice_set}
 use Rattle.std.specs.Vec.{with_items_from}
 use Rattle.std.proofs.lemmas.List.{length-append, length-take-le, length-drop, length-replicate, get_or-take}
 use Rattle.std.proofs.lemmas.List.{get_or_append_left, take-append-le, take-take, take-set-le, take_at, drop_at}
-use Rattle.std.proofs.lemmas.List.{drop-drop, drop-set-lt, drop-set-add}
-use Rattle.std.proofs.lemmas.List.Edits.{length-between, get_or-between}
+use Rattle.std.proofs.lemmas.List.{drop-drop, drop-set-lt}
+use Rattle.std.proofs.lemmas.List.Edits.{length-between}
 use Rattle.std.proofs.lemmas.Slice.{between_is}
-use Rattle.std.proofs.Math.Seq.{take-set-lt}
 use Rattle.word_region.specs.Words.{words_at, with_words, zeroed}
 use Rattle.word_region.specs.declared.Place.{Place}
 
@@ -23,11 +22,6 @@ at_is words place = between_is words place.from (place.from + place.len)
 pub length-words_at : (words : List ℕ) (place : Place) → place.from + place.len ≤ length words →
     length (words_at words place) ≡ place.len
 length-words_at words place fits = omega (arith, length-between words place.from (place.from + place.len) fits)
-
-pub get_or-words_at : (words : List ℕ) (place : Place) (at : ℕ) → at < place.len →
-    get_or (words_at words place) at 0 ≡ get_or words (place.from + at) 0
-get_or-words_at words place at within =
-    get_or-between words place.from (place.from + place.len) at 0 (omega arith)
 
 -- what stands in a Vec whose words were written through a `&mut`
 pub written_back : {Z : Type 0} (v : Vec ℕ Z) (from : ℕ) (new : List ℕ) → from ≤ length v.items →
@@ -62,12 +56,6 @@ words_at-set_other words place i x out = elim out [
       ∙ sym (at_is words place)
   | inr behind ↦ ap (take (place.from + place.len - place.from)) (drop-set-lt place.from words i x (omega arith))
 ]
-
-pub words_at-set : (words : List ℕ) (place : Place) (at x : ℕ) → at < place.len →
-    words_at (slice_set words (place.from + at) x) place ≡ slice_set (words_at words place) at x
-words_at-set words place at x within =
-    ap (take (place.from + place.len - place.from)) (drop-set-add place.from words at x)
-    ∙ take-set-lt (place.from + place.len - place.from) (drop place.from words) at x (omega arith)
 
 -- ---- some words
 

@@ -1,4 +1,4 @@
-use Rattle.std.proofs.Common.{ℕ, ◌≡◌, ◌+◌, ◌-◌, slice_set, arith, ap, refl, inl, ◌∙◌}
+use Rattle.std.proofs.Common.{◌≡◌, ◌+◌, ◌-◌, slice_set, arith, ap, refl, inl, ◌∙◌}
 use Rattle.residual_tree.proofs.freeing.hang_or_free.Goals as goal
 
 pub returns-then-word-ne0-clause-child : goal.returns-then-word-ne0-clause-child

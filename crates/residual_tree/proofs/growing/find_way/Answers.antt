@@ -24,8 +24,8 @@ is_way_back-requires c =
     c.end_at.ensures in
     record { arc = at.arc; node = at.end; inside = at.inside; words = c.requires.words; kept = c.requires.kept }
 
-pub turned-requires-clause-arc : goal.turned-requires-clause-arc
-turned-requires-clause-arc c =
+pub opposite-requires-clause-arc : goal.opposite-requires-clause-arc
+opposite-requires-clause-arc c =
     (scan_at c.args.circ.now c.args.node c.loop-place.place c.step_at-step.result c.end_at.result c.requires.kept
     c.requires.node (omega (arith, c.loop-place.auto.place, c.row_first-place.ensures.place))
     (omega (arith, c.loop-place-test.true, c.row_last-place-end.ensures.place)) c.step_at-step.ensures
@@ -45,7 +45,7 @@ returns-then-is_way_back c =
     c.end_at.ensures in
     let yes = c.is_way_back.ensures.yes c.if-is_way_back.true in
     found_way c.args.circ.now c.args.way.now c.args.node c.step_at-step.result _ at.arc at.start yes.0 yes.1
-    (ap (λ (n : ℕ). n + 1) c.turned.ensures)
+    (ap (λ (n : ℕ). n + 1) c.opposite.ensures)
 
 pub returns : goal.returns
 returns c = found_none c.args.circ.now c.args.way.now c.args.node

@@ -1,10 +1,10 @@
-use Rattle.std.proofs.Common.{ℕ, ◌≡◌, ◌+◌, arith, sym, subst, ◌∙◌}
+use Rattle.std.proofs.Common.{ℕ, ◌≡◌, arith, sym, subst, ◌∙◌}
 use Rattle.circulation.specs.Contents.{network}
 use Rattle.circulation.specs.Residual.{start_of}
 use Rattle.circulation.proofs.Scans.{scan_at}
 use Rattle.residual_tree.specs.Growth.{IsWayIn}
 use Rattle.residual_tree.specs.Hanging.{IsClear}
-use Rattle.residual_tree.specs.Steps.{opposite}
+use Rattle.circulation.specs.Residual.{opposite}
 use Rattle.residual_tree.proofs.Opposites.{opposite_is}
 use Rattle.residual_tree.proofs.Seeds.{way_in}
 use Rattle.residual_tree.proofs.hanging.find_near.Goals as goal
@@ -20,7 +20,7 @@ returns-then-is_near c = λ s e.
     (omega (arith, c.loop-place-test.true, c.row_last-place-end.ensures.place)) c.step_at-step.ensures
     c.end_at-end.ensures in
     let yes = c.is_way_back.ensures.yes c.if-is_way_back.true in
-    let is : opposite step ≡ s = omega (arith, e, c.turned.ensures) in
+    let is : opposite step ≡ s = omega (arith, e, c.opposite.ensures) in
     let starts = (opposite_is (network b) step).starts ∙ at.end in
     let clear = c.is_near.ensures c.if-is_near.true in (
       subst (λ (x : ℕ). IsWayIn b way v x) is (way_in b way v step at.arc at.start yes.0 yes.1),

@@ -1,13 +1,12 @@
-//! The steps of the residual network.
+//! The steps of the residual network, by their numbers.
 ghost use Rattle.std.specs.Prelude.{◌≡◌, true, false, ◌+◌, ◌-◌, ◌<◌};
 ghost use Rattle.circulation.specs.Contents.{arcs, flow_of, network, IsCirculation};
-ghost use Rattle.circulation.specs.Residual.{arc_of, room_of, start_of, end_of};
-ghost use Rattle.residual_tree.specs.Steps.{opposite};
+ghost use Rattle.circulation.specs.Residual.{arc_of, room_of, start_of, end_of, opposite};
 
-use circulation::Lent;
+use crate::lent::Lent;
 
 /// The arc that a step goes over.
-fn arc_of_step(circ: &Lent<'_>, step: u64) -> u32
+pub fn arc_of_step(circ: &Lent<'_>, step: u64) -> u32
     requires arc { arc_of step < arcs circ.now }
     requires kept { IsCirculation circ.now }
     ensures { result ≡ arc_of step }
@@ -50,7 +49,7 @@ pub fn end(circ: &Lent<'_>, step: u64) -> u32
 }
 
 /// The step over the same arc the other way.
-pub fn turned(circ: &Lent<'_>, step: u64) -> u64
+pub fn opposite(circ: &Lent<'_>, step: u64) -> u64
     requires arc { arc_of step < arcs circ.now }
     requires kept { IsCirculation circ.now }
     ensures { result ≡ opposite step }
