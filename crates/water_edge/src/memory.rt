@@ -1,5 +1,5 @@
 //! A shelf and a sink in memory, which fail where they are told to.
-ghost use Rattle.std.specs.Prelude.{◌≡◌, ◌+◌, ◌-◌, ◌^◌, ◌<◌, ◌≤◌, ◌↔◌, min, [], None, Some, ⊤, Contains, IfOk, IfSome};
+ghost use Rattle.std.specs.Prelude.{◌≡◌, ◌-◌, ◌^◌, ◌<◌, ◌≤◌, ◌↔◌, min, [], None, Some, ⊤, Contains, IfOk, IfSome};
 ghost use Rattle.std.specs.Prelude.{IsErr, IsErrOf, IsOk, IsTrue, OnOk, option_map, map, length, vec_len};
 ghost use Rattle.std.specs.Io.KnownBytes.{Keeps};
 ghost use Rattle.water_edge.specs.declared.shelf.ShelfRefused.TheVariants.{Failed, OutOfMemory};

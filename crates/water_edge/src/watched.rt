@@ -1,7 +1,6 @@
 //! A shelf that counts how often one of its files is asked for.
-ghost use Rattle.std.specs.Prelude.{◌≡◌, ◌≤◌, List, ℕ, Option, IfOk, IsErr, IsErrOf, length, vec_len, string_bytes};
-ghost use Rattle.water_edge.specs.declared.shelf.ShelfRefused.TheVariants.{Failed};
-ghost use Rattle.water_edge.specs.Edge.{AsksFor, HasCause, SameShelf, ReadsPart, ReadsWhole};
+ghost use Rattle.std.specs.Prelude.{◌≡◌, string_bytes};
+ghost use Rattle.water_edge.specs.Edge.{AsksFor};
 ghost use Rattle.water_edge.specs.Watched.{asked_of};
 
 use crate::{Shelf, ShelfRefused};

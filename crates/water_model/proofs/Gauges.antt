@@ -220,11 +220,3 @@ want_is_number b series right index r x at e cell =
     sym (get_or_from_slice_get series.want (index * length series.wanted + place_in series.wanted right) x 0 cell)
     ∙ sym (ap (λ o. unwrap_or (option_map (λ y. number_of b series right index y) o) 0) at
     ∙ ap (λ t. if t then table_at series.wanted series.want index right else slice_index r.want (in_year b index)) e)
-
--- and the number of a right that isn't in the series is that of the calendar month
-pub month_is_number : (b : Basin) (series : Inflows) (right index : ℕ) (r : Right) → slice_get b.rights right ≡ Some r →
-    r.series ≡ false →
-    slice_index r.want (in_year b index) ≡ of_entry b.rights right (λ y. number_of b series right index y) 0
-month_is_number b series right index r at e =
-    sym (ap (λ o. unwrap_or (option_map (λ y. number_of b series right index y) o) 0) at
-    ∙ ap (λ t. if t then table_at series.wanted series.want index right else slice_index r.want (in_year b index)) e)

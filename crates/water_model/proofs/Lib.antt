@@ -18,6 +18,7 @@ pub mod Histories
 pub mod Lists
 pub mod Outcome
 pub mod Returns
-pub mod Examples
+pub mod Worked
+mod Examples
 pub mod RiverRows
 pub mod Stays

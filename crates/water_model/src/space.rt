@@ -1,10 +1,11 @@
 //! The entries of a basin.
-ghost use Rattle.std.specs.Prelude.{◌≡◌, ◌<◌, Some, length, slice_get};
-ghost use Rattle.water_model.specs.Entries.{count_in, in_order};
+ghost use Rattle.std.specs.Prelude.{◌≡◌, ◌<◌, Some, slice_get};
+ghost use Rattle.water_model.specs.Entries.{count_in, in_order, name_in};
 ghost use Rattle.water_model.specs.Places.{seniors_first};
 ghost use Rattle.water_model.specs.Valid.{IsValidBasin};
 
 use crate::types::Basin;
+use water_text::name::Name;
 
 /// The entries of a basin that are numbered together, each list from 0.
 #[derive(Clone, Copy, Debug, PartialEq, Eq)]
@@ -26,6 +27,21 @@ pub fn count_in(space: Space, basin: &Basin) -> u32
         Space::Links => basin.links.len() as u32,
         Space::Reservoirs => basin.reservoirs.len() as u32,
         Space::Rights => basin.rights.len() as u32,
+    }
+}
+
+/// The name of an entry: of a reservoir that of its node.
+pub fn name_in(space: Space, basin: &Basin, entry: u32) -> &Name
+    requires basin { IsValidBasin basin.now }
+    requires entry { entry < count_in space basin.now }
+    ensures { result.now ≡ name_in space basin.now entry }
+{
+    let at = entry as usize;
+    match space {
+        Space::Nodes => &basin.nodes[at].name,
+        Space::Links => &basin.links[at].name,
+        Space::Reservoirs => &basin.nodes[basin.reservoirs[at].node as usize].name,
+        Space::Rights => &basin.rights[at].name,
     }
 }
 

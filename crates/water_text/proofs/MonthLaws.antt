@@ -11,7 +11,7 @@ use Rattle.std.proofs.lemmas.Bool.Decides.{nat_tests}
 use Rattle.std.proofs.lemmas.Fmt.{decimal_step, decimal_digit, digits_value-decimal, decimal-digits_value}
 use Rattle.std.proofs.lemmas.Str.{digit_value_digit}
 use Rattle.water_text.specs.declared.month.Month.{Month}
-use Rattle.water_text.specs.Months.{IsMonth, is_month, read_month, month_digits, month_after}
+use Rattle.water_text.specs.Months.{IsMonth, is_month, read_month, month_digits}
 use Rattle.water_text.specs.Shapes.{has_shape}
 use Rattle.water_text.proofs.Values.{numerals}
 use Rattle.water_text.proofs.ShapeLaws.{both, shape_length}
@@ -21,7 +21,7 @@ abbrev year_digits : ℕ → List ℕ
 year_digits y = (48 + y / 10 / 10 / 10) ∷ (48 + y / 10 / 10 % 10) ∷ (48 + y / 10 % 10) ∷ (48 + y % 10) ∷ []
 
 -- a number of four digits is spelled by them
-decimal_year : (y : ℕ) → 1000 ≤ y → y ≤ 9999 → decimal y ≡ year_digits y
+pub decimal_year : (y : ℕ) → 1000 ≤ y → y ≤ 9999 → decimal y ≡ year_digits y
 decimal_year y low high =
     decimal_step y (omega arith) (omega arith)
     ∙ ap (λ ds. ds ++ ((48 + y % 10) ∷ [])) (
@@ -217,34 +217,3 @@ month_is_read text m h =
         subst (λ (k : Month). IsMonthSpelling text k) same at
     by_tests false t shape within h = cc
     by_tests true false shape within h = cc
-
--- no month later is the month itself
-pub month_after-zero : (m : Month) → IsMonth m → month_after m 0 ≡ m
-month_after-zero m h =
-    same (m.year) (m.month) _ _ (omega (arith, h.month)) (omega (arith, h.month))
-  where
-    same : (y k y' k' : ℕ) → y' ≡ y → k' ≡ k →
-        (let a : Month = record { year = y'; month = k' } in let b : Month = record { year = y; month = k } in a ≡ b)
-    same y k y' k' e f = rw (e, f) refl
-
--- months later add up
-pub month_after-after : (m : Month) (i k : ℕ) → month_after (month_after m i) k ≡ month_after m (i + k)
-month_after-after m i k =
-    same _ _ _ _ (later m.year m.month i k) (place m.month i k)
-  where
-    later : (y n i k : ℕ) → y + (n - 1 + i) / 12 + ((n - 1 + i) % 12 + 1 - 1 + k) / 12 ≡ y + (n - 1 + (i + k)) / 12
-    later y n i k = omega arith
-
-    place : (n i k : ℕ) → ((n - 1 + i) % 12 + 1 - 1 + k) % 12 + 1 ≡ (n - 1 + (i + k)) % 12 + 1
-    place n i k = omega arith
-
-    same : (y n y' n' : ℕ) → y ≡ y' → n ≡ n' →
-        (let a : Month = record { year = y; month = n } in let b : Month = record { year = y'; month = n' } in a ≡ b)
-    same y n y' n' e f = rw (e, f) refl
-
--- a later month is within the range, if its year is
-pub month_after_is : (m : Month) (n : ℕ) → IsMonth m → (month_after m n).year ≤ 2999 → IsMonth (month_after m n)
-month_after_is m n h l = record {
-  year = (omega (arith, h.year), l);
-  month = (omega arith, omega arith);
-}

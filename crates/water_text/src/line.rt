@@ -1,7 +1,10 @@
 //! One line of text that is built piece by piece.
 ghost use Rattle.std.specs.Prelude.{◌≡◌, ◌+◌, ◌≤◌, ◌<◌, ◌==◌, [], ◌++◌, ◌∷◌, length};
 ghost use Rattle.std.specs.Fmt.{decimal};
+ghost use Rattle.water_text.specs.Months.{IsMonth, month_digits};
 
+use crate::month::Month;
+use crate::name::Name;
 use std::marker::Model;
 
 const ROOM: usize = 128;
@@ -73,7 +76,8 @@ impl Line {
     /// Appends bytes, which have to fit.
     pub fn word(&mut self, bytes: &[u8])
         requires { length self.old + length bytes.now ≤ 128 }
-        ensures { self.new ≡ self.old ++ bytes.now }
+        ensures text { self.new ≡ self.old ++ bytes.now }
+        ensures length { length self.new ≡ length self.old + length bytes.now }
     {
         for byte in bytes {
             self.push(*byte);
@@ -83,7 +87,9 @@ impl Line {
     /// Appends a number in decimal digits, at most 20, which have to fit.
     pub fn amount(&mut self, value: u64)
         requires { length self.old + length (decimal value) ≤ 128 }
-        ensures { self.new ≡ self.old ++ decimal value }
+        ensures text { self.new ≡ self.old ++ decimal value }
+        ensures length { length self.new ≡ length self.old + length (decimal value) }
+        ensures digits { length (decimal value) ≤ 20 }
     {
         let mut digits = [0u8; 20];
         let mut at = 20;
@@ -96,5 +102,45 @@ impl Line {
         at -= 1;
         digits[at] = b'0' + rest as u8;
         self.word(&digits[at..]);
+    }
+
+    /// Appends bytes behind a space.
+    pub fn add_word(&mut self, bytes: &[u8])
+        requires { length self.old + 1 + length bytes.now ≤ 128 }
+        ensures text { self.new ≡ self.old ++ 32 ∷ bytes.now }
+        ensures length { length self.new ≡ length self.old + 1 + length bytes.now }
+    {
+        self.word(b" ");
+        self.word(bytes);
+    }
+
+    /// Appends a number behind a space.
+    pub fn add_number(&mut self, value: u64)
+        requires { length self.old + 21 ≤ 128 }
+        ensures text { self.new ≡ self.old ++ 32 ∷ decimal value }
+        ensures length { length self.new ≤ length self.old + 21 }
+    {
+        self.word(b" ");
+        self.amount(value);
+    }
+
+    /// Appends a name behind a space.
+    pub fn add_name(&mut self, name: &Name)
+        requires { length self.old + 33 ≤ 128 }
+        ensures text { self.new ≡ self.old ++ 32 ∷ name.now }
+        ensures length { length self.new ≤ length self.old + 33 }
+    {
+        self.add_word(name.bytes());
+    }
+
+    /// Appends a month behind a space.
+    pub fn add_month(&mut self, month: Month)
+        requires room { length self.old + 8 ≤ 128 }
+        requires month { IsMonth month }
+        ensures text { self.new ≡ self.old ++ 32 ∷ month_digits month }
+        ensures length { length self.new ≡ length self.old + 8 }
+    {
+        self.word(b" ");
+        month.put_into(self);
     }
 }

@@ -95,7 +95,8 @@ impl Month {
     pub fn put_into(&self, line: &mut Line)
         requires month { IsMonth self.now }
         requires room { length line.old + 7 ≤ 128 }
-        ensures { line.new ≡ line.old ++ month_digits self.now }
+        ensures text { line.new ≡ line.old ++ month_digits self.now }
+        ensures length { length line.new ≡ length line.old + 7 }
     {
         line.amount(u64::from(self.year));
         line.word(b"-");

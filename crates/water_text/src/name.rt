@@ -74,9 +74,10 @@ impl Name {
         Name::copy_of(b"-")
     }
 
-    /// The bytes of the name.
+    /// The bytes of the name, at most 32.
     pub fn bytes(&self) -> &[u8]
-        ensures { result.now ≡ self.now }
+        ensures value { result.now ≡ self.now }
+        ensures short { length result.now ≤ 32 }
     {
         &self.bytes[..self.len as usize]
     }

@@ -1,6 +1,5 @@
 //! Texts of a fixed shape, as `dddd-dd` with a digit for each `d`.
-ghost use Rattle.std.specs.Prelude.{◌≡◌, ◌&&◌, ◌==◌, length};
-ghost use Rattle.std.specs.List.{list_all, zip};
+ghost use Rattle.std.specs.Prelude.{◌≡◌, ◌==◌};
 ghost use Rattle.water_text.specs.Shapes.{has_shape, fits_at};
 
 fn fits(pattern: u8, byte: u8) -> bool

@@ -1,5 +1,6 @@
-use Rattle.std.proofs.Common.{◌-◌, length, ap, arith, ◌∙◌, ◌++◌, ◌+◌, ◌%◌}
+use Rattle.std.proofs.Common.{ℕ, List, ◌-◌, length, ap, arith, ◌∙◌, ◌++◌, ◌+◌, ◌%◌}
 use Rattle.std.proofs.Math.ListN.{length-set}
+use Rattle.water_text.proofs.AmountLaws.{decimal_short}
 use Rattle.water_text.proofs.DecimalDigits.{further_digit, last_digit, less_by_ten}
 use Rattle.water_text.proofs.line.Line.amount.Goals as goal
 
@@ -25,9 +26,19 @@ word-requires c =
     (omega arith) i.spelled in
     omega (arith, ap length is)
 
-pub returns : goal.returns
-returns c =
+pub returns-clause-text : goal.returns-clause-text
+returns-clause-text c =
     let i = c.loop-rest.invariant in
     let is = last_digit c.loop-rest.digits c.loop-rest.at c.loop-rest.rest c.args.value i.whole i.some i.within
     (omega arith) i.spelled in
-    c.word.ensures ∙ ap (λ xs. c.args.self.now ++ xs) is
+    c.word.ensures.text ∙ ap (λ xs. c.args.self.now ++ xs) is
+
+pub returns-clause-length : goal.returns-clause-length
+returns-clause-length c =
+    let i = c.loop-rest.invariant in
+    let is = last_digit c.loop-rest.digits c.loop-rest.at c.loop-rest.rest c.args.value i.whole i.some i.within
+    (omega arith) i.spelled in
+    c.word.ensures.length ∙ ap (λ (xs : List ℕ). length c.args.self.now + length xs) is
+
+pub returns-clause-digits : goal.returns-clause-digits
+returns-clause-digits c = decimal_short c.args.value (omega arith)

@@ -1,23 +1,19 @@
-use Rattle.std.proofs.Common.{◌≤◌, length, ap, arith, length-append, ℕ}
+use Rattle.std.proofs.Common.{◌≡◌, ◌≤◌, ℕ, length, ap, arith}
 use Rattle.std.specs.Fmt.{decimal}
-use Rattle.std.proofs.lemmas.Fmt.{length-decimal-le}
+use Rattle.water_text.proofs.MonthLaws.{decimal_year}
 use Rattle.water_text.proofs.month.Month.put_into.Goals as goal
 
-short : (year : ℕ) → year ≤ 2999 → length (decimal year) ≤ 4
-short year h = length-decimal-le 4 year (omega arith) (omega arith) (omega arith)
+four : (year : ℕ) → 1000 ≤ year → year ≤ 9999 → length (decimal year) ≡ 4
+four year low high = ap length (decimal_year year low high)
 
 pub amount-requires : goal.amount-requires
-amount-requires c = omega (arith, short c.from.result (omega arith))
+amount-requires c = omega (arith, four c.from.result (omega arith) (omega arith))
 
 pub word-requires : goal.word-requires
-word-requires c = omega (arith, short c.from.result (omega arith), ap length c.amount.ensures, length-append {A = ℕ})
+word-requires c = omega (arith, four c.from.result (omega arith) (omega arith))
 
 pub word-requires-2 : goal.word-requires-2
-word-requires-2 c =
-    omega (
-      arith,
-      short c.from.result (omega arith),
-      ap length c.amount.ensures,
-      ap length c.word.ensures,
-      length-append {A = ℕ},
-    )
+word-requires-2 c = omega (arith, four c.from.result (omega arith) (omega arith))
+
+pub returns-clause-length : goal.returns-clause-length
+returns-clause-length c = omega (arith, four c.from.result (omega arith) (omega arith))
