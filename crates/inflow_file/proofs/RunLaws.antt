@@ -27,12 +27,6 @@ same_month_is m n h =
 pub same_month_itself : (m : Month) → is_same_month m m ≡ true
 same_month_itself m = rw (same_itself m.year, same_itself m.month) refl
 
--- a month by how many months it is behind another
-pub month_behind : (first m : Month) (i : ℕ) → IsMonth first → IsMonth m →
-    12 * m.year + m.month ≡ 12 * first.year + first.month + i → m ≡ month_after first i
-month_behind first m i h k e =
-    same_parts m (month_after first i) (omega (arith, h.month, k.month)) (omega (arith, h.month, k.month))
-
 pub number_after : (first : Month) (i : ℕ) → IsMonth first →
     12 * (month_after first i).year + (month_after first i).month ≡ 12 * first.year + first.month + i
 number_after first i h = omega (arith, h.month)

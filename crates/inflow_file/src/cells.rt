@@ -1,5 +1,5 @@
 //! The amounts that records give, column by column in each month of the run.
-ghost use Rattle.std.specs.Prelude.{◌≡◌, ◌++◌, ◌∷◌, [], ◌<◌, ◌≤◌, ◌+◌, ◌*◌, ◌/◌, ◌%◌, List, ℕ, length, map};
+ghost use Rattle.std.specs.Prelude.{◌≡◌, ◌++◌, ◌∷◌, [], ◌<◌, ◌≤◌, ◌+◌, ◌*◌, ◌/◌, ◌%◌, List, ℕ, length};
 ghost use Rattle.std.specs.Prelude.{slice_index, slice_index_or, is_some, unwrap_or, Some, None, MatchOption};
 ghost use Rattle.std.specs.Prelude.{MatchResult, IfOk, true, false};
 ghost use Rattle.water_text.specs.Months.{IsMonth};

@@ -1,11 +1,11 @@
 //! The columns of a series: the gauged nodes of a basin, and its rights whose wants stand in the series.
-ghost use Rattle.std.specs.Prelude.{◌≡◌, ℕ, ◌+◌, ◌<◌, ◌≤◌, ◌++◌, ◌∷◌, [], length, slice_index, filter, true, false};
-ghost use Rattle.std.specs.Prelude.{codes, if◌then◌else◌, IfOk, IfSome, OnOk};
+ghost use Rattle.std.specs.Prelude.{◌≡◌, ℕ, ◌+◌, ◌<◌, ◌≤◌, ◌++◌, ◌∷◌, [], length, slice_index, true, false};
+ghost use Rattle.std.specs.Prelude.{if◌then◌else◌, IfOk, IfSome, OnOk};
 ghost use Rattle.basin_names.specs.Named.{node_named, right_named};
 ghost use Rattle.csv.specs.Records.{fields_of};
 ghost use Rattle.water_model.specs.Hydrology.{place_in};
-ghost use Rattle.water_model.specs.Places.{numbers_from};
 ghost use Rattle.water_model.specs.Valid.{IsValidBasin, is_gauged, is_in_series, gauged_nodes, rights_in_series};
+ghost use Rattle.water_model.specs.declared.space.Space.TheVariants.{Nodes, Rights};
 ghost use Rattle.inflow_file.specs.Columns.{IsColumn, ArePlaces, column_numbers, count_of_both, is_column};
 ghost use Rattle.inflow_file.specs.CsvRecords.{with_kind};
 ghost use Rattle.inflow_file.specs.Entries.{IsEntry, column_of, gauge_of, read_record, wanted_of};
@@ -13,9 +13,10 @@ ghost use Rattle.inflow_file.specs.Entries.{IsEntry, column_of, gauge_of, read_r
 use crate::entry::Entry;
 use crate::records::{four_fields, three_fields};
 use crate::refused::SeriesFault;
-use basin_names::{NodeNames, RightNames};
+use basin_names::SpaceNames;
 use csv::ByteRecord;
 use std::alloc::{AllocError, Global};
+use water_model::space::Space;
 use water_model::types::{Basin, Inflow};
 use water_text::amount::read_amount;
 use water_text::month::Month;
@@ -32,13 +33,13 @@ struct Places {
 #[derive(Drop)]
 pub(crate) struct Columns<'a> {
     pub basin: &'a Basin,
-    nodes: NodeNames<'a>,
-    rights: RightNames<'a>,
+    nodes: SpaceNames<'a>,
+    rights: SpaceNames<'a>,
     pub numbers: Vec<u32>,
     places: Vec<u32>,
     ghost few: { count_of_both basin.now ≤ 4000 },
-    ghost node_names: { nodes.basin.now ≡ basin.now },
-    ghost right_names: { rights.basin.now ≡ basin.now },
+    ghost node_names: { (nodes.basin.now ≡ basin.now) × (nodes.space ≡ Nodes) },
+    ghost right_names: { (rights.basin.now ≡ basin.now) × (rights.space ≡ Rights) },
     ghost columns_are: { numbers.items ≡ column_numbers basin.now },
     ghost count: { length places.items ≡ count_of_both basin.now },
     ghost placed: { (n : ℕ) → n < count_of_both basin.now → is_column basin.now n ≡ true →
@@ -163,8 +164,8 @@ impl<'a> Columns<'a> {
         requires { IsValidBasin basin.now }
         ensures { IfOk result (λ columns. columns.basin.now ≡ basin.now) }
     {
-        let nodes = NodeNames::of(alloc, basin)?;
-        let rights = RightNames::of(alloc, basin)?;
+        let nodes = SpaceNames::of(alloc, Space::Nodes, basin)?;
+        let rights = SpaceNames::of(alloc, Space::Rights, basin)?;
         let Places { numbers, of_number } = places_of(alloc, basin)?;
         Ok(Columns {
             basin,

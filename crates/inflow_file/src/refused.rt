@@ -1,5 +1,5 @@
 //! Why a series is refused.
-ghost use Rattle.std.specs.Prelude.{◌≡◌};
+ghost use Rattle.std.specs.Prelude.{◌≡◌, ◌≤◌, length};
 ghost use Rattle.inflow_file.specs.FaultNames.{fault_name};
 ghost use Rattle.inflow_file.specs.declared.refused.SeriesRefused.TheVariants.{OutOfMemory};
 
@@ -37,7 +37,8 @@ impl SeriesFault {
     /// The word for the fault, as lines of refusal write it.
     #[tactic(auto, unfolding(crate::specs::FaultNames::fault_name))]
     pub fn name(&self) -> &'static str
-        ensures { result.now ≡ fault_name self.now }
+        ensures value { result.now ≡ fault_name self.now }
+        ensures short { length result.now ≤ 16 }
     {
         match self {
             SeriesFault::Csv => "Csv",

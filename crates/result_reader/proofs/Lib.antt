@@ -22,4 +22,3 @@ pub mod OneReading
 mod Examples
 pub mod TextForm
 pub mod Histories
-pub mod SmallBasin

@@ -15,9 +15,7 @@ use Rattle.water_text.specs.Amounts.{read_plain}
 use Rattle.water_text.specs.Months.{IsMonth, month_digits}
 use Rattle.water_text.specs.Names.{is_name}
 use Rattle.water_text.specs.declared.month.Month.{Month}
-use Rattle.water_model.proofs.Order.{find-passes, numbers_from-below}
 use Rattle.water_model.specs.Entries.{count_in, name_in}
-use Rattle.water_model.specs.Places.{numbers_from}
 use Rattle.water_model.specs.Quantities.{space_of}
 use Rattle.water_model.specs.Spelling.{fields_of, line_of}
 use Rattle.water_model.specs.declared.item.Item.{Item}
@@ -25,7 +23,8 @@ use Rattle.water_model.specs.declared.item.Item.TheVariants as line
 use Rattle.water_model.specs.declared.space.Space.{Space}
 use Rattle.water_model.specs.declared.space.Space.TheVariants as space
 use Rattle.water_model.specs.declared.types.Basin.{Basin}
-use Rattle.result_reader.specs.Names.{named}
+use Rattle.basin_names.specs.Named.{named}
+use Rattle.basin_names.proofs.Names.{named_is}
 use Rattle.result_reader.specs.OfText.{IsOfText}
 use Rattle.result_reader.specs.Reading.{pieces_of, and_then, no_field, one_field, two_fields, three_fields, name_field}
 use Rattle.result_reader.specs.Reading.{month_field, amount_field, count_field, entry_named, item_with, item_in}
@@ -115,11 +114,7 @@ month_field-Ok field m h =
 entry_named-Ok : (b : Basin) (space : Space) (name : List ℕ) (at : ℕ) → entry_named b space name ≡ Ok at →
     (name ≡ name_in space b at) × (at < count_in space b)
 entry_named-Ok b space name at h =
-    let f = find-passes (λ at. bytes_eq name (name_in space b at)) (numbers_from 0 (count_in space b)) at
-    (ok_or-Ok (named b space name) bad.OutOfPlace at h) in (
-      (bytes_eq-Decides name (name_in space b at)).0 f.0,
-      omega (arith, (numbers_from-below 0 (count_in space b) at f.1).1),
-    )
+    let n = named_is b space name at (ok_or-Ok (named b space name) bad.OutOfPlace at h) in (sym n.0, n.1)
 
 -- Word by word.
 

@@ -29,7 +29,8 @@ use Rattle.result_reader.specs.OfText.{IsOfText}
 use Rattle.result_reader.specs.Reading.{pieces_of, count_field, item_with, item_in, item_of}
 use Rattle.result_reader.specs.Words.{word_of}
 use Rattle.result_reader.specs.declared.words.Word.TheVariants as word
-use Rattle.result_reader.proofs.NameLaws.{name_is, named-at}
+use Rattle.basin_names.proofs.Names.{named-at}
+use Rattle.result_reader.proofs.NameLaws.{name_is}
 
 -- bytes without a byte: a space, or a line feed
 abbrev pub lacks : ℕ → List ℕ → Bool

@@ -2,8 +2,6 @@ pub mod Form
 pub mod Due
 pub mod Marks
 pub mod Progress
-pub mod Names
-pub mod NamePlaces
 pub mod Words
 pub mod Reading
 pub mod OfText

@@ -15,8 +15,8 @@ use Rattle.water_model.specs.declared.item.Item.TheVariants as line
 use Rattle.water_model.specs.declared.space.Space.{Space}
 use Rattle.water_model.specs.declared.space.Space.TheVariants as space
 use Rattle.water_model.specs.declared.types.Basin.{Basin}
+use Rattle.basin_names.specs.Named.{named}
 use Rattle.result_reader.specs.Due.{due_after, all_due}
-use Rattle.result_reader.specs.Names.{named}
 use Rattle.result_reader.specs.Words.{word_of}
 use Rattle.result_reader.specs.declared.bad_line.BadLine.{BadLine}
 use Rattle.result_reader.specs.declared.bad_line.BadLine.TheVariants as bad

@@ -1,77 +1,26 @@
 //! Names, and what they name.
-ghost use Rattle.std.specs.Prelude.{◌≡◌, ◌<◌, List, ℕ, true, OnOk, IfOk, Some, None, if◌then◌else◌};
-ghost use Rattle.std.specs.Option.{option_or};
-ghost use Rattle.std.specs.Str.{bytes_eq};
+ghost use Rattle.std.specs.Prelude.{◌≡◌, ◌<◌, true, IfOk, Some};
 ghost use Rattle.water_model.specs.Valid.{IsValidBasin};
-ghost use Rattle.water_model.specs.Entries.{count_in, name_in};
 ghost use Rattle.water_model.specs.declared.space.Space.TheVariants.{Nodes, Links, Reservoirs, Rights};
-ghost use Rattle.result_reader.specs.Names.{named};
-ghost use Rattle.result_reader.specs.NamePlaces.{KeepsNames};
+ghost use Rattle.basin_names.specs.Named.{named};
 
-use first_places::add_place;
-use indexmap::IndexMap;
+use basin_names::SpaceNames;
 use std::alloc::{AllocError, Global};
-use water_model::space::{Space, count_in};
+use water_model::space::{Space, count_in, name_in};
 use water_model::types::Basin;
-
-/// The name of an entry.
-fn name_in<'b>(space: Space, basin: &'b Basin, at: usize) -> &'b [u8]
-    requires basin { IsValidBasin basin.now }
-    requires at { at < count_in space basin.now }
-    ensures { result.now ≡ name_in space basin.now at }
-{
-    match space {
-        Space::Nodes => basin.nodes[at].name.bytes(),
-        Space::Links => basin.links[at].name.bytes(),
-        Space::Reservoirs => basin.nodes[basin.reservoirs[at].node as usize].name.bytes(),
-        Space::Rights => basin.rights[at].name.bytes(),
-    }
-}
-
-/// The place of each name of a space.
-fn places_of<'b>(
-    alloc: Global,
-    space: Space,
-    basin: &'b Basin,
-) -> Result<IndexMap<&'b [u8], u32>, AllocError>
-    requires { IsValidBasin basin.now }
-    ensures { IfOk result (λ places. KeepsNames places basin.now space) }
-{
-    let mut places = IndexMap::new(alloc);
-    let count = count_in(space, basin);
-    for at in 0..count {
-        add_place(&mut places, name_in(space, basin, at as usize), at)?;
-    }
-    Ok(places)
-}
-
-/// The place of each name of one space, and those of another.
-fn both_of<'b>(
-    alloc: Global,
-    first: Space,
-    second: Space,
-    basin: &'b Basin,
-) -> Result<(IndexMap<&'b [u8], u32>, IndexMap<&'b [u8], u32>), AllocError>
-    requires { IsValidBasin basin.now }
-    ensures first { IfOk result (λ both. KeepsNames both.0 basin.now first) }
-    ensures second { IfOk result (λ both. KeepsNames both.1 basin.now second) }
-{
-    let places = places_of(alloc, first, basin)?;
-    Ok((places, places_of(alloc, second, basin)?))
-}
 
 /// The names of a basin's entries, with the place of each in its space.
 #[derive(Drop)]
 pub struct Names<'b> {
     pub basin: &'b Basin,
-    nodes: IndexMap<&'b [u8], u32>,
-    links: IndexMap<&'b [u8], u32>,
-    reservoirs: IndexMap<&'b [u8], u32>,
-    rights: IndexMap<&'b [u8], u32>,
-    ghost nodes_kept: { KeepsNames nodes basin.now Nodes },
-    ghost links_kept: { KeepsNames links basin.now Links },
-    ghost reservoirs_kept: { KeepsNames reservoirs basin.now Reservoirs },
-    ghost rights_kept: { KeepsNames rights basin.now Rights },
+    nodes: SpaceNames<'b>,
+    links: SpaceNames<'b>,
+    reservoirs: SpaceNames<'b>,
+    rights: SpaceNames<'b>,
+    ghost of_nodes: { (nodes.basin.now ≡ basin.now) × (nodes.space ≡ Nodes) },
+    ghost of_links: { (links.basin.now ≡ basin.now) × (links.space ≡ Links) },
+    ghost of_reservoirs: { (reservoirs.basin.now ≡ basin.now) × (reservoirs.space ≡ Reservoirs) },
+    ghost of_rights: { (rights.basin.now ≡ basin.now) × (rights.space ≡ Rights) },
 }
 
 impl<'b> Names<'b> {
@@ -80,9 +29,10 @@ impl<'b> Names<'b> {
         requires { IsValidBasin basin.now }
         ensures { IfOk result (λ names. names.basin.now ≡ basin.now) }
     {
-        let network = both_of(alloc, Space::Nodes, Space::Links, basin)?;
-        let (reservoirs, rights) = both_of(alloc, Space::Reservoirs, Space::Rights, basin)?;
-        let (nodes, links) = network;
+        let nodes = SpaceNames::of(alloc, Space::Nodes, basin)?;
+        let links = SpaceNames::of(alloc, Space::Links, basin)?;
+        let reservoirs = SpaceNames::of(alloc, Space::Reservoirs, basin)?;
+        let rights = SpaceNames::of(alloc, Space::Rights, basin)?;
         Ok(Names {
             basin,
             nodes,
@@ -97,7 +47,7 @@ impl<'b> Names<'b> {
         requires { IsValidBasin self.now.basin.now }
         ensures { result ≡ true → named self.now.basin.now space name.now ≡ Some at }
     {
-        at < count_in(space, self.basin) && name_in(space, self.basin, at as usize) == name
+        at < count_in(space, self.basin) && name_in(space, self.basin, at).bytes() == name
     }
 
     /// The place of the entry that has the name, or `None` where none has it, by a look-up in the map.
@@ -105,10 +55,10 @@ impl<'b> Names<'b> {
         ensures { result ≡ named self.now.basin.now space name.now }
     {
         match space {
-            Space::Nodes => self.nodes.get(name).copied(),
-            Space::Links => self.links.get(name).copied(),
-            Space::Reservoirs => self.reservoirs.get(name).copied(),
-            Space::Rights => self.rights.get(name).copied(),
+            Space::Nodes => self.nodes.named(name),
+            Space::Links => self.links.named(name),
+            Space::Reservoirs => self.reservoirs.named(name),
+            Space::Rights => self.rights.named(name),
         }
     }
 

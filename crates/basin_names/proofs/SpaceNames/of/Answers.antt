@@ -4,8 +4,8 @@ use Rattle.std.specs.Str.{bytes_eq}
 use Rattle.water_model.specs.Places.{numbers_from}
 use Rattle.water_model.specs.Entries.{name_in}
 use Rattle.first_places.specs.Places.{place_at}
-use Rattle.result_reader.proofs.NameLaws.{found-more, kept-none}
-use Rattle.result_reader.proofs.names.places_of.Goals as goal
+use Rattle.basin_names.proofs.Names.{found-more, kept-none}
+use Rattle.basin_names.proofs.SpaceNames.of.Goals as goal
 
 pub loop-at-init : goal.loop-at-init
 unfolding numbers_from
@@ -18,4 +18,4 @@ loop-at-preserved c = λ q.
     (c.loop-at.invariant q)
     (c.in_ok-add_place.ensures.added q
     ∙ ap (λ name. option_or (place_at c.loop-at.places q) (if bytes_eq q name then Some c.loop-at.at else None))
-    c.name_in.ensures)
+    (c.bytes.ensures.value ∙ c.name_in.ensures))
