@@ -5,7 +5,7 @@ use Rattle.std.proofs.Common.{arith, option_to_list}
 use Rattle.std.proofs.lemmas.Bool.{cases_Bool, and_parts, not-false}
 use Rattle.std.proofs.lemmas.Bool.Decides.{nat_tests}
 use Rattle.std.specs.Option.{option_map_or}
-use Rattle.toml.specs.Data.{Data, Items, no_items, item, Members, get, get_item, get_member, as_str, as_table}
+use Rattle.toml.specs.Data.{Data, Items, no_items, item, Members, get_item, get_member, as_str, as_table}
 use Rattle.toml.specs.Data as toml
 use Rattle.toml_tree.specs.Items.{items_all, items_len}
 use Rattle.first_places.specs.Places.{first_from}

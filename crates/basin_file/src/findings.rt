@@ -1,5 +1,5 @@
 //! The faults as which the network, the rights and the area tables of a basin are refused.
-ghost use Rattle.std.specs.Prelude.{◌≡◌, ◌+◌, ◌≤◌, ◌<◌, ◌^◌, take, count_by, length};
+ghost use Rattle.std.specs.Prelude.{◌≡◌, ◌+◌, ◌<◌, take, count_by};
 ghost use Rattle.water_model.specs.Lookups.{of_entry};
 ghost use Rattle.basin_tree.specs.Entries.{found};
 ghost use Rattle.basin_file.specs.BasinFaults.{net_finding, table_of, is_in_table, right_found, roll_finding};

@@ -1,8 +1,8 @@
 //! The table of format 2 that stands for a basin.
-ghost use Rattle.std.specs.Prelude.{◌≡◌, ◌<◌, ◌≤◌, ◌^◌, ◌+◌, ◌++◌, ◌∷◌, [], length, map, codes, true, All, IfOk, OnOk};
+ghost use Rattle.std.specs.Prelude.{◌≡◌, ◌<◌, ◌≤◌, ◌^◌, ◌+◌, length, map, codes, true, All, IfOk, OnOk};
 ghost use Rattle.std.specs.Prelude.{Some, None, option_map, option_to_list, string_bytes};
 ghost use Rattle.std.specs.Str.{IsAscii};
-ghost use Rattle.toml.specs.Data.{string, boolean, array, table, Members};
+ghost use Rattle.toml.specs.Data.{string, array, table, Members};
 ghost use Rattle.toml.specs.View.{view, table_view, items_view, items_of};
 ghost use Rattle.toml_tree.specs.Document.{document_of};
 ghost use Rattle.water_text.specs.Days.{is_date};

@@ -1,5 +1,5 @@
 //! Names of a letter and a number.
-ghost use Rattle.std.specs.Prelude.{◌≡◌, ◌≤◌, ◌∷◌, [], ◌++◌, true};
+ghost use Rattle.std.specs.Prelude.{◌≡◌, ◌∷◌, [], ◌++◌, true};
 ghost use Rattle.std.specs.Fmt.{decimal};
 ghost use Rattle.water_text.specs.Names.{is_name_byte};
 

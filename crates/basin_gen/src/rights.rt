@@ -1,5 +1,5 @@
 //! Single rights and return rows.
-ghost use Rattle.std.specs.Prelude.{◌≡◌, ◌+◌, ◌-◌, ◌<◌, ◌≤◌};
+ghost use Rattle.std.specs.Prelude.{◌≡◌, ◌+◌, ◌-◌, ◌≤◌};
 ghost use Rattle.basin_gen.specs.Draws.{next, drawn, later};
 ghost use Rattle.basin_gen.specs.Entries.{right_of, diversion_at, instream_at, return_at};
 

@@ -1,5 +1,5 @@
 //! A document, and where the entries stand that its names name.
-ghost use Rattle.std.specs.Prelude.{◌≡◌, [], codes, IfOk, option_map, if◌then◌else◌};
+ghost use Rattle.std.specs.Prelude.{◌≡◌, [], codes, IfOk};
 ghost use Rattle.toml.specs.View.{table_view, items_view};
 ghost use Rattle.first_places.specs.Places.{place_at};
 ghost use Rattle.toml_tree.specs.FirstPlaces.{KeepsPlaces, earlier_from};

@@ -1,5 +1,5 @@
 //! The faults that a basin file can have.
-ghost use Rattle.std.specs.Prelude.{◌≡◌};
+ghost use Rattle.std.specs.Prelude.{◌≡◌, ◌≤◌, length};
 ghost use Rattle.basin_tree.specs.Faults.{fault_name};
 
 /// Why a file is no basin that can be run. The faults are looked for in this order.
@@ -55,7 +55,8 @@ impl BasinFault {
     /// The word for the fault, as lines of refusal write it.
     #[tactic(auto, unfolding(crate::specs::Faults::fault_name))]
     pub fn name(&self) -> &'static str
-        ensures { result.now ≡ fault_name self.now }
+        ensures value { result.now ≡ fault_name self.now }
+        ensures short { length result.now ≤ 16 }
     {
         match self {
             BasinFault::Toml => "Toml",

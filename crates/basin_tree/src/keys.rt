@@ -5,11 +5,10 @@ ghost use Rattle.std.specs.Option.{option_map_or};
 ghost use Rattle.std.specs.Str.{bytes_eq};
 ghost use Rattle.std.specs.BTreeMap.{keys as map_keys};
 ghost use Rattle.toml.specs.Data.{Data, Members, get_member, as_array};
-ghost use Rattle.toml.specs.View.{view, table_view, items_view};
+ghost use Rattle.toml.specs.View.{view, table_view};
 ghost use Rattle.toml_tree.specs.Items.{items_len};
 ghost use Rattle.basin_tree.specs.Documents.{tree_of};
 ghost use Rattle.basin_tree.specs.declared.tables.Kind.{Kind};
-ghost use Rattle.basin_tree.specs.Tables.{keys_of};
 ghost use Rattle.basin_tree.specs.KeyFaults.{unknown_key, missing_key, lacks_key, has_no_nodes, shuts_no_canal};
 ghost use Rattle.basin_tree.specs.KeyFaults.{any_value};
 

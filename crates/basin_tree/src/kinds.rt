@@ -1,5 +1,5 @@
 //! Values of the wrong kind.
-ghost use Rattle.std.specs.Prelude.{◌≡◌, nat_le, ◌==◌, ◌&&◌, not, false, is_some, codes, length};
+ghost use Rattle.std.specs.Prelude.{◌≡◌, ◌==◌, ◌&&◌, not, false, is_some, codes, length};
 ghost use Rattle.std.specs.List.{list_all};
 ghost use Rattle.std.specs.Option.{option_map_or};
 ghost use Rattle.std.specs.Str.{bytes_eq};
@@ -8,7 +8,6 @@ ghost use Rattle.toml.specs.View.{view};
 ghost use Rattle.water_text.specs.Shapes.{has_shape};
 ghost use Rattle.toml_tree.specs.Items.{items_all};
 ghost use Rattle.basin_tree.specs.Kinds.{has_kind, is_whole, is_listed, is_monthly, is_text, is_want, is_whole_list};
-ghost use Rattle.basin_tree.specs.Documents.{tree_of};
 ghost use Rattle.basin_tree.specs.KeyFaults.{format_of, wrong_kind};
 
 use crate::document::Document;

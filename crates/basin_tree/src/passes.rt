@@ -1,6 +1,5 @@
 //! The faults of a document in their order.
 ghost use Rattle.std.specs.Prelude.{◌≡◌};
-ghost use Rattle.toml.specs.View.{table_view};
 ghost use Rattle.basin_tree.specs.Documents.{tree_of};
 ghost use Rattle.basin_tree.specs.Order.{tree_fault};
 

@@ -5,7 +5,6 @@ ghost use Rattle.std.specs.Option.{option_map_or};
 ghost use Rattle.toml.specs.Data.{as_array, as_str};
 ghost use Rattle.toml.specs.View.{view, table_view, items_view};
 ghost use Rattle.water_text.specs.Months.{read_month};
-ghost use Rattle.toml_tree.specs.Items.{items_all};
 ghost use Rattle.basin_tree.specs.Ranges.{number_in, listed_in, numbers_in, pair_in, points_in, in_range, ends_late};
 ghost use Rattle.basin_tree.specs.KeyFaults.{out_of_range, runs_late};
 

@@ -1,5 +1,5 @@
 //! The tables of a basin file and their keys.
-ghost use Rattle.std.specs.Prelude.{◌≡◌, map};
+ghost use Rattle.std.specs.Prelude.{◌≡◌, ◌≤◌, length, map};
 ghost use Rattle.basin_tree.specs.Tables.{row_of, keys_of, table_name};
 
 /// The greatest inflow, want, capacity of a day, and area of a file.
@@ -174,7 +174,8 @@ pub fn keys(table: BasinTable) -> &'static [Key]
 impl BasinTable {
     /// The word for the table, in lower case. The entries of each but the top are listed at this key of the top table.
     pub fn name(&self) -> &'static str
-        ensures { result.now ≡ table_name self.now }
+        ensures value { result.now ≡ table_name self.now }
+        ensures short { length result.now ≤ 16 }
     {
         match self {
             BasinTable::Top => "top",

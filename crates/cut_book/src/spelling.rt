@@ -4,9 +4,7 @@ ghost use Rattle.water_model.specs.Valid.{IsValidBasin};
 ghost use Rattle.cut_book.specs.Entries.{IsOfBasin, whole_line};
 
 use crate::entry::Entry;
-use result_text::spelling::{
-    add_month, add_name, add_number, name_of_link, name_of_node, name_of_right,
-};
+use water_model::space::{Space, name_in};
 use water_model::types::Basin;
 use water_text::line::Line;
 
@@ -26,20 +24,20 @@ pub fn spell(line: &mut Line, basin: &Basin, entry: &Entry)
             want,
         } => {
             line.word(b"why");
-            add_month(line, month);
-            add_name(line, name_of_right(basin, right));
-            add_number(line, amount);
-            add_number(line, want);
+            line.add_month(month);
+            line.add_name(name_in(Space::Rights, basin, right));
+            line.add_number(amount);
+            line.add_number(want);
         }
         Entry::Supply { node, amount } => {
             line.word(b"supply");
-            add_name(line, name_of_node(basin, node));
-            add_number(line, amount);
+            line.add_name(name_in(Space::Nodes, basin, node));
+            line.add_number(amount);
         }
         Entry::Enter { link, amount } => {
             line.word(b"enter");
-            add_name(line, name_of_link(basin, link));
-            add_number(line, amount);
+            line.add_name(name_in(Space::Links, basin, link));
+            line.add_number(amount);
         }
         Entry::Keep {
             link,
@@ -47,18 +45,18 @@ pub fn spell(line: &mut Line, basin: &Basin, entry: &Entry)
             holder,
         } => {
             line.word(b"keep");
-            add_name(line, name_of_link(basin, link));
-            add_number(line, amount);
-            add_name(line, name_of_right(basin, holder));
+            line.add_name(name_in(Space::Links, basin, link));
+            line.add_number(amount);
+            line.add_name(name_in(Space::Rights, basin, holder));
         }
         Entry::Take { right, amount } => {
             line.word(b"take");
-            add_name(line, name_of_right(basin, right));
-            add_number(line, amount);
+            line.add_name(name_in(Space::Rights, basin, right));
+            line.add_number(amount);
         }
         Entry::Sum { amount } => {
             line.word(b"sum");
-            add_number(line, amount);
+            line.add_number(amount);
         }
     }
     line.word(b"\n");

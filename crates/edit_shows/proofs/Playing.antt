@@ -1,11 +1,11 @@
 -- A script answered line by line.
 use Rattle.std.proofs.Common.{◌≡◌, ℕ, zero, suc, ◌+◌, ◌*◌, ◌<◌, ◌≤◌, refl, sym, ap, subst, ◌∙◌, arith, List, [], ◌∷◌}
-use Rattle.std.proofs.Common.{◌++◌, length, take, drop, get_or, append-nil, add-one, drop-cons, inl, inr}
-use Rattle.std.specs.Prelude.{Option, Some, None, Ok, Err, All, slice_get}
+use Rattle.std.proofs.Common.{◌++◌, length, take, drop, get_or, append-nil, add-one, drop-cons, inr}
+use Rattle.std.specs.Prelude.{Option, Some, Ok, Err, All, slice_get}
 use Rattle.std.specs.Io.KnownBytes.{Appends}
 use Rattle.std.specs.List.{flat_map}
 use Rattle.std.proofs.lemmas.Grind.{flat_map-append}
-use Rattle.std.proofs.lemmas.List.{take_more, take_all, length-take}
+use Rattle.std.proofs.lemmas.List.{take_more, length-take}
 use Rattle.std.proofs.Math.Nat.{add-mul}
 use Rattle.std.proofs.KnownBytes.{Appends-nil, Appends-trans}
 use Rattle.water_model.specs.Spelling.{whole_line}

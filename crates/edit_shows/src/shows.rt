@@ -1,9 +1,8 @@
 //! A whole script answered.
-ghost use Rattle.std.specs.Prelude.{◌≡◌, ◌+◌, ◌*◌, ◌<◌, ◌≤◌, ◌++◌, All, length, codes, Err, OnOk, [], IsErr};
-ghost use Rattle.std.specs.Fmt.{decimal};
+ghost use Rattle.std.specs.Prelude.{◌≡◌, ◌+◌, ◌*◌, ◌<◌, ◌≤◌, All, length, Err, [], IsErr};
 ghost use Rattle.water_edge.specs.Edge.{HasCause, Puts};
 ghost use Rattle.water_model.specs.Valid.{IsValidBasin, IsSeriesOf};
-ghost use Rattle.edit_script.specs.Edits.{IsPlaced, cost, cost_from, edited};
+ghost use Rattle.edit_script.specs.Edits.{IsPlaced, cost, cost_from};
 ghost use Rattle.edit_shows.specs.Shown.{Answers, AnswersWhole, done_bytes, is_show, shows_in};
 ghost use Rattle.edit_shows.specs.declared.stop.EditStop.TheVariants as stop;
 ghost use Rattle.senior_hold.specs.MonthNetwork.{month_pushes};
@@ -61,8 +60,8 @@ fn make_done(line: &mut Line, shows: u64)
     requires { line.old ≡ [] }
     ensures { line.new ≡ done_bytes shows }
 {
-    line.word(b"done ");
-    line.amount(shows);
+    line.word(b"done");
+    line.add_number(shows);
     line.word(b"\n");
 }
 

@@ -1,14 +1,13 @@
 -- A record of two years, and the text of its traces.
-use Rattle.std.proofs.Common.{◌≡◌, ◌++◌, refl, false, true, [], ◌∷◌, replicate, None}
+use Rattle.std.proofs.Common.{◌≡◌, ◌++◌, refl, [], ◌∷◌, replicate}
 use Rattle.std.specs.Prelude.{codes}
 use Rattle.std.specs.Fmt.{digits}
 use Rattle.std.specs.List.{flat_map}
 use Rattle.water_model.specs.Places.{numbers_from, by_seniority}
 use Rattle.water_model.specs.declared.types.Basin.{Basin}
-use Rattle.water_model.specs.declared.types.Carry.TheVariants.{River}
-use Rattle.water_model.specs.declared.types.Inflow.TheVariants.{Monthly, Gauged}
 use Rattle.water_model.specs.declared.types.Inflows.{Inflows}
 use Rattle.water_model.specs.declared.types.RightKind.TheVariants.{Diversion}
+use Rattle.water_model.proofs.Worked.{gauge, outlet, river, steady}
 use Rattle.index_seq.specs.Entries.{whole_line, fields_of}
 use Rattle.index_seq.specs.Text.{ensemble_lines}
 use Rattle.index_seq.specs.Traces.{begun_after}
@@ -27,31 +26,15 @@ basin = record {
   first = record { year = 1900; month = 1 };
   months = 24;
   year_start = 10;
-  nodes = record { name = codes "top"; outlet = false; inflow = Gauged } ∷ record {
-    name = codes "mouth";
-    outlet =
-        true;
-    inflow = Monthly (replicate 12 0);
-  } ∷ [];
-  links = record { name = codes "a"; from = 0; to = 1; carry = River } ∷ [];
+  nodes = gauge (codes "top") ∷ outlet (codes "mouth") ∷ [];
+  links = river (codes "a") 0 1 ∷ [];
   reservoirs = [];
-  rights =
-      record {
-        name = codes "user";
-        date = record { year = 1900; month = 1; day = 1 };
-        order = 0;
-        kind = Diversion 0;
-        want = replicate 12 10;
-        volume = None;
-        series = false;
-      }
-      ∷ [];
+  rights = steady (codes "user") 1900 (Diversion 0) 10 ∷ [];
   returns = [];
 }
 
 -- a right that wants 10 a month gets 48 and 120 in the years of the first trace, and 120 and 48 in those of the second
 text_of_two : flat_map (whole_line basin) (ensemble_lines basin (λ right. 48 ∷ 120 ∷ 120 ∷ 48 ∷ []))
-    ≡ codes "ensemble 1900-01 2" ++ 10 ∷ codes "right user" ++ 10 ∷ codes "yearly 48 2" ++ 10 ∷ codes
-    "yearly 120 2" ++ 10 ∷ codes "done 2" ++ 10 ∷ []
+    ≡ codes "ensemble 1900-01 2\nright user\nyearly 48 2\nyearly 120 2\ndone 2\n"
 unfolding whole_line fields_of digits by_seniority numbers_from
 text_of_two = refl

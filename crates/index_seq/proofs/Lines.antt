@@ -9,7 +9,6 @@ use Rattle.water_model.specs.declared.types.Inflows.{Inflows}
 use Rattle.water_model.proofs.Order.{Has, seniors_below}
 use Rattle.index_seq.specs.Ends.{HaveLines}
 use Rattle.index_seq.specs.Sums.{HaveSums}
-use Rattle.std.specs.Io.KnownBytes.{Appends}
 use Rattle.water_edge.proofs.Puts.{PutsFront}
 use Rattle.water_model.specs.declared.types.MonthRecord.{MonthRecord}
 use Rattle.index_seq.specs.Entries.{whole_line}
@@ -50,11 +49,3 @@ pub text_cut : (b : Basin) (series : Inflows) (amounts : List (List ℕ)) (old n
     (traces : List (List MonthRecord)) × AreTraces b series traces × PutsFront old new (ensemble_text b traces)
 text_cut b series amounts old new h cut =
     (h.traces, h.whole, subst (λ (ls : List Entry). PutsFront old new (flat_map (whole_line b) ls)) h.lines cut)
-
--- and the whole of them the whole text
-pub text_told : (b : Basin) (series : Inflows) (amounts : List (List ℕ)) (old new : Option (List ℕ)) →
-    HaveLines b series amounts →
-    Appends old new (flat_map (whole_line b) (ensemble_lines b (λ r. slice_index_or amounts r []))) →
-    (traces : List (List MonthRecord)) × AreTraces b series traces × Appends old new (ensemble_text b traces)
-text_told b series amounts old new h told =
-    (h.traces, h.whole, subst (λ (ls : List Entry). Appends old new (flat_map (whole_line b) ls)) h.lines told)

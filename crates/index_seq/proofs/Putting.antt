@@ -1,6 +1,6 @@
 -- The lines of different amounts, put one after another.
-use Rattle.std.proofs.Common.{◌≡◌, ℕ, ◌<◌, ◌≤◌, List, [], ◌∷◌, ◌++◌, length, drop, refl, sym, ap, subst, ◌∙◌}
-use Rattle.std.proofs.Common.{arith, append_assoc, append-nil, Option, Some, None, Result}
+use Rattle.std.proofs.Common.{◌≡◌, ℕ, ◌<◌, ◌≤◌, List, [], ◌∷◌, ◌++◌, length, drop, sym, ap, subst, ◌∙◌}
+use Rattle.std.proofs.Common.{arith, append_assoc, append-nil, Option, Result}
 use Rattle.std.specs.Prelude.{slice_index, IsErr, ◌==◌}
 use Rattle.std.specs.List.{flat_map, prefix_len}
 use Rattle.std.specs.List.Sorted.{IsNonDecreasingBy}
@@ -26,15 +26,6 @@ pub record IsPutSoFar (b : Basin) (amounts rest : List ℕ) (old now : Option (L
   pub whole : flat_map (whole_line b) (yearly_lines amounts) ≡ done ++ flat_map (whole_line b) (yearly_lines rest)
   pub sorted : IsNonDecreasingBy (λ x. x) rest
   pub later : before ≤ after
-
-pub put_start : (b : Basin) (amounts : List ℕ) (old : Option (List ℕ)) (before : ℕ) →
-    IsNonDecreasingBy (λ x. x) amounts → IsPutSoFar b amounts amounts old old before before
-put_start b amounts old before sorted =
-    record { done = []; put = nothing old; whole = refl; sorted = sorted; later = omega arith }
-  where
-    nothing : (old : Option (List ℕ)) → Appends old old []
-    nothing None = tt
-    nothing (Some bytes) = sym (append-nil bytes)
 
 -- the line of the first amount of the rest, and then those behind its run
 rest_lines : (b : Basin) (rest : List ℕ) (count : ℕ) → IsNonDecreasingBy (λ x. x) rest → 0 < length rest →
@@ -82,13 +73,6 @@ put_fails b amounts rest count old mid new before between r s l is here failed =
 
     further : List ℕ
     further = flat_map (whole_line b) (yearly_lines (drop count rest))
-
-pub put_whole : (b : Basin) (amounts rest : List ℕ) (old now : Option (List ℕ)) (before after : ℕ) →
-    IsPutSoFar b amounts rest old now before after →
-    length rest ≡ 0 → Appends old now (flat_map (whole_line b) (yearly_lines amounts))
-put_whole b amounts [] old now before after s e =
-    subst (λ (bytes : List ℕ). Appends old now bytes) (sym (s.whole ∙ append-nil s.done)) s.put
-put_whole b amounts (x ∷ rest) old now before after s e = absurd (omega arith)
 
 -- a whole text: its first line, those of the rights, and its last line
 pub text_pieces : (b : Basin) (amounts : ℕ → List ℕ) →

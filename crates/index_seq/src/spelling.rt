@@ -4,7 +4,7 @@ ghost use Rattle.water_model.specs.Valid.{IsValidBasin};
 ghost use Rattle.index_seq.specs.Entries.{IsOfBasin, whole_line};
 
 use crate::entry::Entry;
-use result_text::spelling::{add_month, add_name, add_number, name_of_right};
+use water_model::space::{Space, name_in};
 use water_model::types::Basin;
 use water_text::line::Line;
 
@@ -19,21 +19,21 @@ pub fn spell(line: &mut Line, basin: &Basin, entry: &Entry)
     match *entry {
         Entry::Ensemble { first, traces } => {
             line.word(b"ensemble");
-            add_month(line, first);
-            add_number(line, u64::from(traces));
+            line.add_month(first);
+            line.add_number(u64::from(traces));
         }
         Entry::Right { right } => {
             line.word(b"right");
-            add_name(line, name_of_right(basin, right));
+            line.add_name(name_in(Space::Rights, basin, right));
         }
         Entry::Yearly { amount, count } => {
             line.word(b"yearly");
-            add_number(line, amount);
-            add_number(line, count);
+            line.add_number(amount);
+            line.add_number(count);
         }
         Entry::Done { traces } => {
             line.word(b"done");
-            add_number(line, u64::from(traces));
+            line.add_number(u64::from(traces));
         }
     }
     line.word(b"\n");

@@ -1,13 +1,12 @@
 //! The text of an ensemble, one `put` for each line.
-ghost use Rattle.std.specs.Prelude.{ℕ, ◌≡◌, ◌<◌, ◌≤◌, ◌∷◌, [], drop, length, slice_index, slice_index_or, slice_get};
-ghost use Rattle.std.specs.Prelude.{Some, ◌==◌, IsErr};
+ghost use Rattle.std.specs.Prelude.{ℕ, ◌≡◌, ◌<◌, ◌≤◌, ◌∷◌, [], drop, length, slice_index, slice_index_or};
+ghost use Rattle.std.specs.Prelude.{◌==◌, IsErr};
 ghost use Rattle.std.specs.List.{flat_map, prefix_len};
 ghost use Rattle.std.specs.List.Sorted.{IsNonDecreasingBy};
 ghost use Rattle.water_edge.specs.Edge.{HasCause, Puts};
 ghost use Rattle.water_model.specs.Valid.{IsValidBasin};
 ghost use Rattle.index_seq.specs.Entries.{IsOfBasin, whole_line};
 ghost use Rattle.index_seq.specs.Text.{yearly_lines, right_lines, ensemble_lines};
-ghost use Rattle.index_seq.specs.Traces.{years_of};
 ghost use Rattle.rights_roll.specs.Rolls.{IsRollOf};
 ghost use Rattle.water_model.specs.Places.{seniors_first};
 

@@ -1,24 +1,21 @@
 -- The pairs of common rights are those of one name.
-use Rattle.std.proofs.Common.{◌≡◌, ℕ, zero, suc, ◌<◌, Bool, true, cond, refl, sym, ◌∙◌, ap, subst, arith, List, [], ◌∷◌}
+use Rattle.std.proofs.Common.{◌≡◌, ℕ, zero, suc, ◌<◌, refl, sym, ◌∙◌, ap, subst, arith, List, [], ◌∷◌}
 use Rattle.std.proofs.Common.{length, get_or, inl, inr}
-use Rattle.std.proofs.lemmas.Bool.{cases_order, lt-ltb}
-use Rattle.std.proofs.lemmas.Option.{get_or_from_slice_get, slice_get_within}
-use Rattle.std.specs.List.{cons_option, position_or_len}
-use Rattle.std.specs.Prelude.{slice_get, Option, Some, None, unwrap_or, option_map, position, filter_map}
-use Rattle.std.specs.Prelude.{bytes_eq, Contains}
+use Rattle.std.specs.List.{cons_option}
+use Rattle.std.specs.Prelude.{Option, Some, None, option_map, filter_map}
+use Rattle.std.specs.Prelude.{Contains}
 use Rattle.water_model.specs.Basin.{right_name}
 use Rattle.water_model.specs.Places.{seniors_first}
 use Rattle.water_model.specs.Valid.{IsValidBasin}
+use Rattle.water_model.specs.declared.space.Space.TheVariants.{Rights}
 use Rattle.water_model.specs.declared.types.Basin.{Basin}
-use Rattle.water_model.specs.declared.types.Right.{Right}
-use Rattle.water_model.proofs.Balance.{entry_at}
 use Rattle.water_model.proofs.Order.{Has, seniors_have}
-use Rattle.rights_roll.proofs.Places.{same_bytes, position_or_len-at_most}
 use Rattle.basin_names.specs.Named.{right_named}
+use Rattle.basin_names.proofs.Names.{named-at}
 use Rattle.injury.specs.Common.{HaveOneName, pair_of, common_rights}
 use Rattle.injury.specs.Laws.{CommonRightsHaveOneName}
 use Rattle.injury.specs.declared.pair.Pair.{Pair}
-use Rattle.injury.proofs.Pairs.{Each, IsPair, named, common_have_one_name}
+use Rattle.injury.proofs.Pairs.{Each, IsPair, common_have_one_name}
 
 -- what holds of each element holds of one
 each_at : {X : Type 0} (P : X → Type 0) (xs : List X) (x : X) (k : ℕ) → Each P xs → k < length xs → get_or xs k x ≡ x →
@@ -27,40 +24,11 @@ each_at P [] x k h l e = absurd (omega arith)
 each_at P (y ∷ ys) x zero h l e = subst P e h.0
 each_at P (y ∷ ys) x (suc k) h l e = each_at P ys x k h.1 (omega arith) e
 
-found_at : {X : Type 0} (p : X → Bool) (xs : List X) (k : ℕ) (x : X) → slice_get xs k ≡ Some x → p x ≡ true → (i : ℕ) ×
-    (position p xs ≡ Some i)
-found_at p xs k x at h =
-    let most =
-    position_or_len-at_most p xs k x (slice_get_within xs k x at) (ap p (get_or_from_slice_get xs k x x at) ∙ h) in
-    let within = slice_get_within xs k x at in (
-      position_or_len p xs,
-      ap (λ t. cond t (Some (position_or_len p xs)) None)
-          (lt-ltb (position_or_len p xs) (length xs) (omega arith)),
-    )
-
 module _ (first second : Basin) where
   -- by its name the right of the second basin is found
   the_right : (r s : ℕ) → IsValidBasin second → HaveOneName first second r s →
       right_named second (right_name first r) ≡ Some s
-  the_right r s valid one = by_entry (entry_at second.rights s one.in_second)
-    where
-      only : (i : ℕ) → right_named second (right_name first r) ≡ Some i → i ≡ s
-      only i e =
-          let has = named second (right_name first r) i e in
-          elim (cases_order i s) [
-            | inl same ↦ same
-            | inr o ↦ elim o [
-              | inl below ↦ absurd (valid.names.rights i s below one.in_second (has.0 ∙ one.name))
-              | inr above ↦ absurd (valid.names.rights s i above has.1 (sym one.name ∙ sym has.0))
-            ]
-          ]
-
-      by_entry : (x : Right) × (slice_get second.rights s ≡ Some x) → right_named second (right_name first r) ≡ Some s
-      by_entry entry =
-          let name : right_name second s ≡ entry.0.name = ap (λ o. unwrap_or (option_map (λ r. r.name) o) []) entry.1 in
-          let found = found_at (λ x. bytes_eq (right_name first r) x.name) second.rights s entry.0 entry.1
-          (same_bytes (right_name first r) entry.0.name (one.name ∙ name)) in
-          found.1 ∙ ap (λ i. Some i) (only found.0 found.1)
+  the_right r s valid one = ap (right_named second) one.name ∙ named-at second valid Rights s one.in_second
 
   -- and the pair stands among those of the rights
   among : (xs : List ℕ) (r s : ℕ) → right_named second (right_name first r) ≡ Some s → Has xs r →

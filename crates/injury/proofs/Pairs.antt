@@ -1,54 +1,30 @@
 -- The pairs of common rights.
-use Rattle.std.proofs.Common.{◌≡◌, ℕ, suc, ◌+◌, ◌<◌, ◌≤◌, Bool, true, false, refl, sym, ◌∙◌, ap, arith, List, [], ◌∷◌}
+use Rattle.std.proofs.Common.{◌≡◌, ℕ, suc, ◌+◌, ◌<◌, ◌≤◌, Bool, false, refl, sym, ◌∙◌, ap, arith, List, [], ◌∷◌}
 use Rattle.std.proofs.Common.{◌++◌, length, map, inl, inr, take, get_or}
 use Rattle.std.proofs.lemmas.List.{take_all, take_more}
 use Rattle.std.proofs.lemmas.List.Elements.{filter_map-append}
 use Rattle.std.proofs.lemmas.Bool.Decides.{nat_tests}
-use Rattle.std.proofs.lemmas.List.Quantifiers.{position-Some}
-use Rattle.std.proofs.lemmas.Option.{get_or_from_slice_get}
 use Rattle.std.specs.List.{cons_option}
-use Rattle.std.specs.Prelude.{slice_index, slice_get, option_to_list, Option, Some, None, unwrap_or, position, filter}
-use Rattle.std.specs.Prelude.{filter_map, option_map, bytes_eq, nat_lt}
+use Rattle.std.specs.Prelude.{slice_index, slice_get, option_to_list, Option, Some, None, filter}
+use Rattle.std.specs.Prelude.{filter_map, nat_lt}
 use Rattle.water_model.specs.Basin.{right_name}
 use Rattle.water_model.specs.Places.{seniors_first}
+use Rattle.water_model.specs.declared.space.Space.TheVariants.{Rights}
 use Rattle.water_model.specs.declared.types.Basin.{Basin}
 use Rattle.water_model.specs.declared.types.MonthRecord.{MonthRecord}
-use Rattle.water_model.specs.declared.types.Right.{Right}
-use Rattle.water_model.proofs.Balance.{entry_at}
 use Rattle.water_model.proofs.Order.{Has, seniors_below}
-use Rattle.rights_roll.proofs.Places.{bytes_same}
 use Rattle.basin_names.specs.Named.{right_named}
+use Rattle.basin_names.proofs.Names.{named_is}
 use Rattle.injury.specs.Common.{HaveOneName, pair_of, common_rights}
 use Rattle.injury.specs.Injuries.{is_injured, injury_of, injuries_of, injuries}
 use Rattle.injury.specs.Laws.{JuniorLeavesNoInjury}
 use Rattle.injury.specs.declared.pair.Pair.{Pair}
 use Rattle.injury.proofs.Runs.{junior_injures_nobody}
 
-position-within : {X : Type 0} (p : X → Bool) (xs : List X) (i : ℕ) → position p xs ≡ Some i → i < length xs
-position-within p [] i h = cc
-position-within p (x ∷ xs) i h = (position-Some p (x ∷ xs) i x h).0
-
-position-passes : {X : Type 0} (p : X → Bool) (xs : List X) (i : ℕ) (x : X) → position p xs ≡ Some i →
-    slice_get xs i ≡ Some x → p x ≡ true
-position-passes p xs i x h at = ap p (sym (get_or_from_slice_get xs i x x at)) ∙ (position-Some p xs i x h).1
-
 -- what holds of each element
 abbrev pub Each : {X : Type 0} → (X → Type 0) → List X → Type 0
 Each P [] = Unit {0}
 Each P (x ∷ xs) = P x × Each P xs
-
--- a right that was found by a name has it
-pub named : (b : Basin) (name : List ℕ) (s : ℕ) → right_named b name ≡ Some s → (right_name b s ≡ name) ×
-    (s < length b.rights)
-named b name s h = found (entry_at b.rights s within)
-  where
-    within : s < length b.rights
-    within = position-within (λ r. bytes_eq name r.name) b.rights s h
-
-    found : (x : Right) × (slice_get b.rights s ≡ Some x) → (right_name b s ≡ name) × (s < length b.rights)
-    found x =
-        let passes = position-passes (λ r. bytes_eq name r.name) b.rights s x.0 h x.1 in
-        (ap (λ o. unwrap_or (option_map (λ r. r.name) o) []) x.1 ∙ sym (bytes_same name x.0.name passes), within)
 
 module _ (first second : Basin) where
   abbrev pub IsPair : Pair → Type 0
@@ -66,7 +42,7 @@ module _ (first second : Basin) where
       one None e rest = rw e rest
       one (Some s) e rest =
           rw e (
-            (let found = named second (right_name first r) s e in
+            (let found = named_is second Rights (right_name first r) s e in
                 record { in_first = within r (inl refl); in_second = found.1; name = sym found.0 }),
             rest,
           )

@@ -1,5 +1,5 @@
 //! Who is delivered less in the second of two months.
-ghost use Rattle.std.specs.Prelude.{◌≡◌, ◌<◌, [], ◌∷◌, length, map, IsErr};
+ghost use Rattle.std.specs.Prelude.{◌≡◌, ◌<◌, [], ◌∷◌, length, IsErr};
 ghost use Rattle.water_edge.specs.Edge.{HasCause, Puts};
 ghost use Rattle.water_model.specs.Valid.{IsValidBasin};
 ghost use Rattle.water_text.specs.Months.{IsMonth};
@@ -7,8 +7,8 @@ ghost use Rattle.injury.specs.Common.{HaveDeliveries};
 ghost use Rattle.injury.specs.Injuries.{is_injured, injury_of, injuries_of, injured_row, compared_row, PutsInjuries};
 
 use crate::pair::Pair;
-use result_text::spelling::{add_month, add_name, add_number, name_of_right};
 use water_edge::{Sink, SinkFailed};
+use water_model::space::{Space, name_in};
 use water_model::types::{Basin, MonthRecord};
 use water_text::line::Line;
 use water_text::month::Month;
@@ -54,10 +54,10 @@ fn spell_injured(line: &mut Line, basin: &Basin, injury: Injury)
     ensures { line.new ≡ injured_row basin.now injury }
 {
     line.word(b"injured");
-    add_month(line, injury.month);
-    add_name(line, name_of_right(basin, injury.right));
-    add_number(line, injury.first);
-    add_number(line, injury.second);
+    line.add_month(injury.month);
+    line.add_name(name_in(Space::Rights, basin, injury.right));
+    line.add_number(injury.first);
+    line.add_number(injury.second);
     line.word(b"\n");
 }
 
@@ -104,8 +104,8 @@ fn spell_compared(line: &mut Line, common: u32, injured: u32)
     ensures { line.new ≡ compared_row common injured }
 {
     line.word(b"compared");
-    add_number(line, u64::from(common));
-    add_number(line, u64::from(injured));
+    line.add_number(u64::from(common));
+    line.add_number(u64::from(injured));
     line.word(b"\n");
 }
 

@@ -3,22 +3,25 @@ ghost use Rattle.std.specs.Prelude.{◌≡◌, ◌<◌, ◌≤◌, ◌++◌, len
 ghost use Rattle.water_edge.specs.Edge.{HasCause};
 ghost use Rattle.water_model.specs.Lookups.{of_entry};
 ghost use Rattle.water_model.specs.Valid.{IsValidBasin};
+ghost use Rattle.water_model.specs.declared.space.Space.TheVariants.{Rights};
 ghost use Rattle.injury.specs.Common.{pair_of, common_rights, HaveDeliveries};
 ghost use Rattle.water_text.specs.Months.{IsMonth};
 ghost use Rattle.injury.specs.Injuries.{is_injured, injuries_of, PutsInjuries};
 
 use crate::injuries::{is_injured, put_injury};
 use crate::pair::Pair;
-use basin_names::RightNames;
+use basin_names::SpaceNames;
 use rights_roll::roll::Roll;
 use std::alloc::{AllocError, Global};
 use std::marker::Model;
 use water_edge::{Sink, SinkFailed};
+use water_model::space::Space;
 use water_model::types::{Basin, MonthRecord};
 
 /// A right of the first basin with the right of the second that has its name, if there is one.
-fn pair_of(first: &Basin, second: &RightNames, right: u32) -> Option<Pair>
-    requires { right < length first.now.rights }
+fn pair_of(first: &Basin, second: &SpaceNames, right: u32) -> Option<Pair>
+    requires right { right < length first.now.rights }
+    requires of_rights { second.now.space ≡ Rights }
     ensures { result ≡ pair_of first.now second.now.basin.now right }
 {
     match second.named(first.rights[right as usize].name.bytes()) {
@@ -67,7 +70,7 @@ impl Pairing {
     {
         let roll = Roll::of_basin(alloc, first)?;
         let order = roll.by_seniority();
-        let names = RightNames::of(alloc, second)?;
+        let names = SpaceNames::of(alloc, Space::Rights, second)?;
         let mut pairs = Vec::new(alloc);
         for right in order {
             add_pair(&mut pairs, pair_of(first, &names, *right))?;

@@ -1,17 +1,15 @@
 -- The sums of a run are small.
-use Rattle.std.proofs.Common.{◌≡◌, ℕ, zero, suc, ◌+◌, ◌*◌, ◌^◌, ◌<◌, ◌≤◌, refl, sym, ◌∙◌, ap, subst, arith, List, []}
+use Rattle.std.proofs.Common.{◌≡◌, ℕ, ◌+◌, ◌*◌, ◌^◌, ◌<◌, ◌≤◌, ◌∙◌, ap, arith, List, []}
 use Rattle.std.proofs.Common.{◌∷◌, ◌++◌, length, map, take, get_or, length-append}
-use Rattle.std.specs.Prelude.{is_some, sum, sum_by, All, slice_get, slice_index, Some, nat_lt}
-use Rattle.std.proofs.Math.Seq.{take-length}
-use Rattle.std.proofs.lemmas.List.{take-append-le}
+use Rattle.std.specs.Prelude.{is_some, sum, sum_by, All, slice_get, slice_index, nat_lt}
 use Rattle.std.proofs.lemmas.List.Sums.{sum_by-le, sum_by_push, sum-map, count_by-le-length}
 use Rattle.std.proofs.lemmas.Option.{slice_get-get_or}
 use Rattle.place_sums.specs.Sums.{total}
 use Rattle.place_sums.proofs.Totals.{total_same}
-use Rattle.water_model.proofs.Lists.{front_partial, get_behind}
+use Rattle.water_model.proofs.Lists.{front_partial}
 use Rattle.water_model.specs.Balance.{IsBalanced, whole_inflow, diverted}
 use Rattle.water_model.specs.History.{IsPartialHistory, Follows}
-use Rattle.water_model.specs.Hydrology.{run_month, returned_at}
+use Rattle.water_model.specs.Hydrology.{returned_at}
 use Rattle.water_model.specs.Places.{places_of}
 use Rattle.water_model.specs.Text.{calling_right}
 use Rattle.water_model.specs.Valid.{IsValidBasin, IsSeriesOf}
@@ -20,7 +18,7 @@ use Rattle.water_model.specs.declared.types.Inflows.{Inflows}
 use Rattle.water_model.specs.declared.types.MonthRecord.{MonthRecord}
 use Rattle.water_model.proofs.Balance.{balanced, sum_total}
 use Rattle.water_model.proofs.Order.{length-numbers_from}
-use Rattle.water_model.proofs.Histories.{last_follows, opens_with_last}
+use Rattle.water_model.proofs.Histories.{opens_with_last}
 use Rattle.water_model.proofs.Wants.{want_most}
 use Rattle.month_terms.proofs.Amounts.{follows_small, deliveries_small}
 use Rattle.month_terms.proofs.Bounds.{inflows_small, returns_small}

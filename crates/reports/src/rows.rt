@@ -9,8 +9,8 @@ ghost use Rattle.reports.specs.Texts.{run_row, figures_row, trial_row, size_row,
 
 use crate::figures::RightFigures;
 use crate::waters::Waters;
-use result_text::spelling::{add_month, add_name, add_number, name_of_right};
 use water_edge::{Sink, SinkFailed};
+use water_model::space::{Space, name_in};
 use water_model::types::Basin;
 use water_text::line::Line;
 use water_text::month::Month;
@@ -24,7 +24,7 @@ fn add_month_or_dash(line: &mut Line, month: Option<Month>)
     ensures room { length line.new ≤ length line.old + 8 }
 {
     match month {
-        Some(month) => add_month(line, month),
+        Some(month) => line.add_month(month),
         None => line.word(b" -"),
     }
 }
@@ -37,7 +37,7 @@ fn spell_number(line: &mut Line, word: &[u8], value: u64)
     ensures { line.new ≡ row (word.now ∷ decimal value ∷ []) }
 {
     line.word(word);
-    add_number(line, value);
+    line.add_number(value);
     line.word(b"\n");
 }
 
@@ -60,8 +60,8 @@ fn spell_run(line: &mut Line, basin: &Basin)
     ensures { line.new ≡ run_row basin.now }
 {
     line.word(b"report");
-    add_month(line, basin.first);
-    add_number(line, u64::from(basin.months));
+    line.add_month(basin.first);
+    line.add_number(u64::from(basin.months));
     line.word(b"\n");
 }
 
@@ -86,10 +86,10 @@ fn spell_right(line: &mut Line, basin: &Basin, right: u32, figures: &RightFigure
     ensures { line.new ≡ figures_row basin.now right figures.now }
 {
     line.word(b"right");
-    add_name(line, name_of_right(basin, right));
-    add_number(line, u64::from(figures.short_months));
-    add_number(line, figures.wanted);
-    add_number(line, figures.delivered);
+    line.add_name(name_in(Space::Rights, basin, right));
+    line.add_number(u64::from(figures.short_months));
+    line.add_number(figures.wanted);
+    line.add_number(figures.delivered);
     add_month_or_dash(line, figures.worst);
     line.word(b"\n");
 }
@@ -119,8 +119,8 @@ fn spell_trial(line: &mut Line, number: u32, size: u32)
     ensures { line.new ≡ trial_row number size }
 {
     line.word(b"trial");
-    add_number(line, u64::from(number));
-    add_number(line, u64::from(size));
+    line.add_number(u64::from(number));
+    line.add_number(u64::from(size));
     line.word(b"\n");
 }
 
@@ -131,10 +131,10 @@ fn spell_size(line: &mut Line, basin: &Basin)
     ensures { line.new ≡ size_row basin.now }
 {
     line.word(b"size");
-    add_number(line, basin.nodes.len() as u64);
-    add_number(line, basin.links.len() as u64);
-    add_number(line, basin.rights.len() as u64);
-    add_number(line, u64::from(basin.months));
+    line.add_number(basin.nodes.len() as u64);
+    line.add_number(basin.links.len() as u64);
+    line.add_number(basin.rights.len() as u64);
+    line.add_number(u64::from(basin.months));
     line.word(b"\n");
 }
 
@@ -165,10 +165,10 @@ fn spell_front(line: &mut Line, waters: &Waters)
     ensures { line.new ≡ balance_front waters.now }
 {
     line.word(b"balance");
-    add_number(line, waters.opening);
-    add_number(line, waters.inflows);
-    add_number(line, waters.returns);
-    add_number(line, waters.closing);
+    line.add_number(waters.opening);
+    line.add_number(waters.inflows);
+    line.add_number(waters.returns);
+    line.add_number(waters.closing);
 }
 
 /// Puts the front of the balance.
@@ -187,9 +187,9 @@ fn spell_rest(line: &mut Line, waters: &Waters)
     requires { line.old ≡ [] }
     ensures { line.new ≡ balance_rest waters.now }
 {
-    add_number(line, waters.evaporated);
-    add_number(line, waters.diverted);
-    add_number(line, waters.out);
+    line.add_number(waters.evaporated);
+    line.add_number(waters.diverted);
+    line.add_number(waters.out);
     line.word(b"\n");
 }
 

@@ -1,13 +1,11 @@
 //! The texts of reports.
-ghost use Rattle.std.specs.Prelude.{◌≡◌, ◌<◌, ◌++◌, ◌∷◌, [], codes, length, All, IfSome, IsErr, sum_by};
-ghost use Rattle.std.specs.Fmt.{decimal};
+ghost use Rattle.std.specs.Prelude.{◌≡◌, ◌<◌, ◌++◌, length, All, IfSome, IsErr};
 ghost use Rattle.std.specs.List.{flat_map};
 ghost use Rattle.rights_roll.specs.Rolls.{IsRollOf};
 ghost use Rattle.water_edge.specs.Edge.{HasCause, Puts};
 ghost use Rattle.water_model.specs.Places.{seniors_first};
 ghost use Rattle.water_model.specs.Valid.{IsValidBasin};
 ghost use Rattle.water_text.specs.Months.{IsMonth};
-ghost use Rattle.reports.specs.Reports.{row};
 ghost use Rattle.reports.specs.Texts.{row_in, tally_text, made_rows, amount_rows, count_rows, summary_text};
 
 use crate::figures::RightFigures;

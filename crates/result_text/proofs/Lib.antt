@@ -1,4 +1,3 @@
-pub mod Lengths
 pub mod Entries
 pub mod Members
 pub mod MonthLines

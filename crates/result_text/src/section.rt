@@ -1,10 +1,8 @@
 //! The lines of a section, entry by entry.
-ghost use Rattle.std.specs.Prelude.{◌≡◌, ◌≢◌, ◌<◌, false, length, slice_index, IfSome};
-ghost use Rattle.std.specs.Option.{option_map_or, option_to_list};
+ghost use Rattle.std.specs.Prelude.{◌≡◌, ◌≢◌, ◌<◌, false, slice_index, IfSome};
+ghost use Rattle.std.specs.Option.{option_to_list};
 ghost use Rattle.calls.specs.Callers.{AreCallers};
 ghost use Rattle.water_model.specs.Entries.{count_in};
-ghost use Rattle.water_model.specs.History.{cut_of};
-ghost use Rattle.water_model.specs.Lookups.{has};
 ghost use Rattle.water_model.specs.OfBasin.{IsOfBasin};
 ghost use Rattle.water_model.specs.Quantities.{amounts_of, has_line, space_of};
 ghost use Rattle.water_model.specs.Text.{calling_right, lines_at, section_space};

@@ -7,6 +7,6 @@ use Rattle.basin_file.proofs.upgrade.put_month.Goals as goal
 pub put_text-requires : goal.put_text-requires
 put_text-requires c =
     subst IsAscii
-    (sym (c.bytes.ensures ∙ (c.put_into.ensures ∙ ap (λ text. text ++ month_digits c.args.month)
+    (sym (c.bytes.ensures ∙ (c.put_into.ensures.text ∙ ap (λ text. text ++ month_digits c.args.month)
     c.new-line.ensures)))
     (month_ascii c.args.month c.requires)

@@ -45,8 +45,8 @@ loop-edit-preserved g c =
     let l : c.loop-edit.edit-index < length c.args.edits.now = omega arith in
     record {
       basin = c.in_ok-answer.ensures.basin ∙ c.loop-edit.invariant.basin;
-      played = played_more c.args.session.now.basin c.loop-edit.session.basin c.args.session.now.series c.loop-edit.session.series
-          c.answer.new.session.series c.args.edits.now _ _ _ c.loop-edit.edit-index
+      played = played_more c.args.session.now.basin c.loop-edit.session.basin c.args.session.now.series
+          c.loop-edit.session.series c.answer.new.session.series c.args.edits.now _ _ _ c.loop-edit.edit-index
           (line_at c.args.edits.now c.loop-edit.edit-index) _ c.loop-edit.invariant.basin
           c.loop-edit.invariant.played l
           (read_again c.args.edits.now c.loop-edit.edit-index _ _ l)
@@ -65,8 +65,8 @@ returns-in_err-answer-clause-answers g c =
     let l : c.loop-edit.edit-index < length c.args.edits.now = omega arith in
     let p = err_from_is_err_and c.from_residual.result c.from_residual.ensures.1 in
     rw (p.1, p.2)
-    (played_stops c.args.session.now.basin c.loop-edit.session.basin c.args.session.now.series c.loop-edit.session.series c.args.edits.now _ _ _
-    c.loop-edit.edit-index
+    (played_stops c.args.session.now.basin c.loop-edit.session.basin c.args.session.now.series
+    c.loop-edit.session.series c.args.edits.now _ _ _ c.loop-edit.edit-index
     (line_at c.args.edits.now c.loop-edit.edit-index) c.in_err-answer.field-0.0 c.loop-edit.invariant.basin
     c.loop-edit.invariant.played l
     (read_again c.args.edits.now c.loop-edit.edit-index _ _ l)

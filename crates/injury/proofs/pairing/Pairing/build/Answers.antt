@@ -6,8 +6,8 @@ use Rattle.injury.specs.Common.{common_rights}
 use Rattle.injury.proofs.Pairs.{pairs_more, pairs_all, pairs_few}
 use Rattle.injury.proofs.pairing.Pairing.build.Goals as goal
 
-pub pair_of-requires : goal.pair_of-requires
-pair_of-requires c =
+pub pair_of-requires-clause-right : goal.pair_of-requires-clause-right
+pair_of-requires-clause-right c =
     order_in_range c.args.first.now.rights c.by_seniority-order.result.now c.loop-right.right-index
     (c.by_seniority-order.ensures ∙ c.in_ok-roll.ensures.order) c.loop-right-test.true
 
@@ -24,7 +24,7 @@ returns c =
     ∙ (pairs_all c.args.first.now c.in_ok-names.names.basin.now c.by_seniority-order.result.now c.loop-right.right-index
     c.loop-right-test.false
     (c.by_seniority-order.ensures ∙ c.in_ok-roll.ensures.order)
-    ∙ ap (common_rights c.args.first.now) c.in_ok-names.ensures)
+    ∙ ap (common_rights c.args.first.now) c.in_ok-names.ensures.basin)
 
 pub invariant_of-result : goal.invariant_of-result
 invariant_of-result c =
