@@ -30,33 +30,41 @@ abbrev pub need : {X Y : Type 0} → ScriptFault → Option X → (X → Result 
 need fault None next = Err fault
 need fault (Some x) next = next x
 
+-- what is made of an answer, or its fault
+abbrev pub given : {X Y : Type 0} → Result X ScriptFault → (X → Result Y ScriptFault) → Result Y ScriptFault
+given (Err fault) next = Err fault
+given (Ok x) next = next x
+
 -- what a line `show MONTH` asks for
 unfoldable pub show_of : Basin → List ℕ → Result Edit ScriptFault
 show_of b month =
     need fault.BadLine (read_month month) (λ m.
     need fault.OutsideRun (index_in_run b m) (λ index. Ok (edit.Show index)))
 
--- what a line `inflow MONTH NODE AMOUNT` asks for
-unfoldable pub inflow_of : Basin → Inflows → List ℕ → List ℕ → List ℕ → Result Edit ScriptFault
-inflow_of b series month name amount =
+-- the index of a change's month in the run, and the change's amount, or the first fault of them and of the name's form
+unfoldable pub numbers_of : Basin → List ℕ → List ℕ → List ℕ → Result (ℕ × ℕ) ScriptFault
+numbers_of b month name amount =
     need fault.BadLine (read_month month) (λ m.
     if is_name name then
     need fault.BadLine (read_plain amount (10 ^ 9)) (λ a.
-    need fault.OutsideRun (index_in_run b m) (λ index.
-    need fault.NoSuchName (node_named b name) (λ node.
-    if is_gauged b node then Ok (edit.Inflow index (place_in series.gauged node) a) else Err fault.NotSeries)))
+    need fault.OutsideRun (index_in_run b m) (λ index. Ok (index, a)))
     else Err fault.BadLine)
+
+-- what a line `inflow MONTH NODE AMOUNT` asks for
+unfoldable pub inflow_of : Basin → Inflows → List ℕ → List ℕ → List ℕ → Result Edit ScriptFault
+inflow_of b series month name amount =
+    given (numbers_of b month name amount) (λ numbers.
+    need fault.NoSuchName (node_named b name) (λ node.
+    if is_gauged b node then Ok (edit.Inflow numbers.0 (place_in series.gauged node) numbers.1)
+    else Err fault.NotSeries))
 
 -- what a line `want MONTH RIGHT AMOUNT` asks for
 unfoldable pub want_of : Basin → Inflows → List ℕ → List ℕ → List ℕ → Result Edit ScriptFault
 want_of b series month name amount =
-    need fault.BadLine (read_month month) (λ m.
-    if is_name name then
-    need fault.BadLine (read_plain amount (10 ^ 9)) (λ a.
-    need fault.OutsideRun (index_in_run b m) (λ index.
+    given (numbers_of b month name amount) (λ numbers.
     need fault.NoSuchName (right_named b name) (λ right.
-    if is_in_series b right then Ok (edit.Want index (place_in series.wanted right) a) else Err fault.NotSeries)))
-    else Err fault.BadLine)
+    if is_in_series b right then Ok (edit.Want numbers.0 (place_in series.wanted right) numbers.1)
+    else Err fault.NotSeries))
 
 -- what a line of these fields asks for, or its first fault
 abbrev pub edit_in : Basin → Inflows → List (List ℕ) → Result Edit ScriptFault

@@ -1,9 +1,9 @@
 //! What one line of a script asks for.
-ghost use Rattle.std.specs.Prelude.{◌≡◌, ◌∷◌, [], IfOk};
+ghost use Rattle.std.specs.Prelude.{◌≡◌, ◌<◌, ◌≤◌, ◌^◌, ◌∷◌, IfOk};
 ghost use Rattle.water_model.specs.Valid.{IsValidBasin, IsSeriesOf};
 ghost use Rattle.water_model.specs.declared.types.Inflows.{Inflows};
 ghost use Rattle.edit_script.specs.Edits.{IsPlaced};
-ghost use Rattle.edit_script.specs.Lines.{edit_in, edit_of, fields_of, inflow_of, want_of, show_of};
+ghost use Rattle.edit_script.specs.Lines.{edit_in, edit_of, fields_of, inflow_of, numbers_of, show_of, want_of};
 
 use crate::edit::Edit;
 use crate::fields::cut;
@@ -30,6 +30,34 @@ fn read_show(basin: &Basin, month: &[u8]) -> Result<Edit, ScriptFault>
     Ok(Edit::Show { index })
 }
 
+/// The index of a change's month in the run, and the change's amount, where the name between them has a name's form.
+#[tactic(auto, unfolding(crate::specs::Lines::numbers_of))]
+fn read_numbers(
+    basin: &Basin,
+    month: &[u8],
+    name: &[u8],
+    amount: &[u8],
+) -> Result<(u32, u64), ScriptFault>
+    requires { IsValidBasin basin.now }
+    ensures reads { result ≡ numbers_of basin.now month.now name.now amount.now }
+    ensures within { IfOk result (λ numbers. numbers.0 < basin.now.months) }
+    ensures small { IfOk result (λ numbers. numbers.1 ≤ 10 ^ 9) }
+{
+    let Some(month) = Month::read(month) else {
+        return Err(ScriptFault::BadLine);
+    };
+    if !is_name(name) {
+        return Err(ScriptFault::BadLine);
+    }
+    let Some(amount) = read_plain(amount, 1_000_000_000) else {
+        return Err(ScriptFault::BadLine);
+    };
+    let Some(index) = index_in_run(basin, month) else {
+        return Err(ScriptFault::OutsideRun);
+    };
+    Ok((index, amount))
+}
+
 /// What a line `inflow` asks for.
 #[tactic(auto, unfolding(crate::specs::Lines::inflow_of))]
 fn read_inflow(
@@ -44,18 +72,7 @@ fn read_inflow(
     ensures reads { result ≡ inflow_of names.now.basin.now series.now month.now name.now amount.now }
     ensures placed { IfOk result (IsPlaced names.now.basin.now series.now) }
 {
-    let Some(month) = Month::read(month) else {
-        return Err(ScriptFault::BadLine);
-    };
-    if !is_name(name) {
-        return Err(ScriptFault::BadLine);
-    }
-    let Some(amount) = read_plain(amount, 1_000_000_000) else {
-        return Err(ScriptFault::BadLine);
-    };
-    let Some(index) = index_in_run(names.basin, month) else {
-        return Err(ScriptFault::OutsideRun);
-    };
+    let (index, amount) = read_numbers(names.basin, month, name, amount)?;
     let Some(node) = names.node_named(name) else {
         return Err(ScriptFault::NoSuchName);
     };
@@ -84,18 +101,7 @@ fn read_want(
     ensures reads { result ≡ want_of names.now.basin.now series.now month.now name.now amount.now }
     ensures placed { IfOk result (IsPlaced names.now.basin.now series.now) }
 {
-    let Some(month) = Month::read(month) else {
-        return Err(ScriptFault::BadLine);
-    };
-    if !is_name(name) {
-        return Err(ScriptFault::BadLine);
-    }
-    let Some(amount) = read_plain(amount, 1_000_000_000) else {
-        return Err(ScriptFault::BadLine);
-    };
-    let Some(index) = index_in_run(names.basin, month) else {
-        return Err(ScriptFault::OutsideRun);
-    };
+    let (index, amount) = read_numbers(names.basin, month, name, amount)?;
     let Some(right) = names.right_named(name) else {
         return Err(ScriptFault::NoSuchName);
     };

@@ -4,11 +4,13 @@ ghost use Rattle.std.specs.List.Sorted.{IsStrictlyIncreasing};
 ghost use Rattle.water_text.specs.Months.{IsMonth};
 ghost use Rattle.water_model.specs.Hydrology.{place_in};
 ghost use Rattle.water_model.specs.Valid.{IsValidBasin, is_gauged, is_in_series};
+ghost use Rattle.water_model.specs.declared.space.Space.TheVariants.{Nodes, Rights};
 ghost use Rattle.basin_names.specs.Named.{node_named, right_named};
 ghost use Rattle.edit_script.specs.Names.{index_in_run};
 
-use basin_names::{NodeNames, RightNames};
+use basin_names::SpaceNames;
 use std::alloc::{AllocError, Global};
+use water_model::space::Space;
 use water_model::types::{Basin, Inflow};
 use water_text::month::Month;
 
@@ -66,10 +68,10 @@ pub fn place_of(list: &[u32], number: u32) -> u32
 #[derive(Drop)]
 pub struct Names<'b> {
     pub basin: &'b Basin,
-    nodes: NodeNames<'b>,
-    rights: RightNames<'b>,
-    ghost of_nodes: { nodes.basin.now ≡ basin.now },
-    ghost of_rights: { rights.basin.now ≡ basin.now },
+    nodes: SpaceNames<'b>,
+    rights: SpaceNames<'b>,
+    ghost of_nodes: { (nodes.basin.now ≡ basin.now) × (nodes.space ≡ Nodes) },
+    ghost of_rights: { (rights.basin.now ≡ basin.now) × (rights.space ≡ Rights) },
 }
 
 impl<'b> Names<'b> {
@@ -78,8 +80,8 @@ impl<'b> Names<'b> {
         requires { IsValidBasin basin.now }
         ensures { IfOk result (λ names. names.basin.now ≡ basin.now) }
     {
-        let nodes = NodeNames::of(alloc, basin)?;
-        let rights = RightNames::of(alloc, basin)?;
+        let nodes = SpaceNames::of(alloc, Space::Nodes, basin)?;
+        let rights = SpaceNames::of(alloc, Space::Rights, basin)?;
         Ok(Names {
             basin,
             nodes,

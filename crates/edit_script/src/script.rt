@@ -82,24 +82,6 @@ fn read_edits(
     })
 }
 
-/// The same for a basin whose names are not in maps yet.
-fn read_behind(
-    alloc: Global,
-    basin: &Basin,
-    series: &Inflows,
-    text: &[u8],
-) -> Result<Vec<Edit>, ScriptRefused>
-    requires basin { IsValidBasin basin.now }
-    requires series { IsSeriesOf basin.now series.now }
-    requires small { length text.now ≤ 67108864 }
-    ensures reads { MatchResult result (λ edits. edits_from basin.now series.now 2 (lines_of text.now) ≡ Ok edits.items)
-        (IsRefusalOf (edits_from basin.now series.now 2 (lines_of text.now))) }
-    ensures placed { IfOk result (λ edits. All (IsPlaced basin.now series.now) edits.items) }
-{
-    let names = Names::of(alloc, basin)?;
-    read_edits(alloc, &names, series, text)
-}
-
 /// What a script asks for, line by line between its first and its last, or its first line at fault. No line behind that
 /// is looked at. A name is looked up in a map. Maps and edits take memory: OutOfMemory comes only where that is
 /// lacking, and says nothing of the text.
@@ -116,20 +98,18 @@ pub fn read_script(
         (IsRefusalOf (script_of basin.now series.now text.now)) }
     ensures placed { IfOk result (λ edits. All (IsPlaced basin.now series.now) edits.items) }
 {
-    match first_line(text) {
-        None => Err(ScriptRefused::Refused {
+    let Some((first, behind)) = first_line(text) else {
+        return Err(ScriptRefused::Refused {
             fault: ScriptFault::EarlyEnd,
             line: 1,
-        }),
-        Some((first, behind)) => {
-            if first == b"river-edit 1".as_slice() {
-                read_behind(alloc, basin, series, behind)
-            } else {
-                Err(ScriptRefused::Refused {
-                    fault: ScriptFault::BadLine,
-                    line: 1,
-                })
-            }
-        }
+        });
+    };
+    if first != b"river-edit 1".as_slice() {
+        return Err(ScriptRefused::Refused {
+            fault: ScriptFault::BadLine,
+            line: 1,
+        });
     }
+    let names = Names::of(alloc, basin)?;
+    read_edits(alloc, &names, series, behind)
 }

@@ -1,133 +1,120 @@
 -- A changed series, and the months before the change.
-use Rattle.std.proofs.Common.{◌≡◌, ℕ, ◌^◌, ◌<◌, ◌≤◌, Bool, true, false, refl, sym, ap, subst, ◌∙◌, arith, List, length}
-use Rattle.std.proofs.Common.{take, min}
-use Rattle.std.specs.Prelude.{if◌then◌else◌, slice_get, slice_index, Option, Some, None, unwrap_or, option_map}
-use Rattle.std.proofs.lemmas.List.{length-set, take_min, take_all}
+use Rattle.std.proofs.Common.{◌≡◌, ℕ, ◌+◌, ◌*◌, ◌^◌, ◌<◌, ◌≤◌, Bool, true, false, refl, sym, ap, ◌∙◌, arith, List}
+use Rattle.std.proofs.Common.{length, take, min}
+use Rattle.std.specs.Prelude.{if◌then◌else◌, slice_get, Option, Some, None, unwrap_or, option_map}
+use Rattle.std.proofs.lemmas.List.{length-set, take_min}
 use Rattle.std.proofs.lemmas.List.Elements.{All-set}
 use Rattle.water_model.specs.Basin.{instream_link}
 use Rattle.water_model.specs.Lookups.{of_entry}
-use Rattle.water_model.specs.Hydrology.{inflow_of_kind, want_by_volume, cap_by_link, number_of, in_year, run_month}
+use Rattle.water_model.specs.Hydrology.{inflow_of_kind, want_by_volume, cap_by_link, number_of, run_month}
 use Rattle.water_model.specs.Hydrology.{table_at}
-use Rattle.water_model.specs.Valid.{IsSeriesOf, is_gauged_kind}
+use Rattle.water_model.specs.Valid.{IsSeriesOf, is_gauged, is_gauged_kind, is_in_series}
 use Rattle.water_model.specs.declared.types.Basin.{Basin}
 use Rattle.water_model.specs.declared.types.Inflow.TheVariants.{Monthly, Gauged}
 use Rattle.water_model.specs.declared.types.Inflow as inflow
 use Rattle.water_model.specs.declared.types.Inflows.{Inflows}
 use Rattle.water_model.specs.declared.types.MonthRecord.{MonthRecord}
-use Rattle.water_model.specs.declared.types.Node.{Node}
-use Rattle.water_model.specs.declared.types.Right.{Right}
 use Rattle.water_model.proofs.Gauges.{gauge_within, wanted_within}
-use Rattle.edit_script.specs.Edits.{with_inflow, with_want}
+use Rattle.edit_script.specs.Edits.{edited_by, kept_by, IsPlaced, with_inflow, with_want}
 use Rattle.edit_session.specs.Laws.{AgreeBefore, EditedSeriesFit, KeptMonthsStay}
-use Rattle.edit_session.specs.Sessions.{IsKept}
+use Rattle.edit_session.specs.SessionInside.{IsReady}
+use Rattle.edit_session.specs.Sessions.{records_of}
+use Rattle.edit_session.specs.declared.session.Session.TheInside.{Inside}
+use Rattle.edit_script.specs.declared.edit.Edit.{Edit}
 use Rattle.edit_script.specs.declared.edit.Edit.TheVariants.{Inflow, Want, Show}
 use Rattle.edit_session.proofs.Columns.{earlier_stays}
 use Rattle.edit_session.proofs.Fronts.{front_partial, front_reaches}
 
-pub inflow_fits : (b : Basin) (series : Inflows) (index gauge amount : ℕ) → IsSeriesOf b series → amount ≤ 10 ^ 9 →
-    IsSeriesOf b (with_inflow series index gauge amount)
-inflow_fits b series index gauge amount fits small = record {
-  gauged = fits.gauged;
-  amounts = length-set _ _ _ ∙ fits.amounts;
-  small_amounts = All-set (λ n. n ≤ 10 ^ 9) _ _ _ small fits.small_amounts;
-  wanted = fits.wanted;
-  wants = fits.wants;
-  small_wants = fits.small_wants;
-}
-
-pub want_fits : (b : Basin) (series : Inflows) (index place amount : ℕ) → IsSeriesOf b series → amount ≤ 10 ^ 9 →
-    IsSeriesOf b (with_want series index place amount)
-want_fits b series index place amount fits small = record {
-  gauged = fits.gauged;
-  amounts = fits.amounts;
-  small_amounts = fits.small_amounts;
-  wanted = fits.wanted;
-  wants = length-set _ _ _ ∙ fits.wants;
-  small_wants = All-set (λ n. n ≤ 10 ^ 9) _ _ _ small fits.small_wants;
-}
-
+-- a changed series is one of its basin
 pub edited_fits : EditedSeriesFit
-edited_fits b series (Inflow index gauge amount) fits placed = inflow_fits b series index gauge amount fits placed.2
-edited_fits b series (Want index place amount) fits placed = want_fits b series index place amount fits placed.2
+edited_fits b series (Inflow index gauge amount) fits placed =
+    assumption (
+      length-set series.amount (index * length series.gauged + gauge) amount ∙ fits.amounts,
+      All-set (λ n. n ≤ 10 ^ 9) series.amount (index * length series.gauged + gauge) amount placed.2 fits.small_amounts,
+    )
+edited_fits b series (Want index place amount) fits placed =
+    assumption (
+      length-set series.want (index * length series.wanted + place) amount ∙ fits.wants,
+      All-set (λ n. n ≤ 10 ^ 9) series.want (index * length series.wanted + place) amount placed.2 fits.small_wants,
+    )
 edited_fits b series (Show index) fits placed = fits
 
--- the months before a changed inflow
-pub inflow_agrees : (b : Basin) (series : Inflows) (index gauge amount : ℕ) → IsSeriesOf b series →
-    AgreeBefore b series (with_inflow series index gauge amount) index
-inflow_agrees b series index gauge amount fits = record {
-  inflows = λ node i l early. of_node node i l early (slice_get b.nodes node) refl;
-  wants = λ right i used l early. refl;
-}
+-- what is read of an entry in two ways
+entry_same : {X : Type 0} (xs : List X) (k : ℕ) (f g : X → ℕ) → ((x : X) → slice_get xs k ≡ Some x → f x ≡ g x) →
+    of_entry xs k f 0 ≡ of_entry xs k g 0
+entry_same {X} xs k f g same = of_option (slice_get xs k) same
   where
-    changed : Inflows
-    changed = with_inflow series index gauge amount
+    of_option : (o : Option X) → ((x : X) → o ≡ Some x → f x ≡ g x) →
+        unwrap_or (option_map f o) 0 ≡ unwrap_or (option_map g o) 0
+    of_option None same = refl
+    of_option (Some x) same = same x refl
 
-    of_kind : (node i : ℕ) (n : Node) → node < length b.nodes → i < index → slice_get b.nodes node ≡ Some n →
-        (k : inflow.Inflow) → n.inflow ≡ k →
-        inflow_of_kind b series node i k ≡ inflow_of_kind b (with_inflow series index gauge amount) node i k
-    of_kind node i n l early at (Monthly amounts) e = refl
-    of_kind node i n l early at Gauged e =
-        sym (earlier_stays series.gauged series.amount i index gauge node amount early
-        (gauge_within b series node fits l
-        (ap (λ o. unwrap_or (option_map (λ m. is_gauged_kind m.inflow) o) false) at ∙ ap is_gauged_kind e)))
-
-    of_node : (node i : ℕ) → node < length b.nodes → i < index → (o : Option Node) → slice_get b.nodes node ≡ o →
-        unwrap_or (option_map (λ n. inflow_of_kind b series node i n.inflow) o) 0
-        ≡ unwrap_or (option_map (λ n. inflow_of_kind b (with_inflow series index gauge amount) node i n.inflow) o) 0
-    of_node node i l early None at = refl
-    of_node node i l early (Some n) at = of_kind node i n l early at n.inflow refl
-
--- the months before a changed want
-pub want_agrees : (b : Basin) (series : Inflows) (index place amount : ℕ) → IsSeriesOf b series →
-    AgreeBefore b series (with_want series index place amount) index
-want_agrees b series index place amount fits = record {
-  inflows = λ node i l early. refl;
+-- series agree before a month where their tables do
+tables_agree : (b : Basin) (series other : Inflows) (month : ℕ) →
+    ((node i : ℕ) → node < length b.nodes → i < month → is_gauged b node ≡ true →
+    table_at series.gauged series.amount i node ≡ table_at other.gauged other.amount i node) →
+    ((right i : ℕ) → right < length b.rights → i < month → is_in_series b right ≡ true →
+    table_at series.wanted series.want i right ≡ table_at other.wanted other.want i right) →
+    AgreeBefore b series other month
+tables_agree b series other month amounts wants = record {
+  inflows = λ node i l early.
+      entry_same b.nodes node (λ n. inflow_of_kind b series node i n.inflow)
+      (λ n. inflow_of_kind b other node i n.inflow) (λ n at. by_kind node i n.inflow
+      (λ e. amounts node i l early (ap (λ o. unwrap_or (option_map (λ m. is_gauged_kind m.inflow) o) false) at ∙ e)));
   wants = λ right i used l early.
       ap (λ n. want_by_volume (of_entry b.rights right (λ r. r.volume) None)
       (cap_by_link b (run_month b i) (instream_link b right) n) used)
-      (of_right right i l early (slice_get b.rights right) refl);
+      (entry_same b.rights right (λ r. number_of b series right i r) (λ r. number_of b other right i r)
+      (λ r at. by_test r.series _ _ _
+      (λ e. wants right i l early (ap (λ o. unwrap_or (option_map (λ x. x.series) o) false) at ∙ e))));
 }
   where
-    by_test : (right i : ℕ) (r : Right) → right < length b.rights → i < index → slice_get b.rights right ≡ Some r →
-        (t : Bool) → r.series ≡ t →
-        (if t then table_at series.wanted series.want i right else slice_index r.want (in_year b i))
-        ≡ (if t then table_at series.wanted (with_want series index place amount).want i right else slice_index r.want
-        (in_year b i))
-    by_test right i r l early at true e =
-        sym (earlier_stays series.wanted series.want i index place right amount early
-        (wanted_within b series right fits l (ap (λ o. unwrap_or (option_map (λ x. x.series) o) false) at ∙ e)))
-    by_test right i r l early at false e = refl
+    by_kind : (node i : ℕ) (kind : inflow.Inflow) → (is_gauged_kind kind ≡ true →
+        table_at series.gauged series.amount i node ≡ table_at other.gauged other.amount i node) →
+        inflow_of_kind b series node i kind ≡ inflow_of_kind b other node i kind
+    by_kind node i (Monthly amounts) same = refl
+    by_kind node i Gauged same = same refl
 
-    of_right : (right i : ℕ) → right < length b.rights → i < index → (o : Option Right) → slice_get b.rights right ≡ o →
-        unwrap_or (option_map (λ r. number_of b series right i r) o) 0
-        ≡ unwrap_or (option_map (λ r. number_of b (with_want series index place amount) right i r) o) 0
-    of_right right i l early None at = refl
-    of_right right i l early (Some r) at = by_test right i r l early at r.series refl
+    by_test : (t : Bool) (x y z : ℕ) → (t ≡ true → x ≡ y) → (if t then x else z) ≡ (if t then y else z)
+    by_test true x y z same = same refl
+    by_test false x y z same = refl
 
--- what is kept of the months before a change
-pub front_kept : (b : Basin) (series other : Inflows) (records : List MonthRecord) (month : ℕ) →
-    AgreeBefore b series other month →
-    IsKept (record { basin = b; series = series; kept = records }) →
-    IsKept (record { basin = b; series = other; kept = take month records })
-front_kept b series other records month agree kept = record {
-  partial = front_partial b series other records month agree kept.partial;
-  reaches = front_reaches b records month kept.reaches;
+-- the months that are kept over a change are before it
+edited_agrees : (b : Basin) (series : Inflows) (count : ℕ) (e : Edit) → IsSeriesOf b series →
+    AgreeBefore b series (edited_by series e) (kept_by count e)
+edited_agrees b series count (Inflow index gauge amount) fits =
+    tables_agree b series (with_inflow series index gauge amount) (min count index)
+    (λ node i l early gauged. sym (earlier_stays series.gauged series.amount i index gauge node amount (omega arith)
+    (gauge_within b series node fits l gauged)))
+    (λ right i l early wanted. refl)
+edited_agrees b series count (Want index place amount) fits =
+    tables_agree b series (with_want series index place amount) (min count index)
+    (λ node i l early gauged. refl)
+    (λ right i l early wanted. sym (earlier_stays series.wanted series.want i index place right amount (omega arith)
+    (wanted_within b series right fits l wanted)))
+edited_agrees b series count (Show index) fits = record {
+  inflows = λ node i l early. refl;
+  wants = λ right i used l early. refl;
 }
 
-at_most : (records : List MonthRecord) (month : ℕ) → take (min (length records) month) records ≡ take month records
-at_most records month = ap (λ n. take n records) (omega arith) ∙ take_min month records
-
 pub kept_stays : KeptMonthsStay
-kept_stays b series records (Inflow index gauge amount) fits placed kept =
-    subst (λ (xs : List MonthRecord). IsKept
-    (record { basin = b; series = with_inflow series index gauge amount; kept = xs })) (sym (at_most records index))
-    (front_kept b series (with_inflow series index gauge amount) records index
-    (inflow_agrees b series index gauge amount fits) kept)
-kept_stays b series records (Want index place amount) fits placed kept =
-    subst (λ (xs : List MonthRecord). IsKept
-    (record { basin = b; series = with_want series index place amount; kept = xs })) (sym (at_most records index))
-    (front_kept b series (with_want series index place amount) records index
-    (want_agrees b series index place amount fits) kept)
-kept_stays b series records (Show index) fits placed kept =
-    subst (λ (xs : List MonthRecord). IsKept (record { basin = b; series = series; kept = xs }))
-    (sym (take_all (length records) records (omega arith))) kept
+kept_stays b series records e fits placed kept = record {
+  partial = front_partial b series (edited_by series e) records (kept_by (length records) e)
+      (edited_agrees b series (length records) e fits) kept.partial;
+  reaches = front_reaches b records (kept_by (length records) e) kept.reaches;
+}
+
+pub at_most : (records : List MonthRecord) (month : ℕ) → take month records ≡ take (min (length records) month) records
+at_most records month = sym (ap (λ n. take n records) (omega arith) ∙ take_min month records)
+
+-- a session behind a change
+pub stays_ready : (old new : Inside) (e : Edit) → IsReady old → IsPlaced old.engine.basin old.series e →
+    new.engine ≡ old.engine → new.series ≡ edited_by old.series e →
+    records_of new.kept.items ≡ take (kept_by (length (records_of old.kept.items)) e) (records_of old.kept.items) →
+    IsReady new
+stays_ready old new e ready placed engine series kept = record {
+  valid = rw engine ready.valid;
+  series = rw (engine, series) (edited_fits old.engine.basin old.series e ready.series placed);
+  kept = rw (engine, series, kept)
+      (kept_stays old.engine.basin old.series (records_of old.kept.items) e ready.series placed ready.kept);
+}

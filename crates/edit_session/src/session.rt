@@ -1,10 +1,10 @@
 //! A run whose series changes.
-ghost use Rattle.std.specs.Prelude.{ℕ, ◌≡◌, ◌+◌, ◌-◌, ◌*◌, ◌^◌, ◌<◌, ◌≤◌, [], max, length, take, slice_get, Some, IfOk};
-ghost use Rattle.std.specs.Prelude.{OnOk};
+ghost use Rattle.std.specs.Prelude.{◌≡◌, ◌+◌, ◌-◌, ◌*◌, ◌^◌, ◌<◌, ◌≤◌, [], max, length, take, slice_get};
+ghost use Rattle.std.specs.Prelude.{slice_set, Some, IfOk, OnOk};
 ghost use Rattle.rights_roll.specs.Rolls.{IsRollOf};
 ghost use Rattle.water_model.specs.Valid.{IsValidBasin, IsSeriesOf};
 ghost use Rattle.edit_script.specs.Edits.{with_inflow, with_want};
-ghost use Rattle.edit_session.specs.Sessions.{IsKept};
+ghost use Rattle.edit_session.specs.Sessions.{IsKept, records_of};
 ghost use Rattle.senior_hold.specs.MonthNetwork.{month_pushes};
 
 use crate::solving::solve_months;
@@ -14,7 +14,29 @@ use std::alloc::{AllocError, Global};
 use std::marker::Model;
 use std::sync::ledger::Ledger;
 use steps::Steps;
+use water_model::rows::Rows;
 use water_model::types::{Basin, Inflows, MonthRecord};
+
+/// Changes a number of a month in a table with one column for each of the keys, and keeps the months before, and no
+/// other.
+fn change(
+    keys: &Rows<u32>,
+    table: &mut Rows<u64>,
+    kept: &mut Vec<Box<MonthRecord>>,
+    index: u32,
+    column: u32,
+    amount: u64,
+)
+    requires few { length keys.now ≤ 2000 }
+    requires month { index < 1200 }
+    requires within { index * length keys.now + column < length table.old }
+    ensures table { table.new ≡ slice_set table.old (index * length keys.now + column) amount }
+    ensures kept { records_of kept.new.items ≡ take index (records_of kept.old.items) }
+{
+    let at = index as usize * keys.len() + column as usize;
+    table.set(at, amount);
+    kept.truncate(index as usize);
+}
 
 /// A basin, a series that may change, and the records of the first months that were solved with it.
 ///
@@ -103,9 +125,14 @@ impl<'b> Session<'b> {
         ensures kept { self.new.kept ≡ take index self.old.kept }
         ensures history { IsKept self.new }
     {
-        let at = index as usize * self.series.gauged.len() + gauge as usize;
-        self.series.amount.set(at, amount);
-        self.kept.truncate(index as usize);
+        change(
+            &self.series.gauged,
+            &mut self.series.amount,
+            &mut self.kept,
+            index,
+            gauge,
+            amount,
+        );
     }
 
     /// Changes what a right wants in a month, in units of 1,000 cubic metres. The right is given by its place among
@@ -119,9 +146,14 @@ impl<'b> Session<'b> {
         ensures kept { self.new.kept ≡ take index self.old.kept }
         ensures history { IsKept self.new }
     {
-        let at = index as usize * self.series.wanted.len() + place as usize;
-        self.series.want.set(at, amount);
-        self.kept.truncate(index as usize);
+        change(
+            &self.series.wanted,
+            &mut self.series.want,
+            &mut self.kept,
+            index,
+            place,
+            amount,
+        );
     }
 
     /// Solves the months up to this one that are not kept yet. The records that were kept stay as they are, and no

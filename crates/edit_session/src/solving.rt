@@ -1,5 +1,5 @@
 //! Months solved and kept.
-ghost use Rattle.std.specs.Prelude.{ℕ, ◌≡◌, ◌+◌, ◌-◌, ◌*◌, ◌<◌, ◌≤◌, length, map, take, max, vec_len, OnOk, OnErr};
+ghost use Rattle.std.specs.Prelude.{◌≡◌, ◌+◌, ◌-◌, ◌*◌, ◌<◌, ◌≤◌, take, vec_len, OnOk, OnErr};
 ghost use Rattle.water_model.specs.Valid.{IsValidBasin, IsSeriesOf};
 ghost use Rattle.month_fold.specs.Runs.{StandsFor, run_with};
 ghost use Rattle.edit_session.specs.Sessions.{IsKept, records_of};

@@ -1,4 +1,4 @@
-use Rattle.std.proofs.Common.{◌∙◌, ap, sym, length, arith}
+use Rattle.std.proofs.Common.{◌∙◌, ap, sym, arith}
 use Rattle.water_model.specs.Hydrology.{place_in}
 use Rattle.water_model.proofs.Gauges.{gauge_within, gauges_rise}
 use Rattle.edit_script.proofs.Columns.{few_gauges}
@@ -6,12 +6,7 @@ use Rattle.edit_script.proofs.lines.read_inflow.Goals as goal
 
 pub place_of-gauge-requires-clause-few : goal.place_of-gauge-requires-clause-few
 place_of-gauge-requires-clause-few c =
-    omega (
-      arith,
-      ap length c.as_slice.ensures,
-      few_gauges c.args.names.now.basin.now c.args.series.now c.requires.basin
-          c.requires.series,
-    )
+    rw c.as_slice.ensures (omega (arith, few_gauges _ _ c.requires.basin c.requires.series))
 
 pub place_of-gauge-requires-clause-rising : goal.place_of-gauge-requires-clause-rising
 place_of-gauge-requires-clause-rising c =
@@ -20,7 +15,7 @@ place_of-gauge-requires-clause-rising c =
 pub returns-clause-placed : goal.returns-clause-placed
 returns-clause-placed c =
     let gauge =
-    gauge_within c.args.names.now.basin.now c.args.series.now c.in-Some-node_named.node c.requires.series
-    c.in-Some-node_named.ensures.within (sym c.if-not-is_gauged.ensures) in
-    let at = c.place_of-gauge.ensures ∙ ap (λ keys. place_in keys c.in-Some-node_named.node) c.as_slice.ensures in
-    (c.in-Some-index_in_run.ensures.within, omega (arith, gauge, at), c.in-Some-read_plain.ensures.within)
+    gauge_within c.args.names.now.basin.now c.args.series.now c.in-Some.node c.requires.series
+    c.in-Some.ensures.within (sym c.if-not-is_gauged.ensures) in
+    let at = c.place_of-gauge.ensures ∙ ap (λ keys. place_in keys c.in-Some.node) c.as_slice.ensures in
+    (c.in_ok-index.ensures.within, omega (arith, gauge, at), c.in_ok-index.ensures.small)

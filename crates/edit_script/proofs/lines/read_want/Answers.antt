@@ -1,4 +1,4 @@
-use Rattle.std.proofs.Common.{◌∙◌, ap, sym, length, arith}
+use Rattle.std.proofs.Common.{◌∙◌, ap, sym, arith}
 use Rattle.water_model.specs.Hydrology.{place_in}
 use Rattle.water_model.proofs.Gauges.{wanted_rise, wanted_within}
 use Rattle.edit_script.proofs.Columns.{few_wants}
@@ -6,12 +6,7 @@ use Rattle.edit_script.proofs.lines.read_want.Goals as goal
 
 pub place_of-place-requires-clause-few : goal.place_of-place-requires-clause-few
 place_of-place-requires-clause-few c =
-    omega (
-      arith,
-      ap length c.as_slice.ensures,
-      few_wants c.args.names.now.basin.now c.args.series.now c.requires.basin
-          c.requires.series,
-    )
+    rw c.as_slice.ensures (omega (arith, few_wants _ _ c.requires.basin c.requires.series))
 
 pub place_of-place-requires-clause-rising : goal.place_of-place-requires-clause-rising
 place_of-place-requires-clause-rising c =
@@ -20,7 +15,7 @@ place_of-place-requires-clause-rising c =
 pub returns-clause-placed : goal.returns-clause-placed
 returns-clause-placed c =
     let place =
-    wanted_within c.args.names.now.basin.now c.args.series.now c.in-Some-right_named.right c.requires.series
-    c.in-Some-right_named.ensures.within (sym c.if-not-is_in_series.ensures) in
-    let at = c.place_of-place.ensures ∙ ap (λ keys. place_in keys c.in-Some-right_named.right) c.as_slice.ensures in
-    (c.in-Some-index_in_run.ensures.within, omega (arith, place, at), c.in-Some-read_plain.ensures.within)
+    wanted_within c.args.names.now.basin.now c.args.series.now c.in-Some.right c.requires.series
+    c.in-Some.ensures.within (sym c.if-not-is_in_series.ensures) in
+    let at = c.place_of-place.ensures ∙ ap (λ keys. place_in keys c.in-Some.right) c.as_slice.ensures in
+    (c.in_ok-index.ensures.within, omega (arith, place, at), c.in_ok-index.ensures.small)
