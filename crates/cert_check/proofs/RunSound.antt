@@ -1,13 +1,12 @@
 -- The lines that are not refuted are those of a history.
 use Rattle.std.proofs.Common.{◌≡◌, ℕ, zero, suc, ◌+◌, ◌-◌, ◌<◌, Bool, true, false, refl, sym, ap, subst, ◌∙◌, arith}
 use Rattle.std.proofs.Common.{inl, inr, List, [], ◌∷◌, ◌++◌, length, map, fold, append_assoc, append-nil, length-append}
-use Rattle.std.specs.Prelude.{Some, None, ◌||◌, ◌⊎◌, slice_get}
+use Rattle.std.specs.Prelude.{Some, None, ◌||◌, ◌⊎◌}
 use Rattle.std.specs.List.{flat_map}
 use Rattle.std.proofs.lemmas.List.{length-map}
 use Rattle.std.proofs.lemmas.Bool.{or_parts}
 use Rattle.water_model.specs.History.{IsPartialHistory, IsHistory, Follows, opening_after}
 use Rattle.water_model.specs.Hydrology.{run_month}
-use Rattle.water_model.specs.Lookups.{of_entry}
 use Rattle.water_model.specs.Places.{numbers_from}
 use Rattle.water_model.specs.Spelling.{line_of}
 use Rattle.water_model.specs.Text.{calling_right, items_of_month, items_of}

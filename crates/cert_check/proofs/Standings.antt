@@ -11,7 +11,7 @@ use Rattle.water_model.specs.declared.types.Inflows.{Inflows}
 use Rattle.result_reader.specs.Due.{Due, all_due, due_after, is_call, step}
 use Rattle.result_reader.specs.Form.{due_in_month}
 use Rattle.result_reader.specs.Reading.{read_line}
-use Rattle.result_reader.specs.Standing.{ReaderSeen, most_lines}
+use Rattle.result_reader.specs.Standing.{most_lines}
 use Rattle.result_reader.specs.Standing as reader
 use Rattle.result_reader.specs.Telling.{told_by}
 use Rattle.result_reader.specs.declared.bad_line.BadLine.{BadLine}

@@ -1,8 +1,8 @@
 //! Rights that a line passes over: each has to be met, or to have its `call`.
-ghost use Rattle.std.specs.Prelude.{◌≡◌, ◌<◌, ◌≤◌, false, not, length, take, is_none};
+ghost use Rattle.std.specs.Prelude.{◌≡◌, ◌<◌, ◌≤◌, false, length, take, is_none};
 ghost use Rattle.std.specs.List.{list_any};
 ghost use Rattle.water_model.specs.OfBasin.{IsOfBasin};
-ghost use Rattle.water_model.specs.History.{FitsBasin, cut_of};
+ghost use Rattle.water_model.specs.History.{FitsBasin};
 ghost use Rattle.water_model.specs.Places.{seniors_first};
 ghost use Rattle.water_model.specs.Valid.{IsValidBasin};
 ghost use Rattle.cert_check.specs.Checking as checking;

@@ -1,5 +1,5 @@
 //! Why a text is refuted, and at which line.
-ghost use Rattle.std.specs.Prelude.{◌≡◌};
+ghost use Rattle.std.specs.Prelude.{◌≡◌, ◌≤◌, length};
 ghost use Rattle.cert_check.specs.KindNames.{kind_name};
 
 /// Why a text is refuted. Of several causes at one line the first of this order is answered.
@@ -44,7 +44,8 @@ impl RefutedKind {
     /// The word for the kind, as an answer writes it.
     #[tactic(auto, unfolding(crate::specs::KindNames::kind_name))]
     pub fn name(&self) -> &'static str
-        ensures { result.now ≡ kind_name self.now }
+        ensures value { result.now ≡ kind_name self.now }
+        ensures short { length result.now ≤ 16 }
     {
         match self {
             RefutedKind::AfterEnd => "AfterEnd",
