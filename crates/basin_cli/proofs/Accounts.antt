@@ -1,13 +1,11 @@
 -- Behind the files of `why`: the cause of how it ends, what it leaves on out, and its pushes.
-use Rattle.std.proofs.Common.{◌≡◌, ℕ, ◌+◌, ◌*◌, ◌≤◌, refl, sym, ◌∙◌, subst, arith, List, [], ◌∷◌, Option, Some, None}
+use Rattle.std.proofs.Common.{◌≡◌, ℕ, ◌≤◌, sym, ◌∙◌, subst, arith, List, [], ◌∷◌, Option, Some, None}
 use Rattle.std.proofs.Common.{length-append}
 use Rattle.std.specs.Prelude.{IfSome, slice_index}
 use Rattle.basin_file.specs.BasinFaults.{Spells}
 use Rattle.edit_script.specs.declared.refused.ScriptFault.TheVariants as script
 use Rattle.inflow_file.specs.SeriesFaults.{SpellsSeries}
-use Rattle.senior_hold.specs.MonthNetwork.{month_pushes}
 use Rattle.water_text.specs.declared.month.Month.{Month}
-use Rattle.water_model.specs.Hydrology.{run_month}
 use Rattle.water_model.specs.Valid.{IsValidBasin, IsSeriesOf}
 use Rattle.water_model.specs.declared.types.Basin.{Basin}
 use Rattle.water_model.specs.declared.types.Inflows.{Inflows}
@@ -15,23 +13,19 @@ use Rattle.water_model.specs.declared.types.MonthRecord.{MonthRecord}
 use Rattle.basin_cli.specs.declared.ending.Ending.{Ending}
 use Rattle.basin_cli.specs.declared.ending.Ending.TheVariants as ending
 use Rattle.basin_cli.specs.declared.ending.SecondFinding.TheVariants as of_second
-use Rattle.basin_cli.specs.Actions.{AnswersAt, EndsAsking, IsAnswered}
+use Rattle.basin_cli.specs.Actions.{EndsAsking, IsAnswered}
 use Rattle.basin_cli.specs.Command.{Files}
 use Rattle.basin_cli.specs.Ending.{status_of}
-use Rattle.basin_cli.specs.Explained.{HasMonth, HasRight, IsAbout, IsMonthAt, IsRecordOf, IsRightNamed, PushesUpTo}
+use Rattle.basin_cli.specs.Explained.{HasMonth, HasRight, IsAbout, PushesUpTo}
 use Rattle.basin_cli.specs.Bytes.{AreSpelled, IsGoodBasin, IsGoodSeries, Told, series_told}
 use Rattle.basin_cli.specs.Out.{MayWrite}
 use Rattle.basin_cli.specs.Outcome.{HasExplainingCause, IsAsked, IsOutsideRun, IsShortIn, IsUnknownRight, WritesAccount}
 use Rattle.basin_cli.specs.Reading.{OfBoth}
 use Rattle.basin_cli.specs.Series.{AreLoaded, IsBasinText, IsSeriesText}
-use Rattle.basin_cli.proofs.Asked.{one_index}
 use Rattle.water_model.proofs.Histories.{last_follows}
 use Rattle.basin_cli.proofs.Explained.{one_answer}
 use Rattle.basin_cli.proofs.Judged.{good_series, spelled_by}
 use Rattle.basin_cli.proofs.OneSeries.{one_basin, one_series, same_partial}
-
-pub no_pushes : (b : Basin) (month : Month) (n : ℕ) → PushesUpTo b month n n
-no_pushes b month n = record { in_run = λ i at. omega arith; outside = λ _. refl }
 
 -- Behind the files.
 

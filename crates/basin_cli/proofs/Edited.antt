@@ -1,16 +1,13 @@
 -- Scripts of changes: how a call that answers one ends, and what it leaves on out.
-use Rattle.std.proofs.Common.{◌≡◌, ℕ, ◌+◌, ◌*◌, ◌≤◌, refl, sym, ◌∙◌, subst, arith, List, [], ◌∷◌, length, Option, Some}
-use Rattle.std.proofs.Common.{None, inl, inr}
+use Rattle.std.proofs.Common.{◌≡◌, ℕ, ◌+◌, ◌≤◌, refl, sym, ◌∙◌, subst, List, [], ◌∷◌, length, Option}
+use Rattle.std.proofs.Common.{inl, inr}
 use Rattle.std.specs.Prelude.{IfSome, IsErr, IsOk, Ok, Err, Bool, true, false, if◌then◌else◌, Result, codes}
 use Rattle.std.specs.Str.{bytes_eq}
-use Rattle.edit_script.specs.Edits.{cost}
 use Rattle.edit_script.specs.Lines.{edit_of, inflow_of, want_of}
 use Rattle.edit_script.specs.Scripts.{Reading, ended, edits_from, edits_of_lines, in_front, lines_of, numbered}
 use Rattle.edit_script.specs.Scripts.{script_of}
-use Rattle.edit_script.specs.declared.edit.Edit.{Edit}
 use Rattle.edit_script.specs.declared.refused.ScriptFault.{ScriptFault}
 use Rattle.edit_script.specs.declared.refused.ScriptRefused.TheVariants as refused
-use Rattle.senior_hold.specs.MonthNetwork.{month_pushes}
 use Rattle.water_model.specs.Valid.{IsSeriesOf}
 use Rattle.water_model.specs.declared.types.Basin.{Basin}
 use Rattle.water_model.specs.declared.types.Inflows.{Inflows}
@@ -21,11 +18,7 @@ use Rattle.basin_cli.specs.declared.status.Status.TheVariants as status
 use Rattle.basin_cli.specs.Bytes.{AreSpelled, Told, file_limit, series_told}
 use Rattle.basin_cli.specs.Command.{Files}
 use Rattle.basin_cli.specs.Edited.{EditLeaves, EditPushes, EditWrites, EndsEditing, HasEditingCause, IsGoodScript}
-use Rattle.basin_cli.specs.Edited.{IsScriptRefusedFor, LeavesScript, LeavesShows, PushesOfScript, ScriptEnds}
-use Rattle.basin_cli.specs.Ending.{status_of}
-use Rattle.basin_cli.specs.Out.{MayWrite}
-use Rattle.basin_cli.specs.Outcome.{HasTrialCause}
-use Rattle.basin_cli.specs.Reading.{StopsReading}
+use Rattle.basin_cli.specs.Edited.{IsScriptRefusedFor, LeavesScript, PushesOfScript}
 use Rattle.basin_cli.specs.Series.{AreLoaded}
 use Rattle.basin_cli.proofs.Judged.{behind, of_both}
 use Rattle.basin_cli.proofs.OneSeries.{one_basin}
@@ -83,9 +76,6 @@ refused_not_good bytes s text fault line is good =
     never_ok : {X Y : Type 0} (r : Result X Y) (y : Y) → r ≡ Err y → IsOk r → ⊥
     never_ok (Ok x) y e h = cc
     never_ok (Err x) y e h = cc
-
-pub no_pushes : (b : Basin) (series : Inflows) (script : List ℕ) (n : ℕ) → PushesOfScript b series script n n
-no_pushes b series script n = record { asked = λ edits reads. omega arith; refused = λ _. refl }
 
 -- Behind the files of `edit`.
 

@@ -1,23 +1,17 @@
 -- The record of a month that is asked for, and what it answers.
-use Rattle.std.proofs.Common.{◌≡◌, ℕ, ◌+◌, ◌*◌, ◌<◌, ◌≤◌, Bool, refl, sym, ◌∙◌, ap, subst, arith, List, [], ◌∷◌, ◌++◌}
-use Rattle.std.proofs.Common.{length, Option, Some, inl, inr, length-append}
+use Rattle.std.proofs.Common.{◌≡◌, ℕ, ◌+◌, ◌<◌, Bool, refl, sym, ◌∙◌, ap, subst, arith, List, [], ◌∷◌, ◌++◌}
+use Rattle.std.proofs.Common.{length, Option, Some, length-append}
 use Rattle.std.specs.Prelude.{slice_get, slice_index, unwrap_or}
-use Rattle.std.proofs.lemmas.Bool.{cases_lt}
-use Rattle.std.proofs.lemmas.List.{take-append-le}
-use Rattle.std.proofs.Math.Nat.{mul-le-mul_right}
-use Rattle.std.proofs.Math.Seq.{take-length}
 use Rattle.cut_book.specs.Book.{book_bytes}
 use Rattle.cut_book.proofs.Adding.{lines_make_bound, tight_books_sum_to_delivery}
 use Rattle.cut_cert.specs.Sets.{cut_at}
 use Rattle.month_fold.specs.Reaches.{HasReaches}
-use Rattle.month_fold.specs.Runs.{RunSeen, StandsFor}
+use Rattle.month_fold.specs.Runs.{RunSeen}
 use Rattle.result_text.specs.Range.{FitsText}
 use Rattle.result_text.proofs.Whole.{FitsText-follows}
-use Rattle.senior_hold.specs.MonthNetwork.{month_pushes}
 use Rattle.water_text.specs.declared.month.Month.{Month}
 use Rattle.water_model.proofs.Histories.{last_follows}
 use Rattle.water_model.proofs.Lists.{get_behind}
-use Rattle.water_model.specs.Basin.{right_name}
 use Rattle.water_model.specs.Cuts.{IsReach}
 use Rattle.water_model.specs.History.{Follows, IsPartialHistory, IsShort}
 use Rattle.water_model.specs.Hydrology.{run_month}
@@ -27,7 +21,7 @@ use Rattle.water_model.specs.declared.types.Basin.{Basin}
 use Rattle.water_model.specs.declared.types.Inflows.{Inflows}
 use Rattle.water_model.specs.declared.types.MonthRecord.{MonthRecord}
 use Rattle.water_model.proofs.Outcome.{one_outcome}
-use Rattle.basin_cli.specs.Explained.{Explains, HasLast, IsAbout, IsRecordOf, met_line}
+use Rattle.basin_cli.specs.Explained.{Explains, HasLast, IsAbout, IsRecordOf}
 use Rattle.basin_cli.proofs.Asked.{one_index, one_right}
 
 -- the last record of a run is one of the month with its index
@@ -59,11 +53,6 @@ pub record_fits : (b : Basin) (series : Inflows) (month : Month) (m : MonthRecor
 record_fits b series month m valid is =
     FitsText-follows b series is.before m valid (last_follows b series is.before m is.partial)
     (omega (arith, is.partial.within, length-append is.before (m ∷ [])))
-
--- a run that solved one month more has a last one
-pub one_more : (run run' : RunSeen) (records : List MonthRecord) → StandsFor run records →
-    (StandsFor run records → StandsFor run' (records ++ run'.last ∷ [])) → HasLast run'
-one_more run run' records stands more = record { before = records; stands = more stands }
 
 -- The account of a short right.
 

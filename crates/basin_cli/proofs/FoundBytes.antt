@@ -1,23 +1,17 @@
 -- What is found of the bytes of a basin file, a series and a result.
-use Rattle.std.proofs.Common.{◌≡◌, ℕ, List, Option, Some, None, refl}
+use Rattle.std.proofs.Common.{◌≡◌, ℕ, List, None, refl}
 use Rattle.std.specs.Prelude.{Ok, Err}
-use Rattle.std.specs.Option.{option_and_then}
-use Rattle.basin_file.specs.BasinFaults.{Spells, file_fault}
+use Rattle.basin_file.specs.BasinFaults.{file_fault}
 use Rattle.cert_check.specs.Standing.{IsAnswer}
 use Rattle.cert_check.specs.Whole.{text_verdict}
 use Rattle.cert_check.specs.declared.refuted.Refuted.{Refuted}
 use Rattle.inflow_file.specs.SeriesFaults.{series_fault}
-use Rattle.inflow_file.specs.declared.refused.SeriesRefused.{SeriesRefused}
 use Rattle.water_model.specs.declared.types.Basin.{Basin}
 use Rattle.water_model.specs.declared.types.Inflows.{Inflows}
-use Rattle.basin_cli.specs.declared.ending.Ending.{Ending}
 use Rattle.basin_cli.specs.declared.ending.Ending.TheVariants as ending
-use Rattle.basin_cli.specs.declared.ending.SeriesFinding.{SeriesFinding}
 use Rattle.basin_cli.specs.declared.found.Found.TheVariants as found
 use Rattle.basin_cli.specs.Bytes.{AreSpelled}
-use Rattle.basin_cli.specs.Ending.{finding_of}
-use Rattle.basin_cli.specs.Found.{AreFaultless, IsFound, RunsAreAccepted, refusal}
-use Rattle.basin_cli.specs.Series.{BasinEnds, SeriesEnds}
+use Rattle.basin_cli.specs.Found.{AreFaultless, IsFound, RunsAreAccepted}
 use Rattle.basin_cli.proofs.Judged.{is_no_text, is_text}
 
 -- what was accepted is faultless

@@ -14,7 +14,7 @@ use Rattle.basin_cli.specs.Command.{Files}
 use Rattle.basin_cli.specs.Ending.{status_of}
 use Rattle.basin_cli.specs.Bytes.{Told, series_told}
 use Rattle.basin_cli.specs.Out.{MayWrite}
-use Rattle.basin_cli.specs.Outcome.{HasEnsembleCause, HasTrialCause, IsOfYears, IsPartYear, WritesEnsemble}
+use Rattle.basin_cli.specs.Outcome.{HasEnsembleCause, HasTrialCause, IsOfYears, WritesEnsemble}
 use Rattle.basin_cli.specs.Reading.{OfBoth}
 use Rattle.basin_cli.specs.Series.{AreLoaded, IsBasinText, IsSeriesText}
 use Rattle.basin_cli.proofs.Judged.{accepted, spelled_by}

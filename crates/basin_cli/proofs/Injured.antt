@@ -287,15 +287,3 @@ module _ (told : Told) (files : Files) (second : List ℕ) (pair : Pair) (paired
           let same : pair.first.basin ≡ b = one_basin x pair.first.basin b first.spelled spelled in
           let same_second : pair.second.basin ≡ c = one_basin y pair.second.basin c other.spelled second_spelled in
           rw (← same, ← same_second) l
-
--- no searches push where the files are refused
-pub no_pushes : (told : Told) (files : Files) (second : List ℕ) (before : ℕ) →
-    ComparisonPushes told files second before before
-no_pushes told files second before = by_told (told files.basin) (told second)
-  where
-    by_told : (t o : Option (List ℕ)) →
-        IfSome t (λ x. IfSome o (λ y. (first second : Basin) → Spells x first → Spells y second →
-        before ≤ before + (run_pushes first + run_pushes second)))
-    by_told None o = tt
-    by_told (Some x) None = tt
-    by_told (Some x) (Some y) = λ b c spelled second_spelled. omega arith

@@ -1,6 +1,5 @@
 pub mod Written
 pub mod Missing
-pub mod Names
 pub mod Reading
 pub mod OneSeries
 pub mod Judged

@@ -2,7 +2,7 @@
 use Rattle.std.proofs.Common.{◌≡◌, ℕ, zero, suc, ◌+◌, ◌-◌, ◌/◌, ◌%◌, ◌<◌, ◌≤◌, Bool, true, false, refl, sym, ◌∙◌, ap}
 use Rattle.std.proofs.Common.{subst, arith, List, [], ◌∷◌, ◌++◌, length, get_or, filter, Option, Some, None}
 use Rattle.std.proofs.Common.{if◌then◌else◌, option_map}
-use Rattle.std.specs.Prelude.{not, is_some, slice_get, ◌&&◌, ◌||◌, nat_le, nat_lt, ⊤}
+use Rattle.std.specs.Prelude.{not, is_some, slice_get, ◌||◌, nat_lt, ⊤}
 use Rattle.std.specs.List.{find}
 use Rattle.std.specs.Option.{option_or}
 use Rattle.water_text.specs.Months.{IsMonth}
@@ -13,8 +13,7 @@ use Rattle.water_model.specs.Valid.{IsValidBasin, IsValidNode, IsValidRight}
 use Rattle.water_model.specs.declared.types.Basin.{Basin}
 use Rattle.water_model.specs.declared.types.Node.{Node}
 use Rattle.water_model.specs.declared.types.Right.{Right}
-use Rattle.water_text.specs.Names.{is_name, is_name_byte}
-use Rattle.std.specs.List.{list_all}
+use Rattle.water_text.specs.Names.{is_name}
 use Rattle.std.proofs.lemmas.Bool.Decides.{nat_tests}
 use Rattle.water_model.proofs.Balance.{entry_holds}
 use Rattle.std.proofs.lemmas.Option.{slice_get_within}
@@ -185,11 +184,3 @@ never_none {text} {name} same named read =
     by_test : (t : Bool) → t ≡ true → (if t then Some text else None) ≡ None → ⊥
     by_test true e h = cc
     by_test false e h = cc
-
--- and is short
-short : (text : List ℕ) → is_name text ≡ true → length text ≤ 32
-unfolding is_name
-short text h = within (nat_le 1 (length text)) (length text) (list_all is_name_byte text) h
-  where
-    within : (p : Bool) (n : ℕ) (q : Bool) → p && (nat_le n 32 && q) ≡ true → n ≤ 32
-    within p n q h = grind (arith, nat_tests)

@@ -1,6 +1,6 @@
 -- From the cause of an ending: where nothing is refused and nothing fails, the call is done.
-use Rattle.std.proofs.Common.{◌≡◌, inl, inr, refl, ℕ, ◌≤◌, List, [], Option, Some, None, arith, append-nil, sym, ◌∙◌}
-use Rattle.std.proofs.Common.{ap, subst, length}
+use Rattle.std.proofs.Common.{◌≡◌, inl, inr, refl, ℕ, List, [], Option, Some, None, arith, sym, ◌∙◌}
+use Rattle.std.proofs.Common.{ap, subst}
 use Rattle.std.specs.Prelude.{IfSome, IsTrue, Bool, true, false}
 use Rattle.std.specs.Option.{option_and_then}
 use Rattle.std.specs.Io.KnownBytes.{Appends}
@@ -22,7 +22,7 @@ use Rattle.basin_cli.specs.Command.{Command, Files, run, check, report, trial, w
 use Rattle.basin_cli.specs.Ending.{line_of, status_of, status_of_second, finding_of}
 use Rattle.basin_cli.specs.Explained.{HasMonth, HasRight}
 use Rattle.basin_cli.specs.Bytes.{IsGoodBasin, IsGoodSeries, IsRefusedFor, IsSeriesRefusedFor, IsTooLong, Told}
-use Rattle.basin_cli.specs.Bytes.{file_limit, series_told}
+use Rattle.basin_cli.specs.Bytes.{series_told}
 use Rattle.basin_cli.specs.Outcome.{IsHistoryText, IsRefuted, HasSolvingCause, HasCheckingCause, HasTrialCause}
 use Rattle.basin_cli.specs.Outcome.{HasEnsembleCause, HasExplainingCause, IsOfYears, IsPartYear, IsAsked, IsOutsideRun}
 use Rattle.basin_cli.specs.Outcome.{IsUnknownRight, IsShortIn, EndingHasCause, Completes, IsQuiet, Tells}

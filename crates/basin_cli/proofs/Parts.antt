@@ -1,5 +1,5 @@
 -- A result that is read in parts: what a checker was given so far, and what is answered at the end.
-use Rattle.std.proofs.Common.{◌≡◌, ℕ, ◌+◌, ◌<◌, ◌≤◌, ap, subst, sym, ◌∙◌, arith, List, [], ◌++◌, length, take, drop}
+use Rattle.std.proofs.Common.{◌≡◌, ℕ, ◌+◌, ◌<◌, ◌≤◌, ap, subst, sym, ◌∙◌, List, ◌++◌, length, take, drop}
 use Rattle.std.proofs.Common.{Option, Some, None, append_assoc, take-append-drop}
 use Rattle.std.specs.Prelude.{IfSome, Result, Err}
 use Rattle.std.proofs.Math.Seq.{take-add}

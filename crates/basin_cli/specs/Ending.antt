@@ -1,5 +1,5 @@
 -- How a call may end, and the line that it puts to err.
-use Rattle.std.specs.Prelude.{ℕ, ◌≤◌, length, List, [], ◌++◌, codes, Option, Some, None, ⊤}
+use Rattle.std.specs.Prelude.{ℕ, List, [], ◌++◌, codes, Option, Some, None, ⊤}
 use Rattle.std.specs.Fmt.{decimal}
 use Rattle.basin_tree.specs.declared.walk.Finding.{Finding}
 use Rattle.basin_tree.specs.Faults.{fault_name}
@@ -112,11 +112,11 @@ line_of ending.OutOfMemory = codes "out of memory\n"
 line_of (ending.InputTooLong file) = codes "too long: " ++ file_name file ++ codes "\n"
 line_of (ending.ScriptRefused fault line) = script_line fault line
 
--- the month of a missing amount is one of the calendar, and the name has room in a line
+-- the month of a missing amount is one of the calendar
 abbrev pub CanBeSpelled : SeriesFinding → Type 0
 CanBeSpelled (finding.Record fault number) = ⊤
-CanBeSpelled (finding.Missing month node) = IsMonth month × (length node ≤ 32)
-CanBeSpelled (finding.MissingWant month right) = IsMonth month × (length right ≤ 32)
+CanBeSpelled (finding.Missing month node) = IsMonth month
+CanBeSpelled (finding.MissingWant month right) = IsMonth month
 
 abbrev pub CanBeSpelledOfSecond : SecondFinding → Type 0
 CanBeSpelledOfSecond (of_second.Series finding) = CanBeSpelled finding

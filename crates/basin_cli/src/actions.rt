@@ -7,7 +7,7 @@ ghost use Rattle.cert_check.specs.Standing.{IsAnswer};
 ghost use Rattle.cert_check.specs.Whole.{text_verdict};
 ghost use Rattle.index_seq.specs.Traces.{HasWholeYears, years_of};
 ghost use Rattle.reports.specs.Ends.{IsRun};
-ghost use Rattle.reports.specs.Reports.{report_text, trial_text};
+ghost use Rattle.reports.specs.Reports.{report_text};
 ghost use Rattle.water_edge.specs.Edge.{Rose};
 ghost use Rattle.water_model.specs.Valid.{IsValidBasin, IsSeriesOf};
 ghost use Rattle.basin_cli.specs.Actions.{LeavesRecords, LeavesTraces};
@@ -155,8 +155,8 @@ fn put_checked(line: &mut Line, months: u32)
     requires { line.old ≡ [] }
     ensures { line.new ≡ codes "checked " ++ decimal months ++ codes "\n" }
 {
-    line.word(b"checked ");
-    line.amount(u64::from(months));
+    line.word(b"checked");
+    line.add_number(u64::from(months));
     line.word(b"\n");
 }
 
@@ -166,11 +166,9 @@ fn put_refuted(line: &mut Line, refuted: &Refuted)
     ensures { line.new ≡ codes "refuted " ++ decimal refuted.now.line ++ codes " " ++ kind_name refuted.now.kind ++
         codes "\n" }
 {
-    let number = refuted.line;
-    line.word(b"refuted ");
-    line.amount(number);
-    line.word(b" ");
-    line.word(refuted.kind.name().as_bytes());
+    line.word(b"refuted");
+    line.add_number(refuted.line);
+    line.add_word(refuted.kind.name().as_bytes());
     line.word(b"\n");
 }
 

@@ -1,5 +1,5 @@
 //! The comparison of two runs.
-ghost use Rattle.std.specs.Prelude.{ℕ, List, [], ◌≡◌, ◌+◌, ◌-◌, ◌*◌, ◌<◌, ◌≤◌, ◌++◌, length, flat_map, IfOk, OnOk};
+ghost use Rattle.std.specs.Prelude.{[], ◌≡◌, ◌+◌, ◌-◌, ◌<◌, ◌≤◌, ◌++◌, length, flat_map, IfOk, OnOk};
 ghost use Rattle.water_model.specs.Valid.{IsValidBasin, IsSeriesOf};
 ghost use Rattle.water_text.specs.Months.{IsMonth};
 ghost use Rattle.month_fold.specs.Runs.{StandsFor, run_pushes};

@@ -34,7 +34,8 @@ impl File {
     /// The word for the file.
     #[tactic(auto, unfolding(crate::specs::Ending::file_name))]
     fn name(&self) -> &'static str
-        ensures { result.now ≡ file_name self.now }
+        ensures value { result.now ≡ file_name self.now }
+        ensures short { length result.now ≤ 16 }
     {
         match self {
             File::Basin => "BASIN",
@@ -152,10 +153,8 @@ fn put_refusal(line: &mut Line, whose: &[u8], finding: &Finding)
 {
     line.word(whose);
     line.word(finding.fault.name().as_bytes());
-    line.word(b" ");
-    line.word(finding.table.name().as_bytes());
-    line.word(b" ");
-    line.amount(u64::from(finding.entry));
+    line.add_word(finding.table.name().as_bytes());
+    line.add_number(u64::from(finding.entry));
     line.word(b"\n");
 }
 
@@ -167,8 +166,7 @@ fn put_record(line: &mut Line, whose: &[u8], fault: SeriesFault, number: u64)
 {
     line.word(whose);
     line.word(fault.name().as_bytes());
-    line.word(b" ");
-    line.amount(number);
+    line.add_number(number);
     line.word(b"\n");
 }
 
@@ -178,14 +176,12 @@ fn put_missing(line: &mut Line, whose: &[u8], what: &[u8], month: Month, name: &
     requires short { length whose.now ≤ 16 }
     requires what { length what.now ≤ 12 }
     requires month { IsMonth month }
-    requires name { length name.now ≤ 32 }
     ensures { line.new ≡ whose.now ++ what.now ++ month_digits month ++ codes " " ++ name.now ++ codes "\n" }
 {
     line.word(whose);
     line.word(what);
     month.put_into(line);
-    line.word(b" ");
-    line.word(name.bytes());
+    line.add_name(name);
     line.word(b"\n");
 }
 
@@ -236,7 +232,8 @@ fn put_file(line: &mut Line, word: &[u8], file: File)
 /// The word for a fault of a script.
 #[tactic(auto, unfolding(crate::specs::Ending::script_fault_name))]
 fn script_fault_name(fault: ScriptFault) -> &'static str
-    ensures { result.now ≡ script_fault_name fault }
+    ensures value { result.now ≡ script_fault_name fault }
+    ensures short { length result.now ≤ 16 }
 {
     match fault {
         ScriptFault::AfterEnd => "AfterEnd",
@@ -254,10 +251,9 @@ fn put_script_refusal(line: &mut Line, fault: ScriptFault, number: u64)
     requires { line.old ≡ [] }
     ensures { line.new ≡ script_line fault number }
 {
-    line.word(b"script: ");
-    line.word(script_fault_name(fault).as_bytes());
-    line.word(b" ");
-    line.amount(number);
+    line.word(b"script:");
+    line.add_word(script_fault_name(fault).as_bytes());
+    line.add_number(number);
     line.word(b"\n");
 }
 

@@ -1,10 +1,8 @@
 //! Why a right got no more in a month: the account book of its reach, or that it is met.
-ghost use Rattle.std.specs.Prelude.{ℕ, List, [], ◌∷◌, ◌≡◌, ◌+◌, ◌*◌, ◌<◌, ◌≤◌, ◌++◌, ◌↔◌, length, IsTrue, IsErr};
-ghost use Rattle.std.specs.Prelude.{IfNone, IfSome, OnOk};
+ghost use Rattle.std.specs.Prelude.{ℕ, List, [], ◌≡◌, ◌+◌, ◌*◌, ◌<◌, ◌≤◌, length, IsErr};
+ghost use Rattle.std.specs.Prelude.{IfNone, IfSome, bytes_eq, position};
 ghost use Rattle.water_text.specs.Months.{IsMonth};
-ghost use Rattle.water_model.specs.History.{IsShort};
 ghost use Rattle.water_model.specs.Valid.{IsValidBasin, IsSeriesOf};
-ghost use Rattle.basin_names.specs.Named.{right_named};
 ghost use Rattle.rights_roll.specs.Rolls.{IsRollOf};
 ghost use Rattle.month_fold.specs.Reaches.{HasReaches};
 ghost use Rattle.month_fold.specs.Runs.{HasMonths, StandsFor};
@@ -24,15 +22,16 @@ use calls::is_short;
 use cut_book::put_book;
 use edit_script::{ScriptFault, index_in_run};
 use month_fold::run::Run;
-use result_text::spelling::name_of_right;
 use rights_roll::roll::Roll;
-use std::alloc::{AllocError, Global};
+use std::alloc::Global;
 use std::sync::ledger::Ledger;
 use steps::Steps;
 use water_edge::{Sink, SinkFailed};
+use water_model::space::{Space, name_in};
 use water_model::types::{Basin, Inflows, MonthRecord};
 use water_text::line::Line;
 use water_text::month::Month;
+use water_text::name::Name;
 
 /// The index of a month in the run, or `None` where the run hasn't it.
 fn index_of(basin: &Basin, month: Month) -> Option<u32>
@@ -46,7 +45,7 @@ fn index_of(basin: &Basin, month: Month) -> Option<u32>
 
 /// The place of the first right with this name.
 fn place_named(basin: &Basin, name: &[u8]) -> Option<usize>
-    ensures { result ≡ right_named basin.now name.now }
+    ensures { result ≡ position (λ right. bytes_eq name.now right.name) basin.now.rights }
 {
     basin
         .rights
@@ -98,23 +97,20 @@ fn solve_up_to<L: Ledger>(run: &mut Run, index: u32, searches: &mut Steps<L>)
 
 /// Makes the line of a right that is met.
 #[tactic(auto, unfolding(crate::specs::Explained::met_line))]
-fn put_met(line: &mut Line, month: Month, name: &[u8])
+fn put_met(line: &mut Line, month: Month, name: &Name)
     requires empty { line.old ≡ [] }
     requires month { IsMonth month }
-    requires short { length name.now ≤ 32 }
     ensures { line.new ≡ met_line month name.now }
 {
-    line.word(b"met ");
-    month.put_into(line);
-    line.word(b" ");
-    line.word(name);
+    line.word(b"met");
+    line.add_month(month);
+    line.add_name(name);
     line.word(b"\n");
 }
 
 /// Puts that a right is met, by one `put`. It takes no memory.
-fn tell_met<K: Sink>(sink: &mut K, month: Month, name: &[u8]) -> Result<(), SinkFailed>
-    requires month { IsMonth month }
-    requires short { length name.now ≤ 32 }
+fn tell_met<K: Sink>(sink: &mut K, month: Month, name: &Name) -> Result<(), SinkFailed>
+    requires { IsMonth month }
     ensures text { Puts (K.taken sink.old) (K.taken sink.new) result (met_line month name.now) }
     ensures cause { HasCause (K.faults sink.old) (K.faults sink.new) (IsErr result) }
 {
@@ -144,7 +140,7 @@ fn put_answer<K: Sink>(
     if is_short(month, right) {
         put_book(sink, basin, roll, month, right)
     } else {
-        tell_met(sink, month.month, name_of_right(basin, right).bytes())
+        tell_met(sink, month.month, name_in(Space::Rights, basin, right))
     }
 }
 

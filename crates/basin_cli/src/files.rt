@@ -1,7 +1,7 @@
 //! The files of a command: a basin, and a series of its gauged inflows.
 ghost use Rattle.std.specs.Prelude.{◌≡◌, ◌≢◌, ◌<◌, ◌≤◌, ℕ, List, Some, None, IfOk, OnOk, IfErr, IfSome, length};
 ghost use Rattle.std.specs.Prelude.{option_map};
-ghost use Rattle.water_edge.specs.Edge.{AsksFor, Rose, SameShelf, HasCause};
+ghost use Rattle.water_edge.specs.Edge.{AsksFor, Rose, SameShelf};
 ghost use Rattle.basin_file.specs.BasinFaults.{Spells, file_fault};
 ghost use Rattle.index_seq.specs.Traces.{HasWholeYears};
 ghost use Rattle.inflow_file.specs.SeriesFaults.{series_fault, SpellsSeries};

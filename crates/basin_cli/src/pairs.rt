@@ -1,5 +1,5 @@
 //! The files of a comparison: two basins whose runs have the same months, and one series for both.
-ghost use Rattle.std.specs.Prelude.{◌≡◌, ◌≤◌, ◌↔◌, None, IfOk, OnOk, IfErr, IfSome, IsTrue, MatchResult, length};
+ghost use Rattle.std.specs.Prelude.{◌≤◌, ◌↔◌, None, IfOk, IfErr, IfSome, IsTrue, MatchResult, length};
 ghost use Rattle.std.specs.Prelude.{option_map};
 ghost use Rattle.water_edge.specs.Edge.{Rose, SameShelf};
 ghost use Rattle.water_model.specs.Valid.{IsValidBasin, IsSeriesOf};
@@ -10,7 +10,7 @@ ghost use Rattle.basin_cli.specs.Ending.{CanBeTold};
 ghost use Rattle.basin_cli.specs.Header.{header};
 ghost use Rattle.basin_cli.specs.Pairs.{ArePaired, BothSeriesEnd, BothSeriesReadEnd, IsOtherRun, SecondEnds};
 ghost use Rattle.basin_cli.specs.Pairs.{SecondReadEnds};
-ghost use Rattle.basin_cli.specs.Series.{AreLoaded, IsBasinText, IsSeriesText};
+ghost use Rattle.basin_cli.specs.Series.{IsBasinText, IsSeriesText};
 
 use crate::command::Inputs;
 use crate::ending::{Ending, File, SecondFinding, of_second};

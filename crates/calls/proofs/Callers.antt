@@ -1,5 +1,5 @@
 -- The first right in the order that calls is the calling right.
-use Rattle.std.proofs.Common.{◌≡◌, ℕ, ◌<◌, Bool, true, false, refl, sym, ap, ◌∙◌, arith, inl, inr, List, length}
+use Rattle.std.proofs.Common.{◌≡◌, ℕ, ◌<◌, true, false, sym, ap, ◌∙◌, inl, inr, length}
 use Rattle.std.specs.Prelude.{Option, Some, None}
 use Rattle.water_model.specs.Basin.{is_senior}
 use Rattle.water_model.specs.History.{IsCallingRight}

@@ -1,24 +1,18 @@
 -- Sums that fit their type.
-use Rattle.std.proofs.Common.{inl, inr, ◌≡◌, ℕ, zero, suc, ◌+◌, ◌-◌, ◌*◌, ◌^◌, ◌<◌, ◌≤◌, Bool, true, false, ap, sym}
+use Rattle.std.proofs.Common.{◌≡◌, ℕ, ◌+◌, ◌-◌, ◌*◌, ◌<◌, ◌≤◌, Bool, true, false, ap, sym}
 use Rattle.std.proofs.Common.{◌∙◌, arith, List, length, get_or}
-use Rattle.std.specs.Prelude.{slice_index, slice_get, All, if◌then◌else◌, unwrap_or, option_map, pos, ◌&&◌}
-use Rattle.std.proofs.lemmas.Bool.{cases_lt}
-use Rattle.std.proofs.lemmas.List.{get_or_past}
+use Rattle.std.specs.Prelude.{slice_index, slice_get, All, if◌then◌else◌, unwrap_or, ◌&&◌}
 use Rattle.std.proofs.lemmas.Option.{unwrap_or-slice_get}
 use Rattle.place_sums.specs.Sums.{total, total_where, when}
 use Rattle.place_sums.proofs.Totals.{total_most, total_where_fits, total_le, greatest_where_le}
-use Rattle.water_text.specs.Months.{IsMonth, days_of}
+use Rattle.water_text.specs.Months.{days_of}
 use Rattle.water_text.specs.declared.month.Month.{Month}
-use Rattle.water_text.proofs.DayNumbers.{days_in-days_in_month, days_in_month-le}
 use Rattle.water_model.specs.Basin.{is_on_link, is_senior}
 use Rattle.water_model.specs.Cuts.{kept_on}
-use Rattle.water_model.specs.Plans.{carry_of, carry_of_kind}
-use Rattle.water_model.specs.Valid.{IsValidBasin, IsValidLink, IsValidCarry}
+use Rattle.water_model.specs.Plans.{carry_of_kind}
 use Rattle.water_model.specs.declared.types.Basin.{Basin}
-use Rattle.water_model.specs.declared.types.Carry.{Carry}
-use Rattle.water_model.specs.declared.types.Carry.TheVariants.{River, Canal}
+use Rattle.water_model.specs.declared.types.Carry.TheVariants.{Canal}
 use Rattle.water_model.proofs.Wants.{entry_most}
-use Rattle.std.proofs.Math.Nat.{mul-le-mul_left}
 
 -- the terms so far that pass, and the next one
 pub next_fits : (k n m : ℕ) (p : ℕ → Bool) (f : ℕ → ℕ) → k < n → ((i : ℕ) → i < n → f i ≤ m) →

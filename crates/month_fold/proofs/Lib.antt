@@ -1,4 +1,3 @@
-pub mod Counts
 pub mod Following
 pub mod Resuming
 pub mod Standing

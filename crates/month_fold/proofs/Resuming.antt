@@ -1,7 +1,7 @@
 -- What the months of a partial history leave for a run to go on from.
 use Rattle.std.proofs.Common.{◌≡◌, ℕ, zero, suc, ◌+◌, ◌-◌, ◌^◌, ◌<◌, ◌≤◌, refl, sym, ◌∙◌, ap, subst, arith, List, []}
 use Rattle.std.proofs.Common.{◌∷◌, ◌++◌, length, get_or, map, take, length-take}
-use Rattle.std.specs.Prelude.{All, IfOk, Result, Ok, Err, replicate, slice_get, slice_index, Option, Some, None}
+use Rattle.std.specs.Prelude.{All, replicate, slice_get, slice_index, Option, Some, None}
 use Rattle.std.specs.Prelude.{option_map, unwrap_or}
 use Rattle.std.proofs.lemmas.List.{length-map, length-replicate, map-append, take_more}
 use Rattle.std.proofs.lemmas.Option.{slice_get-map, slice_get-get_or, slice_get_within}

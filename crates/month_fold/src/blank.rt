@@ -1,5 +1,5 @@
 //! The record that an engine has room for.
-ghost use Rattle.std.specs.Prelude.{ℕ, ◌<◌, IfOk};
+ghost use Rattle.std.specs.Prelude.{◌<◌, IfOk};
 ghost use Rattle.water_model.specs.Valid.{IsValidBasin};
 ghost use Rattle.month_terms.specs.Terms.{FitsRecord};
 

@@ -1,5 +1,5 @@
 //! What runs of a basin are made with.
-ghost use Rattle.std.specs.Prelude.{ℕ, List, ◌≡◌, ◌+◌, ◌*◌, ◌<◌, ◌≤◌, ◌++◌, ◌∷◌, [], All, length, map, IfOk};
+ghost use Rattle.std.specs.Prelude.{List, ◌≡◌, ◌+◌, ◌*◌, ◌<◌, ◌≤◌, ◌++◌, ◌∷◌, [], All, length, map, IfOk};
 ghost use Rattle.rights_roll.specs.Rolls.{IsRollOf};
 ghost use Rattle.senior_hold.specs.MonthNetwork.{month_pushes};
 ghost use Rattle.water_model.specs.History.{IsPartialHistory, opening_after};

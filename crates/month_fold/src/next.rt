@@ -1,14 +1,14 @@
 //! One month more.
-ghost use Rattle.std.specs.Prelude.{ℕ, List, ◌≡◌, ◌+◌, ◌*◌, ◌^◌, ◌<◌, ◌≤◌, ◌++◌, ◌∷◌, [], All, length, map};
+ghost use Rattle.std.specs.Prelude.{ℕ, List, ◌≡◌, ◌+◌, ◌^◌, ◌<◌, ◌≤◌, ◌++◌, ◌∷◌, [], All, length, map};
 ghost use Rattle.std.specs.Prelude.{slice_index};
-ghost use Rattle.lag_returns.specs.Lags.{OnTheWay, return_rows};
+ghost use Rattle.lag_returns.specs.Lags.{return_rows};
 ghost use Rattle.lag_returns.specs.Lags as lag;
 ghost use Rattle.month_terms.specs.Terms.{FitsRecord, HasReturned, HasUsed};
 ghost use Rattle.senior_hold.specs.MonthNetwork.{month_pushes};
 ghost use Rattle.water_model.specs.Valid.{IsValidBasin};
 ghost use Rattle.water_model.specs.declared.types.MonthRecord.{MonthRecord};
 ghost use Rattle.month_fold.specs.Reaches.{HasDeliveries};
-ghost use Rattle.month_fold.specs.Runs.{RunSeen, StandsFor, HasMonths, IsNext};
+ghost use Rattle.month_fold.specs.Runs.{StandsFor, HasMonths, IsNext};
 
 use lag_returns::Lags;
 use month_terms::month::{conclude, settle};

@@ -1,5 +1,5 @@
 //! An amount added at a place of a list.
-ghost use Rattle.std.specs.Prelude.{ℕ, ◌≡◌, ◌+◌, ◌<◌, ◌^◌, length, slice_index, slice_set};
+ghost use Rattle.std.specs.Prelude.{ℕ, ◌≡◌, ◌+◌, ◌<◌, ◌^◌, length, slice_index};
 ghost use Rattle.place_sums.specs.Sums.{when};
 ghost use Rattle.std.specs.Prelude.{◌==◌};
 

@@ -174,10 +174,3 @@ by_seniority_order rights strict = record {
         ∙ senior-places rights (by_seniority rights) (place_in (by_seniority rights) r)
         (place_in (by_seniority rights) s) (seniors_ordered rights strict)
         (place_in-below (by_seniority rights) r first) (place_in-below (by_seniority rights) s second))
-
--- An order with places is the rights by seniority.
-
-has-at : (xs : List ℕ) (x : ℕ) → Has xs x → (i : ℕ) × ((i < length xs) × (get_or xs i 0 ≡ x))
-has-at [] x h = absurd h
-has-at (y ∷ ys) x (inl e) = (0, (omega arith, sym e))
-has-at (y ∷ ys) x (inr h) = let at = has-at ys x h in (suc at.0, (omega (arith, at.1.0), at.1.1))

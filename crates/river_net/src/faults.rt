@@ -1,5 +1,5 @@
 //! Faults of single links and nodes.
-ghost use Rattle.std.specs.Prelude.{◌≡◌, ◌<◌, ◌≤◌, All, IfSome, length};
+ghost use Rattle.std.specs.Prelude.{◌≡◌, ◌<◌, All, IfSome, length};
 ghost use Rattle.std.specs.List.{find, range_with_len};
 ghost use Rattle.water_model.specs.Network.{HasNodes, is_outlet_in};
 ghost use Rattle.river_net.specs.NetFaults.{first_self_link, first_from_outlet, keeps_water};

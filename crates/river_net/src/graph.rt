@@ -1,5 +1,5 @@
 //! The nodes and links as a graph.
-ghost use Rattle.std.specs.Prelude.{◌≡◌, ◌+◌, ◌<◌, ◌≤◌, All, IfOk, IfSome, length};
+ghost use Rattle.std.specs.Prelude.{◌≡◌, ◌+◌, ◌<◌, ◌≤◌, All, IfOk, length};
 ghost use Rattle.water_model.specs.Network.{HasNodes, head_in, tail_in};
 ghost use Rattle.river_net.specs.Firsts.{IsFirstFrom, IsWithin, leaves};
 ghost use Rattle.river_net.specs.Sorting.{AreEntering};

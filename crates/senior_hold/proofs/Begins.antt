@@ -1,30 +1,24 @@
 -- A month that starts from the run of the river.
-use Rattle.std.proofs.Common.{◌≡◌, ℕ, ◌*◌, ◌<◌, ◌≤◌, Bool, true, false, refl, sym, ◌∙◌, ap, ap₂, subst, arith, List}
+use Rattle.std.proofs.Common.{◌≡◌, ℕ, ◌<◌, ◌≤◌, Bool, true, false, refl, sym, ◌∙◌, ap, ap₂, subst, arith, List}
 use Rattle.std.proofs.Common.{length}
 use Rattle.std.proofs.lemmas.List.{get_or-replicate}
 use Rattle.std.proofs.lemmas.Grind.{same_number_lists}
-use Rattle.std.specs.Prelude.{◌^◌, ◌-◌, slice_index, slice_get, unwrap_or, option_map, pos, if◌then◌else◌, Option, Some}
+use Rattle.std.specs.Prelude.{◌^◌, ◌-◌, slice_index, Option, Some}
 use Rattle.std.specs.Prelude.{None, is_some}
 use Rattle.place_sums.specs.Sums.{when}
 use Rattle.water_model.specs.Basin.{is_outlet, taking_node}
-use Rattle.water_model.specs.Valid.{IsValidBasin, IsValidLink, IsValidCarry}
+use Rattle.water_model.specs.Valid.{IsValidBasin}
 use Rattle.water_model.specs.RunOfRiver.{IsRunOfRiver}
 use Rattle.water_text.specs.declared.month.Month.{Month}
 use Rattle.water_model.specs.declared.types.Basin.{Basin}
-use Rattle.water_model.specs.declared.types.Carry.{Carry}
-use Rattle.water_model.specs.declared.types.Carry.TheVariants.{River, Canal}
-use Rattle.water_model.specs.declared.types.Link.{Link}
 use Rattle.water_model.specs.declared.types.Plan.{Plan}
-use Rattle.water_model.proofs.Balance.{entry_holds}
 use Rattle.circulation.specs.Contents.{Contents, network, month_contents, IsStart}
 use Rattle.circulation.specs.Network.{IsFlow}
 use Rattle.senior_hold.specs.MonthNetwork.{takes, take_arc, out_arc, arc_count, HasBasinEnds, IsMonthNetwork, plan_of}
 use Rattle.senior_hold.proofs.MonthArcs.{IsArc, is_link, is_take, is_out, arc_is}
-use Rattle.water_text.proofs.DayNumbers.{days_in-days_in_month, days_in_month-le}
 use Rattle.river_net.proofs.RiverPlan.{river_is_plan}
 use Rattle.senior_hold.proofs.Plans.{list_get, list_len, flow_is}
-use Rattle.water_text.specs.Months.{IsMonth, days_of}
-use Rattle.water_model.specs.Plans.{IsPlan, carry_of, carry_of_kind}
+use Rattle.water_model.specs.Plans.{IsPlan, carry_of}
 use Rattle.senior_hold.specs.Solved.{FitsPlan, AreSupplies, AreWants}
 use Rattle.senior_hold.specs.Arcs.{AreAmounts, AreBounds}
 

@@ -1,5 +1,5 @@
 -- The ends of a month's arcs, laid one after another.
-use Rattle.std.proofs.Common.{◌≡◌, ◌≢◌, ℕ, ◌+◌, ◌<◌, ◌≤◌, true, false, refl, sym, ◌∙◌, ap, subst, arith, List, [], ◌∷◌}
+use Rattle.std.proofs.Common.{◌≡◌, ◌≢◌, ℕ, ◌+◌, ◌<◌, ◌≤◌, true, refl, sym, ◌∙◌, ap, subst, arith, List, [], ◌∷◌}
 use Rattle.std.proofs.Common.{◌++◌, length, map, inl, inr, get_or}
 use Rattle.std.proofs.lemmas.Bool.{cases_lt}
 use Rattle.std.proofs.lemmas.Option.{slice_get-map, get_or_from_slice_get}
@@ -121,22 +121,6 @@ laid_out b es new n from to outlet f t is now = record {
   where
     one : (if is_outlet b n then 1 else 0) ≡ 0 + 1
     one = ap (λ t. if t then 1 else 0) outlet
-
-pub laid_pass : (b : Basin) (es : List Ends) (n : ℕ) → is_outlet b n ≡ false →
-    AreEndsOf b es (length b.links) (length b.rights) n → AreEndsOf b es (length b.links) (length b.rights) (n + 1)
-laid_pass b es n inner now = record {
-  count = omega (arith, now.count, out_arc_more b n, none);
-  link = now.link;
-  take = now.take;
-  out = λ m l h. elim (cases_lt m n) [
-    | inl below ↦ now.out m below h
-    | inr above ↦ (let same : m ≡ n = omega arith in let both : false ≡ true = sym inner ∙ (sym (ap (is_outlet b) same)
-        ∙ h) in absurd (cc (both)))
-  ];
-}
-  where
-    none : (if is_outlet b n then 1 else 0) ≡ 0 + 0
-    none = ap (λ t. if t then 1 else 0) inner
 
 from_at : (es : List Ends) (a from to : ℕ) → slice_get es a ≡ Some (end_at from to) → slice_index (froms es) a ≡ from
 from_at es a from to h =

@@ -10,11 +10,11 @@ use Rattle.water_model.specs.Basin.{is_outlet}
 use Rattle.water_model.specs.Valid.{IsValidBasin}
 use Rattle.water_model.specs.declared.types.Basin.{Basin}
 use Rattle.water_model.specs.declared.types.Plan.{Plan}
-use Rattle.senior_hold.specs.MonthNetwork.{takes, take_arc, out_arc, right_arc, arc_by_link, taker_count, arc_count}
+use Rattle.senior_hold.specs.MonthNetwork.{takes, take_arc, out_arc, right_arc, arc_by_link, taker_count}
 use Rattle.senior_hold.specs.MonthNetwork.{list_of}
 use Rattle.senior_hold.specs.Arcs.{AreArcs, AreAmountsOf}
 use Rattle.senior_hold.specs.declared.arcs.Arcs.{Arcs}
-use Rattle.senior_hold.proofs.MonthArcs.{IsKind, on_link, at_node, right_kind, take_arc_below, out_arc_below}
+use Rattle.senior_hold.proofs.MonthArcs.{IsKind, on_link, at_node, right_kind, take_arc_below}
 use Rattle.senior_hold.proofs.MonthArcs.{take_arc_apart}
 use Rattle.senior_hold.proofs.Plans.{list_get, list_len}
 
@@ -37,10 +37,6 @@ right_arc_read b arcs r got are l at = at
 pub takes_arc_in : (b : Basin) (r arc : ℕ) → IsValidBasin b → r < length b.rights → takes b r ≡ true →
     arc ≡ right_arc b r → arc < length b.links + taker_count b
 takes_arc_in b r arc valid l h is = omega (arith, is, takes_arc b r valid l h, take_arc_below b r l h)
-
-pub outs_arc_in : (b : Basin) (n arc : ℕ) → n < length b.nodes → is_outlet b n ≡ true → arc ≡ out_arc b n →
-    arc < arc_count b
-outs_arc_in b n arc l h is = omega (arith, is, out_arc_below b n l h)
 
 pub numbers_take : (b : Basin) (p : Plan) (into into' : List ℕ) (r x arc : ℕ) → r < length b.rights → takes b r ≡ true →
     arc ≡ take_arc b r → arc < length into → into' ≡ slice_set into arc x → x ≡ slice_index p.take r →
@@ -95,18 +91,6 @@ numbers_out b p into into' n x arc l h is inside write value now = record {
 
     there : (a : ℕ) → a ≢ arc → slice_index into' a ≡ slice_index into a
     there a ne = ap (λ (xs : List ℕ). slice_index xs a) write ∙ get_or-set_other into arc a x 0 ne
-
-pub numbers_pass : (b : Basin) (p : Plan) (g : ℕ → ℕ) (n : ℕ) → is_outlet b n ≡ false →
-    AreAmountsOf b p g (length b.links) (length b.rights) n → AreAmountsOf b p g (length b.links) (length b.rights)
-    (n + 1)
-numbers_pass b p g n h now = record {
-  on_links = now.on_links;
-  on_takes = now.on_takes;
-  on_outs = λ m k o. elim (cases_eq m n) [
-    | inl same ↦ absurd (let e = sym h ∙ (ap (is_outlet b) (sym same) ∙ o) in cc (e))
-    | inr ne ↦ now.on_outs m (let q : m < n = omega arith in q) o
-  ];
-}
 
 -- a list that is known place by place
 pub list_is : (n k : ℕ) (f : ℕ → ℕ) (xs : List ℕ) → length xs ≡ n → n ≤ k → ((i : ℕ) → i < k → slice_index xs i ≡ f i) →

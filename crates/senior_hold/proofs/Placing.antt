@@ -2,7 +2,7 @@
 use Rattle.std.proofs.Common.{ℕ, ◌≡◌, ◌≢◌, ◌+◌, ◌-◌, ◌^◌, ◌<◌, ◌≤◌, List, ◌++◌, length, take, drop, refl, arith, ap}
 use Rattle.std.proofs.Common.{sym, subst, ◌∙◌, length-drop, length-take-le}
 use Rattle.std.specs.Prelude.{All}
-use Rattle.std.proofs.lemmas.List.{take_at, take_all, take-take, drop_at, length-append}
+use Rattle.std.proofs.lemmas.List.{take_at, take_all, take-take, length-append}
 use Rattle.word_region.specs.Words.{Words, words_at, with_words, zeroed}
 use Rattle.word_region.specs.declared.Place.{Place}
 use Rattle.word_region.proofs.Words.{length-with_words, length-zeroed}
@@ -18,7 +18,7 @@ use Rattle.circulation.specs.Places.{tails, heads, fixed_count, AreFixedOf, Hold
 use Rattle.circulation.proofs.Lends.{written_place}
 use Rattle.circulation.proofs.Holding.{held_when_taken, holds_arcs}
 use Rattle.residual_tree.specs.TreeWords.{tree_words}
-use Rattle.senior_hold.specs.MonthNetwork.{arc_count, takes, HasBasinEnds}
+use Rattle.senior_hold.specs.MonthNetwork.{arc_count, takes}
 use Rattle.senior_hold.specs.Arcs.{AreEnds}
 use Rattle.senior_hold.specs.Spilled.{spilled}
 use Rattle.senior_hold.specs.Places.{HasArcs, HasParts, HasPlaces}

@@ -1,8 +1,8 @@
 -- What the kind of a right says of its arc.
-use Rattle.std.proofs.Common.{◌≡◌, ℕ, ◌+◌, ◌<◌, true, false, refl, sym, ◌∙◌, ap, ap₂, [], arith, length}
-use Rattle.std.specs.Prelude.{slice_get, Option, Some, None, is_some, unwrap_or, option_map, if◌then◌else◌}
+use Rattle.std.proofs.Common.{◌≡◌, ℕ, ◌+◌, ◌<◌, true, false, refl, sym, ◌∙◌, ap, arith, length}
+use Rattle.std.specs.Prelude.{slice_get, Some, None, is_some, unwrap_or, option_map, if◌then◌else◌}
 use Rattle.place_sums.proofs.Totals.{total_where_more}
-use Rattle.water_model.specs.Basin.{taking_node_of_kind, instream_link, link_of_kind, is_outlet, is_senior}
+use Rattle.water_model.specs.Basin.{taking_node_of_kind, instream_link, link_of_kind, is_outlet}
 use Rattle.water_model.specs.Valid.{IsValidBasin}
 use Rattle.water_model.specs.declared.types.Basin.{Basin}
 use Rattle.water_model.specs.declared.types.Right.{Right}
@@ -10,7 +10,6 @@ use Rattle.water_model.specs.declared.types.RightKind.{RightKind}
 use Rattle.water_model.specs.declared.types.RightKind.TheVariants.{Diversion, Instream, Zone}
 use Rattle.senior_hold.specs.MonthNetwork.{takes, take_arc, out_arc, right_arc, arc_by_link}
 use Rattle.senior_hold.proofs.MonthArcs.{IsKind, on_link, at_node, right_kind}
-use Rattle.water_model.specs.Rights.{is_lower, priority}
 
 pub take_arc_more : (b : Basin) (r : ℕ) → take_arc b (r + 1) ≡ take_arc b r + (if takes b r then 1 else 0)
 take_arc_more b r = omega (arith, total_where_more r (λ r. takes b r) (λ k. 1))
@@ -25,14 +24,6 @@ take_arc_skip b r h = let t : (if takes b r then 1 else 0) ≡ 0 + 0 = ap (λ t.
 pub take_arc_step : (b : Basin) (r : ℕ) → takes b r ≡ true → take_arc b r + 1 ≡ take_arc b (r + 1)
 take_arc_step b r h = let t : (if takes b r then 1 else 0) ≡ 0 + 1 = ap (λ t. if t then 1 else 0) h in
     omega (arith, take_arc_more b r)
-
-pub out_arc_skip : (b : Basin) (n : ℕ) → is_outlet b n ≡ false → out_arc b n ≡ out_arc b (n + 1)
-out_arc_skip b n h = let t : (if is_outlet b n then 1 else 0) ≡ 0 + 0 = ap (λ t. if t then 1 else 0) h in
-    omega (arith, out_arc_more b n)
-
-pub out_arc_step : (b : Basin) (n : ℕ) → is_outlet b n ≡ true → out_arc b n + 1 ≡ out_arc b (n + 1)
-out_arc_step b n h = let t : (if is_outlet b n then 1 else 0) ≡ 0 + 1 = ap (λ t. if t then 1 else 0) h in
-    omega (arith, out_arc_more b n)
 
 -- an instream right has its link as its arc, and takes nothing
 pub record IsOnLink (b : Basin) (r e : ℕ) : Type 0 where
@@ -68,10 +59,3 @@ taker_arc b r x valid l at not = of_kind (right_kind b valid r l)
     of_kind : IsKind b r → IsAtNode b r
     of_kind (on_link e k i t) = absurd (let s = sym none ∙ i in cc (s))
     of_kind (at_node v k i t) = record { arc = ap (arc_by_link b r) i; takes_here = ap is_some t }
-
--- seniority by the entries of two rights
-pub senior_is : (b : Basin) (s r : ℕ) (x z : Right) → slice_get b.rights s ≡ Some x → slice_get b.rights r ≡ Some z →
-    is_senior b s r ≡ is_lower (priority x) (priority z)
-senior_is b s r x z h i =
-    ap₂ (λ (o p : Option Right). is_lower (unwrap_or (option_map priority o) []) (unwrap_or (option_map priority p) []))
-    h i

@@ -14,7 +14,7 @@ use Rattle.water_model.specs.declared.types.Basin.{Basin}
 use Rattle.circulation.specs.Contents.{Contents, network, flow_of, IsCirculation}
 use Rattle.circulation.specs.Network.{Network, IsFlow}
 use Rattle.augment.specs.Raised.{IsGreatestCut}
-use Rattle.senior_hold.specs.MonthNetwork.{take_arc, out_arc, right_arc, arc_count, HasBasinEnds, IsMonthNetwork, Holds}
+use Rattle.senior_hold.specs.MonthNetwork.{take_arc, out_arc, right_arc, arc_count, IsMonthNetwork, Holds}
 use Rattle.senior_hold.proofs.MonthArcs.{AreKinds, take_arc_below, out_arc_below}
 use Rattle.senior_hold.proofs.Bridge.{greatest_reach}
 use Rattle.senior_hold.proofs.Plans.{right_arc_in}
@@ -22,7 +22,7 @@ use Rattle.senior_hold.proofs.Sweeps.{got, swept_same, swept_next}
 use Rattle.water_model.proofs.SetEntries.{set_of_with, set_of_other}
 use Rattle.water_model.specs.Lookups.{has}
 use Rattle.rights_roll.specs.SeniorityOrder.{IsSeniorityOrder}
-use Rattle.senior_hold.specs.Serving.{IsServed, SameEnds}
+use Rattle.senior_hold.specs.Serving.{IsServed}
 use Rattle.senior_hold.specs.Solved.{IsSettled, FitsCuts}
 use Rattle.senior_hold.proofs.Swept.{delivered_by, deliveries_by, IsSwept}
 
@@ -249,17 +249,3 @@ standing_next b month supply want order k r arc amount c new cuts after kinds l 
     (served_next b month supply want order k r arc amount c new.flow new.scratch cuts after kinds l at order_is now
     arc_is amount_is
     (subst (λ (x : Contents). IsFlow (network x) (flow_of new)) served.held kept.flow) served.outcome)
-
--- the ends are as before
-pub ends_kept : (b : Basin) (c d : Contents) → SameEnds c d → HasBasinEnds b (network c) → HasBasinEnds b (network d)
-ends_kept b c d same ends = record {
-  nodes = same.nodes ∙ ends.nodes;
-  arcs = ap length same.from ∙ ends.arcs;
-  link_from = λ e l. ap (λ (xs : List ℕ). slice_index xs e) same.from ∙ ends.link_from e l;
-  link_to = λ e l. ap (λ (xs : List ℕ). slice_index xs e) same.to ∙ ends.link_to e l;
-  take_from = λ r l h. ends.take_from r l h
-      ∙ ap (λ (xs : List ℕ). Some (slice_index xs (take_arc b r))) (sym same.from);
-  take_to = λ r l h. ap (λ (xs : List ℕ). slice_index xs (take_arc b r)) same.to ∙ ends.take_to r l h;
-  out_from = λ n l h. ap (λ (xs : List ℕ). slice_index xs (out_arc b n)) same.from ∙ ends.out_from n l h;
-  out_to = λ n l h. ap (λ (xs : List ℕ). slice_index xs (out_arc b n)) same.to ∙ ends.out_to n l h;
-}

@@ -10,7 +10,7 @@ use Rattle.water_model.specs.Basin.{is_outlet, tail_of, head_of, takes_at}
 use Rattle.water_model.specs.declared.types.Basin.{Basin}
 use Rattle.circulation.specs.Contents.{Contents, network, month_contents}
 use Rattle.senior_hold.specs.MonthNetwork.{out_arc, spill_arc, HasBasinEnds}
-use Rattle.senior_hold.specs.Arcs.{AreEndsOf, AreAmountsOf}
+use Rattle.senior_hold.specs.Arcs.{AreEndsOf}
 use Rattle.senior_hold.specs.Spilled.{spilled, HasSpills}
 use Rattle.senior_hold.proofs.Laid.{end_at}
 use Rattle.water_model.specs.declared.types.Plan.{Plan}
@@ -62,11 +62,6 @@ spilled_ends b es laid = record {
   take = λ r v l h. laid.take r v l h ∙ ap (λ n. Some (end_at v n)) (sym (spilled_count b));
   out = λ n l h. absurd (omega arith);
 }
-
-pub spilled_amounts : (b : Basin) (p : Plan) (g : ℕ → ℕ) → AreAmountsOf b p g (length b.links) (length b.rights) 0 →
-    AreAmountsOf (spilled b) p g (length b.links) (length b.rights) 0
-spilled_amounts b p g laid =
-    record { on_links = laid.on_links; on_takes = laid.on_takes; on_outs = λ n l h. absurd (omega arith) }
 
 -- what a node spills
 pub spill_read : (b : Basin) (g : ℕ → ℕ) (n : ℕ) → n < length b.nodes →

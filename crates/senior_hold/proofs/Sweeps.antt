@@ -7,20 +7,19 @@ use Rattle.std.specs.Prelude.{◌==◌, slice_index, ◌&&◌, max, is_some, nat
 use Rattle.place_sums.specs.Sums.{greatest_where, when}
 use Rattle.place_sums.proofs.Totals.{term_le_greatest, greatest_same_tests, greatest_one_more}
 use Rattle.water_model.specs.Basin.{is_outlet, is_on_link, is_at, is_senior}
-use Rattle.water_model.specs.Cuts.{IsReach, IsTight}
+use Rattle.water_model.specs.Cuts.{IsReach}
 use Rattle.water_model.specs.CutSets.{CutSets, set_of}
 use Rattle.water_text.specs.declared.month.Month.{Month}
 use Rattle.water_model.specs.declared.types.Basin.{Basin}
 use Rattle.water_model.proofs.Duality.{cut_slack}
 use Rattle.water_model.proofs.Stays.{tight_stays, greatest_same_terms}
-use Rattle.water_model.proofs.Greatest.{cuts_make_plan_greatest}
 use Rattle.circulation.specs.Network.{Network, IsFlow}
 use Rattle.senior_hold.specs.MonthNetwork.{takes, take_arc, out_arc, right_arc, arc_by_link, arc_count, IsMonthNetwork}
 use Rattle.senior_hold.specs.MonthNetwork.{plan_of}
 use Rattle.senior_hold.proofs.MonthArcs.{IsKind, on_link, at_node, AreKinds, take_arc_below, out_arc_below}
 use Rattle.senior_hold.proofs.MonthArcs.{take_arc_apart}
 use Rattle.senior_hold.proofs.Plans.{list_get, plan_is, delivery_is, right_arc_in}
-use Rattle.water_model.specs.Plans.{delivery, IsGreatest}
+use Rattle.water_model.specs.Plans.{delivery}
 use Rattle.rights_roll.specs.SeniorityOrder.{IsSeniorityOrder}
 use Rattle.senior_hold.specs.Solved.{IsSettled}
 use Rattle.senior_hold.proofs.Swept.{delivered_by, deliveries_by, IsSwept}
@@ -325,22 +324,3 @@ swept_next b month supply want order o k r amount w w' g cuts new kinds l at swe
     on_outs (at_node v q i t) n m h = rest (out_arc b n) (out_arc_below b n m h)
         (λ e. let same = ap (arc_by_link b r) i in absurd (omega (arith, take_arc_below b r r_in (ap is_some t))))
         ∙ swept.held.on_outs n m h
-
--- when all rights are served, the plan of the flow is greatest
-pub swept_greatest : (b : Basin) (month : Month) (supply want order : List ℕ) (o : IsSeniorityOrder b.rights order)
-    (w : Network) (g : ℕ → ℕ) (cuts : CutSets) → AreKinds b → IsMonthNetwork b month supply want w →
-    IsSwept b month supply want o.place (length b.rights) w g cuts → IsGreatest b month supply want (plan_of b g)
-swept_greatest b month supply want order o w g cuts kinds net swept =
-    cuts_make_plan_greatest b month supply want (deliveries_by b want g) (plan_of b g)
-    (plan_is b month supply want w g net swept.flow)
-    (record {
-      each = λ r l. got b want g r l
-          ∙ sym (delivery_is b month supply want w g r net swept.flow l (kinds r l));
-    })
-    (λ r l. of_settled r (swept.settled r l (o.in_range r l)))
-  where
-    of_settled : (r : ℕ) → IsSettled b month supply want (deliveries_by b want g) cuts r →
-        (slice_index want r ≤ slice_index (deliveries_by b want g) r)
-        ⊎ ((cut : List Bool) × IsTight b month supply (deliveries_by b want g) r cut)
-    of_settled r (inl met) = inl met.0
-    of_settled r (inr short) = inr (short.1.0, short.1.1.1.is_tight)

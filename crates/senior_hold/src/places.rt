@@ -1,6 +1,6 @@
 //! Where the circulation and the residual tree of a solver lie: in two places of one region of words, of which a month
 //! borrows both.
-ghost use Rattle.std.specs.Prelude.{◌≡◌, ℕ, ◌+◌, ◌*◌, ◌<◌, ◌≤◌, length, replicate};
+ghost use Rattle.std.specs.Prelude.{◌≡◌, ◌+◌, ◌*◌, ◌<◌, ◌≤◌, length, replicate};
 ghost use Rattle.water_text.specs.Months.{IsMonth};
 ghost use Rattle.water_model.specs.Valid.{IsValidBasin};
 ghost use Rattle.senior_hold.specs.MonthNetwork.{arc_count};

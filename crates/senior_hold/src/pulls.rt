@@ -1,12 +1,11 @@
 //! One right's turn by the residual tree.
 ghost use Rattle.std.specs.Prelude.{◌≡◌, ◌≢◌, ◌↔◌, ◌⊎◌, ◌+◌, ◌*◌, ◌<◌, ◌≤◌, length, slice_index, None};
-ghost use Rattle.water_model.specs.CutSets.{set_of, with_set};
+ghost use Rattle.water_model.specs.CutSets.{set_of};
 ghost use Rattle.circulation.specs.Contents.{network, flow_of, arcs, IsCirculation};
 ghost use Rattle.augment.specs.Raised.{IsGreatestCut};
 ghost use Rattle.residual_tree.specs.Tree.{IsResidualTree, dry};
 ghost use Rattle.residual_tree.specs.Growth.{IsLentTree};
 ghost use Rattle.residual_tree.specs.Raised.{IsExit, IsFull, IsRaisedOver};
-ghost use Rattle.senior_hold.specs.MonthNetwork.{list_of};
 ghost use Rattle.senior_hold.specs.Serving.{IsServed, SameEnds, KeepsShape, FillsExit};
 
 use circulation::Lent;

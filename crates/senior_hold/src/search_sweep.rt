@@ -1,17 +1,15 @@
 //! A month by searches, each of them over the whole residual network.
 //!
 //! A month begins with the run of the river, and only outlets let water out.
-ghost use Rattle.std.specs.Prelude.{◌≡◌, ℕ, ◌+◌, ◌*◌, ◌^◌, ◌<◌, ◌≤◌, length, slice_index};
+ghost use Rattle.std.specs.Prelude.{ℕ, ◌+◌, ◌*◌, ◌^◌, ◌<◌, ◌≤◌, length, slice_index};
 ghost use Rattle.water_text.specs.Months.{IsMonth};
 ghost use Rattle.water_model.specs.Valid.{IsValidBasin};
 ghost use Rattle.water_model.specs.RunOfRiver.{IsRunOfRiver};
-ghost use Rattle.circulation.specs.Contents.{network};
 ghost use Rattle.river_net.specs.Net.{IsNet};
-ghost use Rattle.senior_hold.specs.MonthNetwork.{arc_count, HasBasinEnds};
+ghost use Rattle.senior_hold.specs.MonthNetwork.{arc_count};
 ghost use Rattle.senior_hold.specs.Solved.{FitsPlan, FitsCuts, AreSupplies, AreWants, IsGiven, IsSolved};
 ghost use Rattle.senior_hold.specs.Layouts.{IsLayout, FitsRoom, IsBegun};
 ghost use Rattle.senior_hold.specs.Places.{HasArcs};
-ghost use Rattle.senior_hold.specs.Spilled.{spilled};
 
 use crate::amounts::{lay, read_plan, write_bounds, write_outlets};
 use crate::serving::serve;

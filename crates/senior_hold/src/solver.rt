@@ -4,7 +4,7 @@
 //! many. So that way has a budget of 30 pushes for each right, for the month as a whole. By searches a month has a
 //! bound on its pushes, whatever its amounts. Where the budget gives out, the month is solved from its beginning by
 //! searches. Both ways go over one network.
-ghost use Rattle.std.specs.Prelude.{◌≡◌, ℕ, ◌+◌, ◌*◌, ◌<◌, ◌≤◌, length, IfOk};
+ghost use Rattle.std.specs.Prelude.{◌≡◌, ◌+◌, ◌*◌, ◌<◌, ◌≤◌, length, IfOk};
 ghost use Rattle.rights_roll.specs.Rolls.{IsRollOf};
 ghost use Rattle.water_text.specs.Months.{IsMonth};
 ghost use Rattle.water_model.specs.Valid.{IsValidBasin};

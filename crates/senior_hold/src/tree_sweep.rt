@@ -2,10 +2,9 @@
 //!
 //! Water stays where it rises: a month begins with nothing on the links and each node's supply on its spill. At the end
 //! what is left on the spills runs down the rivers. No delivery changes by that, as a tight cut bounds every plan.
-ghost use Rattle.std.specs.Prelude.{◌≡◌, true, ℕ, ◌+◌, ◌*◌, ◌^◌, ◌<◌, ◌≤◌, List, length, slice_index};
+ghost use Rattle.std.specs.Prelude.{◌≡◌, ℕ, ◌+◌, ◌*◌, ◌^◌, ◌<◌, ◌≤◌, length, slice_index};
 ghost use Rattle.water_text.specs.Months.{IsMonth};
 ghost use Rattle.water_text.specs.declared.month.Month.{Month};
-ghost use Rattle.water_model.specs.Plans.{IsPlan};
 ghost use Rattle.water_model.specs.Valid.{IsValidBasin};
 ghost use Rattle.circulation.specs.Contents.{network, flow_of, arcs};
 ghost use Rattle.residual_tree.specs.Raised.{IsExit};

@@ -1,5 +1,5 @@
 //! The first places of texts in lists.
-ghost use Rattle.std.specs.Prelude.{◌≡◌, ◌+◌, ◌<◌, ◌^◌, [], List, ℕ, length, codes, IfOk, OnOk, OnErr, MatchResult};
+ghost use Rattle.std.specs.Prelude.{◌≡◌, ◌+◌, ◌<◌, ◌^◌, [], List, ℕ, length, IfOk, OnOk, OnErr, MatchResult};
 ghost use Rattle.std.specs.Prelude.{Some, None, option_map, option_and_then, if◌then◌else◌};
 ghost use Rattle.std.specs.Option.{option_or, option_map_or};
 ghost use Rattle.indexmap.specs.IndexMap.{IsUnchanged};

@@ -1,4 +1,4 @@
-use Rattle.std.proofs.Common.{◌≡◌, ℕ, ◌+◌, ◌≤◌, length}
+use Rattle.std.proofs.Common.{◌≡◌, ◌+◌, ◌≤◌, length}
 use Rattle.std.specs.Prelude.{IfSome, None}
 use Rattle.cert_check.specs.Pieces.{bytes_left}
 use Rattle.water_edge.specs.Edge.{SameShelf}

@@ -5,4 +5,4 @@ use Rattle.basin_cli.proofs.files.missing_want.Goals as goal
 pub unreachable-requires : goal.unreachable-requires
 unreachable-requires c =
     let named = right_named c.args.basin.now c.args.right c.index.result.now c.requires.basin c.index.ensures in
-    never_none c.bytes.ensures named (sym c.read.ensures ∙ c.in-None.is)
+    never_none c.bytes.ensures.value named (sym c.read.ensures ∙ c.in-None.is)

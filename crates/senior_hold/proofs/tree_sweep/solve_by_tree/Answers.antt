@@ -8,7 +8,7 @@ use Rattle.senior_hold.specs.Spilled.{spilled}
 use Rattle.senior_hold.proofs.Budget.{never_full}
 use Rattle.senior_hold.proofs.MonthArcs.{right_kind}
 use Rattle.senior_hold.proofs.Solves.{IsStanding, standing_next}
-use Rattle.senior_hold.proofs.SpilledArcs.{spilled_count, spilled_kinds}
+use Rattle.senior_hold.proofs.SpilledArcs.{spilled_kinds}
 use Rattle.senior_hold.proofs.Spilled.{spilled_turn, spilled_wants, spilled_standing, has_spills}
 use Rattle.senior_hold.proofs.SettledPlans.{spills_few, tree_solved}
 use Rattle.senior_hold.proofs.Turns.{turn_in_range, order_of_roll, turn, turn_arc, turn_want, turn_free}

@@ -1,7 +1,5 @@
-use Rattle.std.proofs.Common.{[], length}
-use Rattle.std.proofs.lemmas.List.{length-map}
+use Rattle.std.proofs.Common.{[]}
 use Rattle.water_model.proofs.Histories.{nothing_is_partial}
-use Rattle.month_fold.specs.Runs.{StandsFor, run_with}
 use Rattle.month_fold.proofs.Resuming.{none_tell, none_reach}
 use Rattle.month_fold.proofs.run.Run.begin.Goals as goal
 

@@ -1,4 +1,4 @@
-use Rattle.std.proofs.Common.{map, sym, subst}
+use Rattle.std.proofs.Common.{map}
 use Rattle.month_fold.proofs.Resuming.{have_deliveries, tell_use, stored_count}
 use Rattle.month_fold.proofs.run.Run.resume.Goals as goal
 
