@@ -77,63 +77,55 @@ apart_way false true true d = omega arith
 apart_way false true false d = omega arith
 apart_way false false e d = omega arith
 
--- a set with r's tail and not its head
-rise_out : (w : Network) (r d : ℕ) (y : ℕ → Bool) (g h : ℕ → ℕ) → r < w.arcs → ((v : ℕ) → w.nodes ≤ v → y v ≡ false) →
-    leaves w y r ≡ true → IsFlow w g → IsFlow w h → ((a : ℕ) → a < w.arcs → enters w y a ≡ true → w.upper a ≤ g a + d) →
-    ((a : ℕ) → a < w.arcs → leaves w y a ≡ true → a ≢ r → g a ≤ w.lower a + d) → h r ≤ g r + open_arcs w * d
-rise_out w r d y g h b basin own fg fh full empty =
-    let cross_g = crossing w y g basin fg in
-    let cross_h = crossing w y h basin fh in
-    let part_g = without w.arcs r (leaves w y) g b own in
-    let part_h = without w.arcs r (leaves w y) h b own in
-    let into = total-slack w.arcs (room_by w d) (enters w y) h g
+-- r crosses a set one way: arcs that cross it as r does carry little more than they must, and those the other way are
+-- nearly full
+rise_over : (w : Network) (r d : ℕ) (along against : ℕ → Bool) (g h : ℕ → ℕ) (inner outer : ℕ) → r < w.arcs →
+    along r ≡ true → IsFlow w g → IsFlow w h →
+    ((a x : ℕ) → when (against a) x + when (along a && not (a == r)) x ≤ x) →
+    inner + total w.arcs (λ a. when (against a) (g a)) ≡ outer + total w.arcs (λ a. when (along a) (g a)) →
+    inner + total w.arcs (λ a. when (against a) (h a)) ≡ outer + total w.arcs (λ a. when (along a) (h a)) →
+    ((a : ℕ) → a < w.arcs → against a ≡ true → w.upper a ≤ g a + d) →
+    ((a : ℕ) → a < w.arcs → along a ≡ true → a ≢ r → g a ≤ w.lower a + d) → h r ≤ g r + open_arcs w * d
+rise_over w r d along against g h inner outer b own fg fh apart cross_g cross_h full empty =
+    let part_g = without w.arcs r along g b own in
+    let part_h = without w.arcs r along h b own in
+    let back = total-slack w.arcs (room_by w d) against h g
     (λ a c e. open_room (w.upper a) d (h a) (g a) (fh.high a c) (omega (arith, full a c e, fh.high a c))) in
-    let out = total-slack w.arcs (room_by w d) (λ a. leaves w y a && not (a == r)) g h (λ a c e.
-    let parts = and_parts (leaves w y a) (not (a == r)) e in
+    let forth = total-slack w.arcs (room_by w d) (λ a. along a && not (a == r)) g h (λ a c e.
+    let parts = and_parts (along a) (not (a == r)) e in
     open_room (w.upper a) d (g a) (h a) (fg.high a c)
     (omega (arith, empty a c parts.0 (eqb-false a r (not-true (a == r) parts.1)), fh.low a c))) in
-    let slack = disjoint_sum w.arcs (room_by w d) (enters w y) (λ a. leaves w y a && not (a == r))
-    (λ a c. apart_way (y (w.to a)) (y (w.from a)) (not (a == r)) (room_by w d a)) in
+    let slack = disjoint_sum w.arcs (room_by w d) against (λ a. along a && not (a == r))
+    (λ a c. apart a (room_by w d a)) in
     omega (
       arith,
       cross_g,
       cross_h,
       part_g,
       part_h,
-      into,
-      out,
+      back,
+      forth,
       slack,
       total-counted w.arcs d (λ a. nat_lt 0 (w.upper a)),
     )
+
+-- a set with r's tail and not its head
+rise_out : (w : Network) (r d : ℕ) (y : ℕ → Bool) (g h : ℕ → ℕ) → r < w.arcs → ((v : ℕ) → w.nodes ≤ v → y v ≡ false) →
+    leaves w y r ≡ true → IsFlow w g → IsFlow w h → ((a : ℕ) → a < w.arcs → enters w y a ≡ true → w.upper a ≤ g a + d) →
+    ((a : ℕ) → a < w.arcs → leaves w y a ≡ true → a ≢ r → g a ≤ w.lower a + d) → h r ≤ g r + open_arcs w * d
+rise_out w r d y g h b basin own fg fh full empty =
+    rise_over w r d (leaves w y) (enters w y) g h (total w.nodes (λ v. when (y v) (w.supply v))) 0 b own fg fh
+    (λ a x. apart_way (y (w.to a)) (y (w.from a)) (not (a == r)) x)
+    (omega (arith, crossing w y g basin fg)) (omega (arith, crossing w y h basin fh)) full empty
 
 -- a set with r's head and not its tail
 rise_in : (w : Network) (r d : ℕ) (y : ℕ → Bool) (g h : ℕ → ℕ) → r < w.arcs → ((v : ℕ) → w.nodes ≤ v → y v ≡ false) →
     enters w y r ≡ true → IsFlow w g → IsFlow w h → ((a : ℕ) → a < w.arcs → leaves w y a ≡ true → w.upper a ≤ g a + d) →
     ((a : ℕ) → a < w.arcs → enters w y a ≡ true → a ≢ r → g a ≤ w.lower a + d) → h r ≤ g r + open_arcs w * d
 rise_in w r d y g h b basin own fg fh full empty =
-    let cross_g = crossing w y g basin fg in
-    let cross_h = crossing w y h basin fh in
-    let part_g = without w.arcs r (enters w y) g b own in
-    let part_h = without w.arcs r (enters w y) h b own in
-    let out = total-slack w.arcs (room_by w d) (leaves w y) h g
-    (λ a c e. open_room (w.upper a) d (h a) (g a) (fh.high a c) (omega (arith, full a c e, fh.high a c))) in
-    let into = total-slack w.arcs (room_by w d) (λ a. enters w y a && not (a == r)) g h (λ a c e.
-    let parts = and_parts (enters w y a) (not (a == r)) e in
-    open_room (w.upper a) d (g a) (h a) (fg.high a c)
-    (omega (arith, empty a c parts.0 (eqb-false a r (not-true (a == r) parts.1)), fh.low a c))) in
-    let slack = disjoint_sum w.arcs (room_by w d) (leaves w y) (λ a. enters w y a && not (a == r))
-    (λ a c. apart_way (y (w.from a)) (y (w.to a)) (not (a == r)) (room_by w d a)) in
-    omega (
-      arith,
-      cross_g,
-      cross_h,
-      part_g,
-      part_h,
-      into,
-      out,
-      slack,
-      total-counted w.arcs d (λ a. nat_lt 0 (w.upper a)),
-    )
+    rise_over w r d (enters w y) (leaves w y) g h 0 (total w.nodes (λ v. when (y v) (w.supply v))) b own fg fh
+    (λ a x. apart_way (y (w.from a)) (y (w.to a)) (not (a == r)) x)
+    (omega (arith, crossing w y g basin fg)) (omega (arith, crossing w y h basin fh)) full empty
 
 -- a node that is not a reached basin node was not reached
 inside_not : (nodes : ℕ) (position : ℕ → ℕ) (v : ℕ) → v ≤ nodes → position nodes ≡ 0 →

@@ -77,7 +77,7 @@ not_short month name bytes s b series right m valid spelled about met is =
       named = moved.named;
       of_month = record {
         before = moved.of_month.before;
-        partial = same_partial b is.series series _ valid other moved.of_month.partial;
+        partial = same_partial b is.series series _ other moved.of_month.partial;
         reaches = moved.of_month.reaches;
         is = moved.of_month.is;
       };

@@ -33,11 +33,10 @@ use Rattle.basin_cli.proofs.OneSeries.{one_basin, one_series, same_history}
 
 -- a history of what bytes spell is one of any basin and series that they spell
 spelled_history : (bytes s : List ℕ) (b c : Basin) (series other : Inflows) (records : List MonthRecord) →
-    IsValidBasin b →
     AreSpelled bytes s b series → AreSpelled bytes s c other → (same : c ≡ b) → IsHistory c other records →
     IsHistory b series records
-spelled_history bytes s b c series other records valid spelled is same history =
-    same_history b other series records valid
+spelled_history bytes s b c series other records spelled is same history =
+    same_history b other series records
     (one_series b s other series (subst (λ (x : Basin). SpellsSeries x s other) same is.series_spelled)
     spelled.series_spelled)
     (subst (λ (x : Basin). IsHistory x other records) same history)
@@ -63,9 +62,9 @@ module _ (bytes other_bytes s : List ℕ) (b c : Basin) (series other : Inflows)
       one : injuries b c is.records is.others ≡ []
       one =
           one_list b c series other is.records records is.others others valid second_valid
-          (spelled_history bytes s b is.first series is.series is.records valid spelled is.first_spelled same
+          (spelled_history bytes s b is.first series is.series is.records spelled is.first_spelled same
           is.first_history) history
-          (spelled_history other_bytes s c is.second other is.second_series is.others second_valid second_spelled
+          (spelled_history other_bytes s c is.second other is.second_series is.others second_spelled
           is.second_spelled same_second is.second_history) second_history
           ∙ none
 

@@ -55,7 +55,7 @@ is_no_text bytes s text b series refuted valid spelled bad is =
     let told = subst (λ c. text ≡ text_bytes c is.records) same is.text in
     let series_told = subst (λ c. SpellsSeries c s is.series) same is.spelled.series_spelled in
     let history =
-    same_history b is.series series is.records valid
+    same_history b is.series series is.records
     (one_series b s is.series series series_told spelled.series_spelled) moved in
     never (text_verdict b series text) bad
     ((yes_exactly_for_histories b series text valid spelled.fits).1 (is.records, history, told))

@@ -1,16 +1,17 @@
 -- Bytes spell one basin, and one series as far as a history speaks of it.
 use Rattle.std.proofs.Common.{◌≡◌, ℕ, ◌<◌, Bool, true, false, refl, sym, ◌∙◌, ap, arith, List, length, length-take}
-use Rattle.std.proofs.Common.{take, ◌+◌, Option, Some, None}
+use Rattle.std.proofs.Common.{take, Option, Some, None}
 use Rattle.std.specs.Prelude.{slice_get, slice_index, option_map, unwrap_or, if◌then◌else◌}
 use Rattle.std.proofs.lemmas.Option.{slice_get_within}
 use Rattle.basin_file.specs.BasinFaults.{Spells}
 use Rattle.basin_file.specs.Spelled.{basin_of}
 use Rattle.inflow_file.specs.SeriesFaults.{SpellsSeries}
+use Rattle.water_model.proofs.Histories.{follows_alike}
 use Rattle.water_model.specs.Basin.{instream_link}
 use Rattle.water_model.specs.History.{Follows, IsHistory, IsPartialHistory}
-use Rattle.water_model.specs.Hydrology.{run_month, in_year, inflow_at, inflow_of_kind, stored_at, table_at, number_of}
+use Rattle.water_model.specs.Hydrology.{run_month, in_year, inflow_at, inflow_of_kind, table_at, number_of}
 use Rattle.water_model.specs.Hydrology.{cap_by_link, want_by_volume, want_of, volume_of}
-use Rattle.water_model.specs.Valid.{IsValidBasin, is_gauged, is_gauged_kind, is_in_series}
+use Rattle.water_model.specs.Valid.{is_gauged, is_gauged_kind, is_in_series}
 use Rattle.water_model.specs.declared.types.Basin.{Basin}
 use Rattle.water_model.specs.declared.types.Inflow.{Inflow}
 use Rattle.water_model.specs.declared.types.Inflow.TheVariants.{Monthly, Gauged}
@@ -78,36 +79,14 @@ one_series b bytes series other one two = record {
         sym (one.each n i l e m) ∙ two.each n i l e m in
         cc
 
--- a record that follows others with one series does with the other
-same_follows : (b : Basin) (series other : Inflows) (before : List MonthRecord) (m : MonthRecord) → IsValidBasin b →
-    GiveSame b series other →
-    m.index < b.months → Follows b series before m → Follows b other before m
-same_follows b series other before m valid same l f = record {
-  fits = f.fits;
-  index = f.index;
-  month = f.month;
-  opening = f.opening;
-  evaporated = f.evaporated;
-  returned = f.returned;
-  supply = λ n k. f.supply n k ∙ ap (λ x. x + slice_index m.returned n + stored_at b m.opening m.evaporated n)
-      (same.each n m.index k l);
-  used = f.used;
-  want = λ r k. f.want r k ∙ same.wants r m.index (slice_index m.used r) k l;
-  plan = f.plan;
-  delivered = f.delivered;
-  short = f.short;
-  met = f.met;
-  closing = f.closing;
-}
-
 -- a partial history with one series is one with the other
-pub same_partial : (b : Basin) (series other : Inflows) (records : List MonthRecord) → IsValidBasin b →
-    GiveSame b series other →
+pub same_partial : (b : Basin) (series other : Inflows) (records : List MonthRecord) → GiveSame b series other →
     IsPartialHistory b series records → IsPartialHistory b other records
-same_partial b series other records valid same partial = record {
+same_partial b series other records same partial = record {
   within = partial.within;
   each = λ i m at. (let f = partial.each i m at in
-      same_follows b series other (take i records) m valid same (in_run i m at f) f);
+      follows_alike b series other (take i records) m (λ n l. same.each n m.index l (in_run i m at f))
+      (λ r used l. same.wants r m.index used l (in_run i m at f)) f);
 }
   where
     in_run : (i : ℕ) (m : MonthRecord) → slice_get records i ≡ Some m → Follows b series (take i records) m →
@@ -115,8 +94,7 @@ same_partial b series other records valid same partial = record {
     in_run i m at f = omega (arith, f.index, length-take i records, slice_get_within records i m at, partial.within)
 
 -- a history with one series is one with the other
-pub same_history : (b : Basin) (series other : Inflows) (records : List MonthRecord) → IsValidBasin b →
-    GiveSame b series other →
+pub same_history : (b : Basin) (series other : Inflows) (records : List MonthRecord) → GiveSame b series other →
     IsHistory b series records → IsHistory b other records
-same_history b series other records valid same history =
-    record { partial = same_partial b series other records valid same history.partial; whole = history.whole }
+same_history b series other records same history =
+    record { partial = same_partial b series other records same history.partial; whole = history.whole }

@@ -48,8 +48,8 @@ use Rattle.basin_file.specs.Spelled.{basin_of}
 use Rattle.basin_file.specs.Upgraded.{basin_table, link_row, listed, node_row, number, reservoir_row, return_row}
 use Rattle.basin_file.specs.Upgraded.{right_row, row_of_kind, want_data}
 use Rattle.basin_file.proofs.CleanTables.{all_rights, before_less, d, few_rights, fits_at, format, i, keys, len_listed}
-use Rattle.basin_file.proofs.CleanTables.{link_clean, map_same, node_clean, once, owns, reservoir_clean}
-use Rattle.basin_file.proofs.CleanTables.{right_named, sound_at, there_left, there_right, top_known, z}
+use Rattle.basin_file.proofs.CleanTables.{link_clean, map_same, node_clean, owns, reservoir_clean}
+use Rattle.basin_file.proofs.CleanTables.{right_named, sound_at, there_right, top_known, z}
 use Rattle.basin_file.proofs.Counts.{count_where-entries, counts_within}
 use Rattle.basin_file.proofs.Fitting.{Fits, IsClean, clean_by, fits_date, fits_month, fits_name, fits_none, fits_number}
 use Rattle.basin_file.proofs.Fitting.{fits_reference, fits_some_tables, fits_tables, fits_want, names_some}
@@ -59,6 +59,7 @@ use Rattle.basin_file.proofs.Lists.{Each, each_at, each_then}
 use Rattle.basin_file.proofs.TableKeys.{skip, there}
 use Rattle.basin_file.proofs.TableSpells.{diversion_named, link_named, node_named, reservoir_named, table_spells}
 use Rattle.basin_file.proofs.TableSpells.{whole_there}
+use Rattle.water_model.proofs.Lists.{get_before, once}
 
 module _ (b : Basin) (valid : IsValidBasin b) where
   diversion_clean : (k : ℕ) (r : Right) → slice_get (d b valid) k ≡ Some r →
@@ -70,7 +71,7 @@ module _ (b : Basin) (valid : IsValidBasin b) where
       whole : slice_get b.rights k ≡ Some r
       whole =
           ap (λ rs. slice_get rs k) (sym (all_rights b valid))
-          ∙ there_left (d b valid ++ i b valid) (z b valid) k r (there_left (d b valid) (i b valid) k r at)
+          ∙ get_before (d b valid ++ i b valid) (z b valid) k r (get_before (d b valid) (i b valid) k r at)
 
       within : k < length (d b valid)
       within = slice_get_within (d b valid) k r at
@@ -156,7 +157,7 @@ module _ (b : Basin) (valid : IsValidBasin b) where
       whole : slice_get b.rights (length (d b valid) + k) ≡ Some r
       whole =
           ap (λ rs. slice_get rs (length (d b valid) + k)) (sym (all_rights b valid))
-          ∙ there_left (d b valid ++ i b valid) (z b valid) (length (d b valid) + k) r
+          ∙ get_before (d b valid ++ i b valid) (z b valid) (length (d b valid) + k) r
           (there_right (d b valid) (i b valid) k r at)
 
       within : k < length (i b valid)

@@ -1,15 +1,14 @@
 -- The table of a valid basin has no fault by itself: each of its entries is clean.
-use Rattle.std.proofs.Common.{◌≡◌, ◌≢◌, ℕ, zero, suc, ◌+◌, ◌-◌, ◌*◌, ◌^◌, ◌<◌, ◌≤◌, ◌∙◌, Bool, true, false, not, ◌&&◌}
-use Rattle.std.proofs.Common.{nat_lt, ap, sym, subst, refl, inl, inr, arith, List, [], ◌∷◌, ◌++◌, length, length-append}
+use Rattle.std.proofs.Common.{◌≡◌, ℕ, zero, suc, ◌+◌, ◌-◌, ◌*◌, ◌^◌, ◌≤◌, ◌∙◌, Bool, true, false, not, ◌&&◌}
+use Rattle.std.proofs.Common.{nat_lt, ap, sym, subst, refl, arith, List, [], ◌∷◌, ◌++◌, length, length-append}
 use Rattle.std.proofs.Common.{map, take, slice_get, count_by, is_some, codes}
 use Rattle.std.specs.Prelude.{Option, Some, None, option_map, option_and_then, unwrap_or, if◌then◌else◌}
-use Rattle.std.proofs.lemmas.Bool.{cases_Bool, le-ltb, ltb-true}
-use Rattle.std.proofs.lemmas.Bool.Decides.{nat_tests}
+use Rattle.std.proofs.lemmas.Bool.{le-ltb}
 use Rattle.std.proofs.lemmas.List.{map-append}
 use Rattle.std.proofs.lemmas.Option.{slice_get_within}
 use Rattle.std.specs.List.{list_any}
 use Rattle.std.specs.Option.{option_map_or}
-use Rattle.toml.specs.Data.{Data, string, table, Members, no_members, member, get, get_item, get_member, as_bool}
+use Rattle.toml.specs.Data.{Data, string, table, Members, no_members, get, get_item, get_member, as_bool}
 use Rattle.toml.specs.View.{items_of}
 use Rattle.toml_tree.specs.Items.{items_len}
 use Rattle.first_places.specs.Places.{first_from}
@@ -47,8 +46,9 @@ use Rattle.basin_file.proofs.Fitting.{fits_months, fits_name, fits_none, fits_nu
 use Rattle.basin_file.proofs.Fitting.{fits_truth, len_items, names_some}
 use Rattle.basin_file.proofs.Listed.{all_each, each_filter, items_in, place_found, rights_by_table, texts_listed}
 use Rattle.basin_file.proofs.Lists.{each_at, each_then}
-use Rattle.basin_file.proofs.TableKeys.{HasKeysOf, skip, table_keys, there}
+use Rattle.basin_file.proofs.TableKeys.{HasKeysOf, skip, table_keys}
 use Rattle.basin_file.proofs.TableSpells.{each_right, kind_name, link_named, node_named, reservoir_named, text_there}
+use Rattle.basin_file.proofs.TableSpells.{link_closed, link_end, link_per_day}
 
 pub fits_at : (tree : Members) (key : KeyRow) (o p : Option Data) → o ≡ p → Fits tree key p → Fits tree key o
 fits_at tree key o p e f = subst (Fits tree key) (sym e) f
@@ -81,13 +81,7 @@ pub len_listed : {X : Type 0} (row : X → Members) (xs : List X) → items_len 
 len_listed row [] = refl
 len_listed row (x ∷ xs) = len_items (λ x. table (row x)) (x ∷ xs)
 
--- entries of two lists, one behind the other
-pub there_left : {X : Type 0} (xs ys : List X) (k : ℕ) (x : X) → slice_get xs k ≡ Some x →
-    slice_get (xs ++ ys) k ≡ Some x
-there_left [] ys k x e = cc
-there_left (y ∷ xs) ys zero x e = e
-there_left (y ∷ xs) ys (suc k) x e = there_left xs ys k x e
-
+-- an entry of the second of two lists
 pub there_right : {X : Type 0} (xs ys : List X) (k : ℕ) (x : X) → slice_get ys k ≡ Some x →
     slice_get (xs ++ ys) (length xs + k) ≡ Some x
 there_right {X = X} [] ys k x e = subst (λ (n : ℕ). slice_get ys n ≡ Some x) (omega arith) e
@@ -120,21 +114,6 @@ before_less p (y ∷ xs) (suc k) x e passes =
 pub map_same : {X : Type 0} (xs : List X) → map (λ x. x) xs ≡ xs
 map_same [] = refl
 map_same (x ∷ xs) = ap (λ ys. x ∷ ys) (map_same xs)
-
--- where names are all other, a name is that of one place
-pub once : (name : ℕ → List ℕ) (len : ℕ) → ((i j : ℕ) → i < j → j < len → name i ≢ name j) → (m n : ℕ) → m < len →
-    n < len → name m ≡ name n → m ≡ n
-once name len own m n lm ln same =
-    elim (cases_Bool (nat_lt m n)) [
-      | inl before ↦ absurd (own m n (ltb-true m n before) ln same)
-      | inr other ↦ elim (cases_Bool (nat_lt n m)) [
-        | inl behind ↦ absurd (own n m (ltb-true n m behind) lm (sym same))
-        | inr neither ↦ equal m n other neither
-      ]
-    ]
-  where
-    equal : (m n : ℕ) → nat_lt m n ≡ false → nat_lt n m ≡ false → m ≡ n
-    equal m n e f = grind (arith, nat_tests)
 
 -- every key of the top is known
 top_some : (key : List ℕ) (o : Option Data) (rest : Members) → not (is_known 2 (keys_of which.Top) key) ≡ false →
@@ -206,12 +185,16 @@ module _ (b : Basin) (valid : IsValidBasin b) where
           (
             fits_at (basin_table b) _ _ (Some (string (node_name b l.to)))
                 (skip (codes "to") (codes "closed") (closed_data l.carry) _ refl
-                ∙ skip (codes "to") (codes "per_day") (per_day_data l.carry) last refl)
+                ∙ skip (codes "to") (codes "per_day") (per_day_data l.carry) (link_end b l) refl)
                 (fits_reference (basin_table b) (codes "to") true 1 Nodes (node_name b l.to) l.to
                 (node_named b valid l.to h.ends.to)),
             (
-              fits_at (basin_table b) _ _ (per_day_data l.carry) per_day (per_day_fits l.carry h.carry),
-              (fits_at (basin_table b) _ _ (closed_data l.carry) closed (closed_fits l.carry h.carry), tt),
+              fits_at (basin_table b) _ _ (per_day_data l.carry) (link_per_day b l)
+                  (per_day_fits l.carry h.carry),
+              (
+                fits_at (basin_table b) _ _ (closed_data l.carry) (link_closed b l) (closed_fits l.carry h.carry),
+                tt,
+              ),
             ),
           ),
         ),
@@ -221,11 +204,13 @@ module _ (b : Basin) (valid : IsValidBasin b) where
             names_some (λ name. not (is_known 2 (keys_of which.Link) name)) (codes "closed") (closed_data l.carry) _
             refl
             (names_some (λ name. not (is_known 2 (keys_of which.Link) name)) (codes "per_day") (per_day_data l.carry)
-            last refl refl);
+            (link_end b l) refl refl);
         nodes = refl;
         canal =
-            ap (λ (o : Option Data). is_some o && not (is_some (get_member (codes "per_day") (link_row b l)))) closed
-            ∙ (ap (λ (o : Option Data). is_some (closed_data l.carry) && not (is_some o)) per_day ∙ canal l.carry);
+            ap (λ (o : Option Data). is_some o && not (is_some (get_member (codes "per_day") (link_row b l))))
+            (link_closed b l)
+            ∙ (ap (λ (o : Option Data). is_some (closed_data l.carry) && not (is_some o)) (link_per_day b l)
+            ∙ canal l.carry);
         late = refl;
         many = le-ltb 4000 (k + 1) (omega (arith, within, valid.few.links));
         same = owns (basin_table b) (record { table = which.Link; number = k + 1; row = link_row b l }) Links l.name k
@@ -236,18 +221,6 @@ module _ (b : Basin) (valid : IsValidBasin b) where
         outlets = refl;
       })
     where
-      last : Members
-      last = member (codes "to") (string (node_name b l.to)) no_members
-
-      per_day : get_member (codes "per_day") (link_row b l) ≡ per_day_data l.carry
-      per_day =
-          skip (codes "per_day") (codes "closed") (closed_data l.carry) _ refl
-          ∙ there (codes "per_day") (per_day_data l.carry) last refl refl
-
-      closed : get_member (codes "closed") (link_row b l) ≡ closed_data l.carry
-      closed = there (codes "closed") (closed_data l.carry) _ refl
-          (skip (codes "closed") (codes "per_day") (per_day_data l.carry) last refl)
-
       per_day_fits : (c : Carry) → IsValidCarry c →
           Fits (basin_table b)
           (record { name = codes "per_day"; is_required = false; kind = Whole 0 (10 ^ 9); since = 1 })

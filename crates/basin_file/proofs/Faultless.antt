@@ -28,12 +28,8 @@ use Rattle.basin_file.specs.BasinFaults.{Spells, file_fault, document_fault, bas
 use Rattle.basin_file.specs.BasinFaults.{areas_fault}
 use Rattle.basin_file.specs.Spelled.{basin_of}
 use Rattle.basin_file.proofs.Joins.{areas_sound, valid_by}
-use Rattle.basin_file.proofs.Passed.{no_fault}
 use Rattle.basin_file.proofs.Whole.{sound_basin}
-
-or_none : {X : Type 0} (a b : Option X) → option_or a b ≡ None → (a ≡ None) × (b ≡ None)
-or_none None b e = (refl, e)
-or_none (Some x) b e = cc
+use Rattle.basin_file.proofs.Passed.{no_fault, or_none}
 
 -- a fault of a network is told
 net_four : (a b c d : Option ℕ) →

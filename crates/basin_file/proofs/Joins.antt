@@ -2,7 +2,6 @@
 use Rattle.std.proofs.Common.{◌≡◌, ◌≢◌, ℕ, ◌+◌, List, [], ◌∷◌, Option, Some, None, option_and_then, IfOk, IfNone, All}
 use Rattle.std.proofs.Common.{Result, Ok, Err, refl, sym, ap, ◌∙◌, inl, inr, nat_le, nat_lt, eqb}
 use Rattle.std.proofs.lemmas.Bool.{cases_Bool}
-use Rattle.std.specs.Option.{option_or}
 use Rattle.toml.specs.Data.{Members}
 use Rattle.water_model.specs.Network.{IsSoundNetwork}
 use Rattle.water_model.specs.Rights.{IsSoundRoll}
@@ -25,7 +24,7 @@ use Rattle.basin_file.specs.BasinFaults.{roll_finding, area_finding, areas_fault
 use Rattle.basin_file.specs.Sound.{IsSoundBasin}
 use Rattle.basin_file.specs.Spelled.{basin_of}
 use Rattle.basin_file.proofs.Lists.{Each, each_all}
-use Rattle.basin_file.proofs.Passed.{no_fault}
+use Rattle.basin_file.proofs.Passed.{no_fault, or_none}
 use Rattle.basin_file.proofs.Whole.{sound_basin}
 
 -- a refused roll is told as its first fault
@@ -83,10 +82,6 @@ each_table n (v ∷ reservoirs) e =
     let both =
     or_none (option_and_then (area_finding (n + 1)) (table_fault v.area)) (areas_fault (n + 1) reservoirs) e in
     (is_table v.area (area_none (n + 1) v.area both.0), each_table (n + 1) reservoirs both.1)
-  where
-    or_none : {X : Type 0} (a b : Option X) → option_or a b ≡ None → (a ≡ None) × (b ≡ None)
-    or_none None b e = (refl, e)
-    or_none (Some x) b e = cc
 
 -- where no reservoir is at fault, each has an area table
 pub areas_sound : (reservoirs : List Reservoir) (fault : Option Finding) → fault ≡ areas_fault 0 reservoirs →

@@ -27,7 +27,7 @@ use Rattle.basin_tree.specs.Tables.{keys_of, table_name, listed}
 use Rattle.basin_file.specs.Spelled.{rows_behind, rows_in}
 use Rattle.basin_file.proofs.Lists.{Each, EachFrom, from_then, from_with}
 
-or_none : {X : Type 0} (a b : Option X) → option_or a b ≡ None → (a ≡ None) × (b ≡ None)
+pub or_none : {X : Type 0} (a b : Option X) → option_or a b ≡ None → (a ≡ None) × (b ≡ None)
 or_none None b e = (refl, e)
 or_none (Some x) b e = cc
 

@@ -21,6 +21,7 @@ use Rattle.water_model.specs.declared.types.RightKind.{RightKind}
 use Rattle.basin_file.specs.Spelled.{inflow_of, carry_of, volume_of, point_in, points_in, no_area, area_of, first_of}
 use Rattle.basin_file.proofs.Lists.{Each, each_all, each_any, each_map}
 use Rattle.basin_file.proofs.Months.{length-shut}
+use Rattle.water_text.proofs.MonthLaws.{is_within}
 
 between : (least most n : ℕ) → (nat_le least n && nat_le n most) ≡ true → (least ≤ n) × (n ≤ most)
 between least most n e = grind (arith, nat_tests)
@@ -112,13 +113,6 @@ pub carry_valid : (per_day closed : Option Data) → IsValidCarry (carry_of per_
 carry_valid None closed = tt
 carry_valid (Some d) closed = ((whole_in 0 (10 ^ 9) 0 (Some d) (omega arith) (omega arith)).1, length-shut closed)
 
-is_month_means : (m : Month) → is_month m ≡ true → IsMonth m
-is_month_means m e = let h = both m.year m.month e in record { year = h.0; month = h.1 }
-  where
-    both : (y m : ℕ) → ((nat_le 1800 y && nat_le y 2999) && (nat_le 1 m && nat_le m 12)) ≡ true →
-        ((1800 ≤ y) × (y ≤ 2999)) × ((1 ≤ m) × (m ≤ 12))
-    both y m e = grind (arith, nat_tests)
-
 read_is_month : (text : List ℕ) (m : Month) → read_month text ≡ Some m → IsMonth m
 unfolding read_month
 read_is_month text m e = by (has_shape (codes "dddd-dd") text) e
@@ -127,7 +121,7 @@ read_is_month text m e = by (has_shape (codes "dddd-dd") text) e
     spelled = record { year = digits_value 10 (slice_range text 0 4); month = digits_value 10 (slice_range text 5 7) }
 
     good : (b : Bool) → is_month spelled ≡ b → (if b then Some spelled else None) ≡ Some m → IsMonth m
-    good true is e = let same : spelled ≡ m = cc in rw (← same) (is_month_means spelled is)
+    good true is e = let same : spelled ≡ m = cc in rw (← same) (is_within spelled is)
     good false is e = cc
 
     by : (shape : Bool) → (if shape && is_month spelled then Some spelled else None) ≡ Some m → IsMonth m

@@ -6,7 +6,7 @@ use Rattle.std.proofs.lemmas.Bool.Decides.{nat_tests}
 use Rattle.std.proofs.lemmas.List.Elements.{All-tail}
 use Rattle.std.proofs.lemmas.List.FromFn.{fill_by_all}
 use Rattle.std.proofs.lemmas.Str.{digit_value_digit}
-use Rattle.std.specs.Char.{digit_value, is_ascii_digit}
+use Rattle.std.specs.Char.{digit_value}
 use Rattle.std.specs.Option.{option_map_or}
 use Rattle.std.specs.Str.Parse.{digits_value}
 use Rattle.toml.specs.Data.{array, Items, no_items, item, get_item}
@@ -18,7 +18,7 @@ use Rattle.water_text.specs.Names.{is_name}
 use Rattle.water_text.specs.Shapes.{has_shape}
 use Rattle.water_text.specs.declared.day.Day.{Day}
 use Rattle.water_text.specs.declared.month.Month.{Month}
-use Rattle.water_text.proofs.MonthLaws.{read_month-month_digits}
+use Rattle.water_text.proofs.MonthLaws.{read_month-month_digits, is_digit, two_digits}
 use Rattle.water_model.specs.Valid.{IsMonthly, IsValidCarry, IsValidInflow, IsValidPoint, IsValidVolume}
 use Rattle.water_model.specs.declared.types.AreaPoint.{AreaPoint}
 use Rattle.water_model.specs.declared.types.Carry.{Carry}
@@ -144,12 +144,6 @@ digit_read : (n : ℕ) → n < 10 → digit_value (48 + n) ≡ n
 digit_read n l = let is : digit_value (48 + n) + 48 ≡ 48 + n = digit_value_digit (48 + n) (omega arith, omega arith) in
     omega arith
 
-two_read : (n : ℕ) → n ≤ 99 → digits_value 10 ((48 + n / 10) ∷ (48 + n % 10) ∷ []) ≡ n
-two_read n l =
-    let tens = digit_read (n / 10) (omega arith) in
-    let ones = digit_read (n % 10) (omega arith) in
-    omega arith
-
 four_read : (n : ℕ) → n ≤ 2999 →
     digits_value 10 ((48 + n / 100 / 10) ∷ (48 + n / 100 % 10) ∷ (48 + n % 100 / 10) ∷ (48 + n % 100 % 10) ∷ []) ≡ n
 four_read n l =
@@ -158,9 +152,6 @@ four_read n l =
     let tens = digit_read (n % 100 / 10) (omega arith) in
     let ones = digit_read (n % 100 % 10) (omega arith) in
     omega arith
-
-is_digit : (n : ℕ) → n < 10 → is_ascii_digit (48 + n) ≡ true
-is_digit n l = grind (arith, nat_tests)
 
 day_shape : (a b c d e f g h : ℕ) → a < 10 → b < 10 → c < 10 → d < 10 → e < 10 → f < 10 → g < 10 → h < 10 →
     has_shape (codes "dddd-dd-dd")
@@ -194,8 +185,8 @@ day_read d h =
     rw (
       date_shape d h,
       four_read d.year its.year,
-      two_read d.month (omega (arith, its.month)),
-      two_read d.day (omega (arith, its.day)),
+      two_digits d.month (omega (arith, its.month)),
+      two_digits d.day (omega (arith, its.day)),
     ) refl
 
 pub date_read : (d : Day) → is_date d ≡ true → date_of (day_text d) ≡ d

@@ -1,9 +1,8 @@
 -- The table of a basin spells the basin: each entry is read back from its row.
-use Rattle.std.proofs.Common.{◌≡◌, ℕ, suc, ◌*◌, ◌^◌, ◌<◌, ◌≤◌, ◌∙◌, Bool, true, false, ap, sym, refl, inl, inr, arith}
-use Rattle.std.proofs.Common.{List, [], ◌∷◌, length, map, slice_get, replicate, nat_lt, codes}
+use Rattle.std.proofs.Common.{◌≡◌, ℕ, suc, ◌*◌, ◌^◌, ◌<◌, ◌≤◌, ◌∙◌, Bool, true, false, ap, sym, refl, arith}
+use Rattle.std.proofs.Common.{List, [], ◌∷◌, length, map, slice_get, replicate, codes}
 use Rattle.std.specs.Prelude.{Option, Some, None, option_map, option_and_then, unwrap_or, if◌then◌else◌}
-use Rattle.std.proofs.lemmas.Bool.{cases_Bool, ltb-true, not-false}
-use Rattle.std.proofs.lemmas.Bool.Decides.{nat_tests}
+use Rattle.std.proofs.lemmas.Bool.{not-false}
 use Rattle.toml.specs.Data.{Data, string, array, Members, no_members, member, get_member, as_str}
 use Rattle.first_places.specs.Places.{first_from}
 use Rattle.toml_tree.specs.Texts.{texts_behind, is_the_text}
@@ -49,6 +48,21 @@ use Rattle.basin_file.proofs.Months.{series_wants}
 use Rattle.basin_file.proofs.ReadBack.{area_read, carry_read, date_read, first_read, inflow_read, monthly_read}
 use Rattle.basin_file.proofs.ReadBack.{name_read, volume_read, whole_read}
 use Rattle.basin_file.proofs.TableKeys.{HasKeysOf, skip, table_keys, there}
+use Rattle.water_model.proofs.Lists.{once}
+
+-- a link's keys behind those that it may lack, and these
+abbrev pub link_end : Basin → link.Link → Members
+link_end b l = member (codes "to") (string (node_name b l.to)) no_members
+
+pub link_per_day : (b : Basin) (l : link.Link) → get_member (codes "per_day") (link_row b l) ≡ per_day_data l.carry
+link_per_day b l =
+    skip (codes "per_day") (codes "closed") (closed_data l.carry) _ refl
+    ∙ there (codes "per_day") (per_day_data l.carry) (link_end b l) refl refl
+
+pub link_closed : (b : Basin) (l : link.Link) → get_member (codes "closed") (link_row b l) ≡ closed_data l.carry
+link_closed b l =
+    there (codes "closed") (closed_data l.carry) _ refl
+    (skip (codes "closed") (codes "per_day") (per_day_data l.carry) (link_end b l) refl)
 
 -- entries whose fields are the same
 same_node : (n : node.Node) (name : List ℕ) (outlet : Bool) (inflow : Inflow) → name ≡ n.name → outlet ≡ n.outlet →
@@ -192,17 +206,7 @@ module _ (b : Basin) (valid : IsValidBasin b) where
 
   -- a name is that of one node, and so that of one reservoir
   node_once : (m n : ℕ) → m < length b.nodes → n < length b.nodes → node_name b m ≡ node_name b n → m ≡ n
-  node_once m n lm ln same =
-      elim (cases_Bool (nat_lt m n)) [
-        | inl before ↦ absurd (valid.names.nodes m n (ltb-true m n before) ln same)
-        | inr other ↦ elim (cases_Bool (nat_lt n m)) [
-          | inl behind ↦ absurd (valid.names.nodes n m (ltb-true n m behind) lm (sym same))
-          | inr neither ↦ equal m n other neither
-        ]
-      ]
-    where
-      equal : (m n : ℕ) → nat_lt m n ≡ false → nat_lt n m ≡ false → m ≡ n
-      equal m n e f = grind (arith, nat_tests)
+  node_once = once (node_name b) (length b.nodes) valid.names.nodes
 
   reservoirs_own : HaveOwn (λ v. node_name b v.node) b.reservoirs
   reservoirs_own i j before within same =
@@ -269,21 +273,10 @@ module _ (b : Basin) (valid : IsValidBasin b) where
       h.ends.from)
       (node_at (codes "to") (link_row b l) l.to
       (skip (codes "to") (codes "closed") (closed_data l.carry) _ refl
-      ∙ skip (codes "to") (codes "per_day") (per_day_data l.carry) last refl) h.ends.to)
-      (ap (λ (o : Option Data). carry_of o (get_member (codes "closed") (link_row b l))) per_day
-      ∙ (ap (carry_of (per_day_data l.carry)) closed ∙ carry_read l.carry h.carry))
-    where
-      last : Members
-      last = member (codes "to") (string (node_name b l.to)) no_members
-
-      per_day : get_member (codes "per_day") (link_row b l) ≡ per_day_data l.carry
-      per_day =
-          skip (codes "per_day") (codes "closed") (closed_data l.carry) _ refl
-          ∙ there (codes "per_day") (per_day_data l.carry) last refl refl
-
-      closed : get_member (codes "closed") (link_row b l) ≡ closed_data l.carry
-      closed = there (codes "closed") (closed_data l.carry) _ refl
-          (skip (codes "closed") (codes "per_day") (per_day_data l.carry) last refl)
+      ∙ skip (codes "to") (codes "per_day") (per_day_data l.carry) (link_end b l) refl) h.ends.to)
+      (ap (λ (o : Option Data). carry_of o (get_member (codes "closed") (link_row b l)))
+      (link_per_day b l)
+      ∙ (ap (carry_of (per_day_data l.carry)) (link_closed b l) ∙ carry_read l.carry h.carry))
 
   reservoir_back : (v : reservoir.Reservoir) → IsValidReservoir b v →
       reservoir_of (basin_table b) (reservoir_row b v) ≡ v

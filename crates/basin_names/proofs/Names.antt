@@ -3,7 +3,7 @@ use Rattle.std.proofs.Common.{◌≡◌, ◌≢◌, ℕ, zero, suc, ◌+◌, ◌
 use Rattle.std.proofs.Common.{Option, Some, None, if◌then◌else◌, refl, sym, ap, ◌∙◌, inl, inr, arith, position}
 use Rattle.std.proofs.Common.{add-one}
 use Rattle.std.specs.Prelude.{find, slice_get, IfSome, option_map, unwrap_or}
-use Rattle.std.proofs.lemmas.Bool.{cases_Bool, cases_lt, cases_order}
+use Rattle.std.proofs.lemmas.Bool.{cases_Bool, cases_lt}
 use Rattle.std.proofs.lemmas.List.Folds.{find-append}
 use Rattle.std.proofs.lemmas.Slice.Eq.{bytes_eq-Decides}
 use Rattle.std.specs.Borrow.{Bor}
@@ -13,7 +13,7 @@ use Rattle.indexmap.specs.IndexMap.{IndexMap}
 use Rattle.first_places.specs.Places.{first_from, place_at}
 use Rattle.first_places.proofs.First.{first_is_position}
 use Rattle.water_model.proofs.Balance.{entry_at}
-use Rattle.water_model.proofs.Lists.{all_at, numbers_more}
+use Rattle.water_model.proofs.Lists.{all_at, numbers_more, once}
 use Rattle.water_model.proofs.Order.{find-passes, numbers_from-below}
 use Rattle.water_model.specs.Basin.{node_name, reservoir_name}
 use Rattle.water_model.specs.Places.{numbers_from}
@@ -110,13 +110,7 @@ reservoirs_differ b valid i j l h same =
     names = rw (v.1, w.1) at same
 
     one_node : (m n : ℕ) → m < length b.nodes → n < length b.nodes → node_name b m ≡ node_name b n → m ≡ n
-    one_node m n a c e = elim (cases_order m n) [
-      | inl is ↦ is
-      | inr o ↦ elim o [
-        | inl below ↦ absurd (valid.names.nodes m n below c e)
-        | inr above ↦ absurd (valid.names.nodes n m above a (sym e))
-      ]
-    ]
+    one_node = once (node_name b) (length b.nodes) valid.names.nodes
 
 names_differ : (b : Basin) → IsValidBasin b → (s : Space) (i j : ℕ) → i < j → j < count_in s b →
     name_in s b i ≢ name_in s b j

@@ -1,5 +1,5 @@
 -- The first caller at a right's node is the right's, where it is senior to the right, and else the right has none.
-use Rattle.std.proofs.Common.{◌≡◌, ℕ, zero, suc, ◌<◌, Bool, true, false, refl, sym, ap, ◌∙◌, arith, inl, inr, List, []}
+use Rattle.std.proofs.Common.{◌≡◌, ℕ, ◌<◌, Bool, true, false, refl, sym, ap, ◌∙◌, inl, inr, List, []}
 use Rattle.std.proofs.Common.{◌∷◌, length, get_or, subst}
 use Rattle.std.specs.Prelude.{Option, Some, None, nat_lt, ◌&&◌, slice_index, find}
 use Rattle.std.specs.Option.{option_map_or}
@@ -17,17 +17,14 @@ use Rattle.water_model.specs.declared.types.Right.{Right}
 use Rattle.water_model.proofs.Order.{Has, seniors_below, seniors_ordered, find-passes, find-first, find-none}
 use Rattle.water_model.proofs.Seniority.{senior_trans}
 use Rattle.calls.specs.Callers.{is_short, is_short_at, first_caller}
-
-has_at : (xs : List ℕ) (i : ℕ) → i < length xs → Has xs (get_or xs i 0)
-has_at [] i l = absurd (omega arith)
-has_at (x ∷ xs) zero l = inl refl
-has_at (x ∷ xs) (suc i) l = inr (has_at xs i (omega arith))
+use Rattle.rights_roll.proofs.Seniors.{has-get_or}
 
 -- the order has rights alone
 pub order_in_range : (rights : List Right) (order : List ℕ) (i : ℕ) → order ≡ by_seniority rights → i < length order →
     get_or order i 0 < length rights
 order_in_range rights order i is l =
-    seniors_below rights (get_or order i 0) (subst (λ (xs : List ℕ). Has xs (get_or order i 0)) is (has_at order i l))
+    seniors_below rights (get_or order i 0)
+    (subst (λ (xs : List ℕ). Has xs (get_or order i 0)) is (has-get_or order i l))
 
 -- a right calls where it is short at the node and senior
 tested : (b : Basin) (m : MonthRecord) (right node caller : ℕ) → nat_lt 0 (slice_index m.want right) ≡ true →

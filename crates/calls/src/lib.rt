@@ -16,10 +16,7 @@ use bit_words::{next_marked_in_both, unmark};
 use rights_roll::priority::is_senior;
 use rights_roll::roll::Roll;
 use water_model::calls::taking_node;
-use water_model::types::{Basin, MonthRecord};
-
-/// The most nodes that a valid basin has.
-pub const MOST_NODES: usize = 2000;
+use water_model::types::{Basin, MOST_NODES, MonthRecord};
 
 /// How many words hold the marks of so many nodes.
 const MOST_WORDS: usize = 32;

@@ -8,8 +8,8 @@ use Rattle.water_model.proofs.Order.{length-by_seniority}
 use Rattle.water_text.specs.Months.{IsMonth}
 use Rattle.water_text.specs.declared.month.Month.{Month}
 use Rattle.lag_returns.specs.Lags as lag
-use Rattle.lag_returns.specs.Lags.{OnTheWay}
-use Rattle.month_terms.specs.Terms.{HasReturned, HasUsed}
+use Rattle.lag_returns.specs.Lags.{OnTheWay, HasReturned}
+use Rattle.month_terms.specs.Terms.{HasUsed}
 use Rattle.water_model.specs.Basin.{taking_node}
 use Rattle.water_model.specs.CutSets.{without_sets}
 use Rattle.water_model.specs.Places.{seniors_first}

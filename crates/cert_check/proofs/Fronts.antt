@@ -1,13 +1,12 @@
 -- What is told behind the front of a text whose lines are good.
 use Rattle.std.proofs.Common.{◌≡◌, ℕ, zero, suc, ◌+◌, ◌<◌, Bool, true, false, refl, sym, ap, subst, ◌∙◌, arith, inl}
-use Rattle.std.proofs.Common.{inr, List, [], ◌∷◌, ◌++◌, length, map, fold, replicate, append_assoc, length-append}
+use Rattle.std.proofs.Common.{inr, List, [], ◌∷◌, ◌++◌, length, map, fold, append_assoc, length-append}
 use Rattle.std.specs.Prelude.{Option, Some, None, ◌⊎◌, ◌==◌, not}
 use Rattle.std.specs.List.{list_all, flat_map}
 use Rattle.std.proofs.lemmas.Bool.Decides.{nat_tests}
 use Rattle.std.proofs.lemmas.List.{length-map}
 use Rattle.water_model.specs.History.{IsPartialHistory}
 use Rattle.water_model.specs.Hydrology.{run_month}
-use Rattle.water_model.specs.Lookups.{of_entry}
 use Rattle.water_model.specs.Places.{numbers_from, members_from, seniors_first}
 use Rattle.water_model.specs.Quantities.{entries_with_line}
 use Rattle.water_model.specs.Text.{call_items, items_of_month}
@@ -36,6 +35,7 @@ use Rattle.cert_check.proofs.Rows.{AreGood, good_first, good_rest}
 use Rattle.cert_check.proofs.RunSound.{from_month, OneMonth, one_month, last_line, BehindMonths, next_month}
 use Rattle.cert_check.proofs.Sheets.{Sheet, sheet_lines, record_of, seniors_apart}
 use Rattle.cert_check.proofs.UnderWay.{is_amid, before_is_amid, in_month, month_begins, uncalled, no_call, free}
+use Rattle.water_model.proofs.SetEntries.{no_sets}
 
 -- The lines of a month: those before its `call` lines, these, its `called` and `close` lines, and its last.
 
@@ -295,11 +295,6 @@ within_month b valid series fits before i t s dues xs item ys at left stands e g
       })).none;
     }
   where
-    no_sets : (n r : ℕ) → of_entry (replicate {A = Option (List Bool)} n None) r (λ s. s) None ≡ None
-    no_sets zero r = refl
-    no_sets (suc n) zero = refl
-    no_sets (suc n) (suc r) = no_sets n r
-
     none_calls : (r : ℕ) → None ≡ Some r → ⊥
     none_calls r c = cc
 

@@ -34,13 +34,9 @@ use Rattle.cert_check.proofs.Follows.{is_tight_is}
 use Rattle.cert_check.proofs.Month.{IsGoodMonth}
 use Rattle.cert_check.proofs.Rows.{is_same}
 use Rattle.result_reader.proofs.Sets.{length-put_sets}
+use Rattle.water_model.proofs.Lists.{no_numbers}
 
 -- Lists that are told.
-
-zeros : (n k : ℕ) → slice_index (replicate n 0) k ≡ 0
-zeros zero k = refl
-zeros (suc n) zero = refl
-zeros (suc n) (suc k) = zeros n k
 
 told_len : (xs : List ℕ) (a : ℕ → ℕ) (n : ℕ) (ys : List ℕ) → set_all xs a (replicate n 0) ≡ ys → length ys ≡ n
 told_len xs a n ys is = sym (ap length is) ∙ (length-set_all xs a (replicate n 0) ∙ length-replicate n 0)
@@ -48,7 +44,7 @@ told_len xs a n ys is = sym (ap length is) ∙ (length-set_all xs a (replicate n
 untold : (xs : List ℕ) (a : ℕ → ℕ) (n : ℕ) (ys : List ℕ) (k : ℕ) → set_all xs a (replicate n 0) ≡ ys → (Has xs k → ⊥) →
     slice_index ys k ≡ 0
 untold xs a n ys k is none =
-    sym (ap (λ zs. slice_index zs k) is) ∙ (set_all-other xs a (replicate n 0) k none ∙ zeros n k)
+    sym (ap (λ zs. slice_index zs k) is) ∙ (set_all-other xs a (replicate n 0) k none ∙ no_numbers n k)
 
 told_at : (xs : List ℕ) (a : ℕ → ℕ) (n : ℕ) (ys : List ℕ) (k : ℕ) → set_all xs a (replicate n 0) ≡ ys → k < n →
     Has xs k → slice_index ys k ≡ a k

@@ -15,7 +15,7 @@ use Rattle.result_reader.specs.Telling.{Told, tell}
 use Rattle.result_reader.proofs.WholeMonth.{IsAllTold}
 use Rattle.calls.specs.Callers.{is_short}
 use Rattle.cert_check.specs.Checking.{is_tight, balances, callers_due}
-use Rattle.cert_check.proofs.Rows.{AreGood, good_section, good_first, good_rest}
+use Rattle.cert_check.proofs.Rows.{AreGood, good_section, good_parts}
 use Rattle.cert_check.proofs.Sections as section
 use Rattle.cert_check.proofs.Outflows.{IsInBalance, outflows_told}
 use Rattle.cert_check.proofs.Calls.{HasRightSets, IsSettled, calls_told}
@@ -111,51 +111,21 @@ pub inner_is_good : (b : Basin) (series : Inflows) (before : List MonthRecord) (
 inner_is_good b series before m dues outlet a t at g =
     let s = stages b series before m a t at in
     let behind = calls_stage b series before m a (behind_out b series m t) s.out in
-    let g0 = g in
-    let g1 = good_rest b series t (opening_lines b m)
-    (evaporated_lines b
-    m ++ (returned_lines b
-    m ++ (used_lines b
-    m ++ (flow_lines b
-    m ++ (deliver_lines b
-    m ++ (out_lines b m ++ (call_lines b m ++ (due_lines dues ++ (closing_lines b m ++ (line.End ∷ []))))))))))
-    g0 in
-    let g2 = good_rest b series (behind_opening b series m t) (evaporated_lines b m)
-    (returned_lines b
-    m ++ (used_lines b
-    m ++ (flow_lines b
-    m ++ (deliver_lines b
-    m ++ (out_lines b m ++ (call_lines b m ++ (due_lines dues ++ (closing_lines b m ++ (line.End ∷ []))))))))) g1 in
-    let g3 = good_rest b series (behind_evaporated b series m t) (returned_lines b m)
-    (used_lines b
-    m ++ (flow_lines b
-    m ++ (deliver_lines b
-    m ++ (out_lines b m ++ (call_lines b m ++ (due_lines dues ++ (closing_lines b m ++ (line.End ∷ [])))))))) g2 in
-    let g4 = good_rest b series (behind_returned b series m t) (used_lines b m)
-    (flow_lines b
-    m ++ (deliver_lines b
-    m ++ (out_lines b m ++ (call_lines b m ++ (due_lines dues ++ (closing_lines b m ++ (line.End ∷ []))))))) g3 in
-    let g5 = good_rest b series (behind_used b series m t) (flow_lines b m)
-    (deliver_lines b
-    m ++ (out_lines b m ++ (call_lines b m ++ (due_lines dues ++ (closing_lines b m ++ (line.End ∷ [])))))) g4 in
-    let g6 = good_rest b series (behind_flow b series m t) (deliver_lines b m)
-    (out_lines b m ++ (call_lines b m ++ (due_lines dues ++ (closing_lines b m ++ (line.End ∷ []))))) g5 in
-    let g7 = good_rest b series (behind_deliver b series m t) (out_lines b m)
-    (call_lines b m ++ (due_lines dues ++ (closing_lines b m ++ (line.End ∷ [])))) g6 in
-    let g8 = good_rest b series (behind_out b series m t) (call_lines b m)
-    (due_lines dues ++ (closing_lines b m ++ (line.End ∷ []))) g7 in
-    let g9 = good_rest b series (behind_calls b series m t) (due_lines dues) (closing_lines b m ++ (line.End ∷ []))
-    g8 in
+    let opening = good_parts b series t (opening_lines b m) _ g in
+    let evaporated = good_parts b series (behind_opening b series m t) (evaporated_lines b m) _ opening.1 in
+    let returned = good_parts b series (behind_evaporated b series m t) (returned_lines b m) _ evaporated.1 in
+    let used = good_parts b series (behind_returned b series m t) (used_lines b m) _ returned.1 in
+    let flow = good_parts b series (behind_used b series m t) (flow_lines b m) _ used.1 in
+    let deliver = good_parts b series (behind_flow b series m t) (deliver_lines b m) _ flow.1 in
+    let out = good_parts b series (behind_deliver b series m t) (out_lines b m) _ deliver.1 in
+    let calls = good_parts b series (behind_out b series m t) (call_lines b m) _ out.1 in
+    let dues_told = good_parts b series (behind_calls b series m t) (due_lines dues) _ calls.1 in
+    let closing = good_parts b series (behind_called b series m dues t) (closing_lines b m) (line.End ∷ [])
+    dues_told.1 in
     let past = past_of b series (λ x. slice_index m.closing x) (entries_with_line b quantity.Closing)
-    (behind_called b series m dues t) g9 in
-    let calls_here =
-    good_first b series (behind_out b series m t) (call_lines b m)
-    (due_lines dues ++ (closing_lines b m ++ (line.End ∷ []))) g7 in
-    let dues_here =
-    good_first b series (behind_calls b series m t) (due_lines dues) (closing_lines b m ++ (line.End ∷ [])) g8 in
-    let closings_here = good_first b series (behind_called b series m dues t) (closing_lines b m) (line.End ∷ []) g9 in
-    let called = called_now b series before m dues (behind_calls b series m t) behind dues_here past in
-    let settled = settled_called b series dues (behind_calls b series m t) dues_here past.all.settled in
+    (behind_called b series m dues t) dues_told.1 in
+    let called = called_now b series before m dues (behind_calls b series m t) behind dues_told.0 past in
+    let settled = settled_called b series dues (behind_calls b series m t) dues_told.0 past.all.settled in
     let stands : Behind b series (callers_due b m) m.plan.take (behind_called b series m dues t) = record {
       callers =
           record {
@@ -171,31 +141,19 @@ inner_is_good b series before m dues outlet a t at g =
             (λ x. line.Amount quantity.Opening x (slice_index m.opening x))
             (section.openings b series before (λ x. slice_index m.opening x)) (entries_with_line b quantity.Opening)
             (t) (at.calling, at.months)
-            (good_first b series t (opening_lines b m)
-            (evaporated_lines b m ++
-            (returned_lines b m ++
-            (used_lines b m ++ (flow_lines b m ++
-            (deliver_lines b m ++
-            (out_lines b m ++ (call_lines b m ++ (due_lines dues ++ (closing_lines b m ++ (line.End ∷ [])))))))))) g0);
+            opening.0;
         evaporated = good_section b series (section.Opened m.index m.opening) _
             (λ x. line.Amount quantity.Evaporated x (slice_index m.evaporated x))
             (section.evaporations b series m.index m.opening (λ x. slice_index m.evaporated x))
             (entries_with_line b quantity.Evaporated) (behind_opening b series m t)
             (s.opening.calling, ap (λ k. k.index) s.opening.now_is, ap (λ k. k.opening) s.opening.now_is)
-            (good_first b series (behind_opening b series m t) (evaporated_lines b m)
-            (returned_lines b m ++
-            (used_lines b m ++ (flow_lines b m ++
-            (deliver_lines b m ++
-            (out_lines b m ++ (call_lines b m ++ (due_lines dues ++ (closing_lines b m ++ (line.End ∷ []))))))))) g1);
+            evaporated.0;
         returned = good_section b series (section.BehindAt before m.index) _
             (λ x. line.Amount quantity.Returned x (slice_index m.returned x))
             (section.returns b series before m.index (λ x. slice_index m.returned x))
             (entries_with_line b quantity.Returned) (behind_evaporated b series m t)
             (s.evaporated.calling, s.evaporated.months, ap (λ k. k.index) s.evaporated.now_is)
-            (good_first b series (behind_evaporated b series m t) (returned_lines b m)
-            (used_lines b m ++ (flow_lines b m ++
-            (deliver_lines b m ++
-            (out_lines b m ++ (call_lines b m ++ (due_lines dues ++ (closing_lines b m ++ (line.End ∷ [])))))))) g2);
+            returned.0;
         used = good_section b series (section.BehindAt before m.index) _
             (λ x. line.Amount quantity.Used x (slice_index m.used x))
             (section.uses b series before m.index (λ x. slice_index m.used x)) (entries_with_line b quantity.Used)
@@ -203,16 +161,12 @@ inner_is_good b series before m dues outlet a t at g =
               s.returned.calling,
               s.returned.months,
               ap (λ k. k.index) s.returned.now_is,
-            ) (good_first b series (behind_returned b series m t) (used_lines b m)
-            (flow_lines b m ++ (deliver_lines b m ++
-            (out_lines b m ++ (call_lines b m ++ (due_lines dues ++ (closing_lines b m ++ (line.End ∷ []))))))) g3);
+            ) used.0;
         flow = good_section b series (section.InMonth m.month) _
             (λ x. line.Amount quantity.Flow x (slice_index m.plan.flow x))
             (section.flows b series m.month (λ x. slice_index m.plan.flow x)) (entries_with_line b quantity.Flow)
             (behind_used b series m t) (s.used.calling, ap (λ k. k.month) s.used.now_is)
-            (good_first b series (behind_used b series m t) (flow_lines b m)
-            (deliver_lines b m ++
-            (out_lines b m ++ (call_lines b m ++ (due_lines dues ++ (closing_lines b m ++ (line.End ∷ [])))))) g4);
+            flow.0;
         deliver =
             good_section b series (section.Flows m.index m.used m.plan.flow) _
             (λ x. line.Deliver x (slice_index m.delivered x) (slice_index m.want x))
@@ -223,19 +177,17 @@ inner_is_good b series before m dues outlet a t at g =
               ap (λ k. k.used) s.flow.now_is,
               ap (λ k. k.plan.flow) s.flow.now_is,
             )
-            (good_first b series (behind_flow b series m t) (deliver_lines b m)
-            (out_lines b m ++ (call_lines b m ++ (due_lines dues ++ (closing_lines b m ++ (line.End ∷ []))))) g5);
+            deliver.0;
         balance =
             balance_out b series m (behind_out b series m t) a s.out.now_is
             (outflows_balance b series (λ x. slice_index m.plan.out x) (behind_deliver b series m t) outlet
-            (good_first b series (behind_deliver b series m t) (out_lines b m)
-            (call_lines b m ++ (due_lines dues ++ (closing_lines b m ++ (line.End ∷ [])))) g6));
+            out.0);
         sets = right_sets b series m (behind_out b series m t) (behind_called b series m dues t) a s.out.now_is
-            calls_here called.0 settled past.all;
+            calls.0 called.0 settled past.all;
         closing = good_section b series (Behind b series (callers_due b m) m.plan.take) _
             (λ x. line.Amount quantity.Closing x (slice_index m.closing x))
             (closings b series (callers_due b m) m.plan.take (λ x. slice_index m.closing x))
-            (entries_with_line b quantity.Closing) (behind_called b series m dues t) stands closings_here;
+            (entries_with_line b quantity.Closing) (behind_called b series m dues t) stands closing.0;
       },
       called.1,
     )

@@ -11,7 +11,7 @@ use Rattle.water_model.specs.Text.{call_items}
 use Rattle.water_model.specs.declared.item.Item.{Item}
 use Rattle.water_model.specs.declared.item.Item.TheVariants as line
 use Rattle.water_model.specs.declared.types.Basin.{Basin}
-use Rattle.water_model.proofs.Order.{Has}
+use Rattle.water_model.proofs.Order.{Has, flat_same, map_same}
 use Rattle.result_reader.specs.Form.{shape_of, is_optional, fits, IsFollowedBy, Fills}
 use Rattle.result_reader.specs.declared.shape.Shape.{Shape}
 use Rattle.result_reader.specs.declared.shape.Shape.TheVariants as shape
@@ -90,10 +90,6 @@ abbrev pub AreApart : List ℕ → Type 0
 AreApart [] = Unit {0}
 AreApart (x ∷ xs) = (Has xs x → ⊥) × AreApart xs
 
-pub map_same : {Y : Type 0} (f g : ℕ → Y) (xs : List ℕ) → ((x : ℕ) → Has xs x → f x ≡ g x) → map f xs ≡ map g xs
-map_same f g [] h = refl
-map_same f g (x ∷ xs) h = rw (h x (inl refl), map_same f g xs (λ y m. h y (inr m))) refl
-
 abbrev with_place : {Y : Type 0} → (ℕ → Y) → ℕ → Y → ℕ → Y
 with_place f x y k = if k == x then y else f k
 
@@ -154,11 +150,6 @@ pub record CallLines (b : Basin) (xs : List ℕ) (ds : List Shape) (items : List
   pub others : List Item
   pub are : items ≡ flat_map (λ r. call_items r (cut r)) xs ++ others
   pub rest : Fills b ds others
-
-pub flat_same : {Y : Type 0} (f g : ℕ → List Y) (xs : List ℕ) → ((x : ℕ) → Has xs x → f x ≡ g x) →
-    flat_map f xs ≡ flat_map g xs
-flat_same f g [] h = refl
-flat_same f g (x ∷ xs) h = rw (h x (inl refl), flat_same f g xs (λ y m. h y (inr m))) refl
 
 pub each_call : (b : Basin) (xs : List ℕ) → AreApart xs → (ds : List Shape) (items : List Item) →
     Fills b (map (λ r. shape.Call r) xs ++ ds) items → CallLines b xs ds items

@@ -21,6 +21,7 @@ use Rattle.cert_check.specs.Keeping.{Keeps, lacks_call}
 use Rattle.cert_check.specs.Walks.{ArePassed, IsMissed}
 use Rattle.cert_check.specs.declared.account.Account.{Account}
 use Rattle.cert_check.proofs.Calls.{missing_fails, none_missing}
+use Rattle.rights_roll.proofs.Seniors.{has-get_or}
 
 clash : {X : Type 0} → true ≡ false → X
 clash e = cc
@@ -101,11 +102,6 @@ some_missed b series a t item k m = elim (cases_Bool (cut_missing b t item)) [
     r : ℕ
     r = slice_index (seniors_first b) m.place
 
-    has_at : (xs : List ℕ) (k : ℕ) → k < length xs → Has xs (slice_index xs k)
-    has_at [] k l = omega (arith, l)
-    has_at (x ∷ xs) zero l = inl refl
-    has_at (x ∷ xs) (suc k) l = inr (has_at xs k (omega arith))
-
     told : lacks_call t.now r ≡ true
     told = sym (one (lacks_call a.month) (lacks_call t.now) (lacks_told b series a t k (r ∷ []))) ∙ m.lacks
       where
@@ -122,6 +118,6 @@ some_missed b series a t item k m = elim (cases_Bool (cut_missing b t item)) [
     never none =
         let two = and_parts (is_short t.now r) (is_none (cut_of t.now r)) told in
         let set =
-        none_missing b t item none r (seniors_below b.rights r (has_at (seniors_first b) m.place m.within)) two.0
+        none_missing b t item none r (seniors_below b.rights r (has-get_or (seniors_first b) m.place m.within)) two.0
         m.passed in
         clash (sym two.1 ∙ ap is_none set.1)

@@ -1,9 +1,7 @@
 -- The lines of a good month are not refuted.
-use Rattle.std.proofs.Common.{◌≡◌, ℕ, zero, suc, ◌<◌, Bool, true, refl, sym, ap, ◌∙◌, List, [], ◌∷◌, ◌++◌, length, fold}
-use Rattle.std.proofs.Common.{replicate}
-use Rattle.std.specs.Prelude.{Option, Some, None, slice_index}
+use Rattle.std.proofs.Common.{◌≡◌, ℕ, ◌<◌, true, refl, sym, ap, ◌∙◌, List, [], ◌∷◌, length, fold}
+use Rattle.std.specs.Prelude.{Some, None, slice_index}
 use Rattle.water_model.specs.History.{cut_of}
-use Rattle.water_model.specs.Lookups.{of_entry}
 use Rattle.water_model.specs.Places.{seniors_first, outlets}
 use Rattle.water_model.specs.Quantities.{entries_with_line}
 use Rattle.water_model.specs.Rights.{AreStrict}
@@ -28,6 +26,7 @@ use Rattle.cert_check.proofs.Month.{returned_lines, used_lines, flow_lines, deli
 use Rattle.cert_check.proofs.Month.{due_lines, closing_lines, behind_opening, behind_evaporated, behind_returned}
 use Rattle.cert_check.proofs.Month.{behind_used, behind_flow, behind_deliver, behind_out, behind_calls, behind_called}
 use Rattle.cert_check.proofs.Month.{behind_closing}
+use Rattle.water_model.proofs.SetEntries.{no_sets}
 
 out_balance : (b : Basin) (series : Inflows) (m : MonthRecord) (t : Told) → IsAllTold b series m →
     t.now ≡ with_out b m → ((n : ℕ) → n < length b.nodes → balances b m n ≡ true) →
@@ -44,11 +43,6 @@ calls_begin b series before m t a at = record {
   sets = λ r l none. absurd (none (seniors_have b.rights r l));
   free = λ r h. ap (λ k. cut_of k r) at.now_is ∙ no_sets (length b.rights) r;
 }
-  where
-    no_sets : (n r : ℕ) → of_entry (replicate {A = Option (List Bool)} n None) r (λ s. s) None ≡ None
-    no_sets zero r = refl
-    no_sets (suc n) zero = refl
-    no_sets (suc n) (suc r) = no_sets n r
 
 callers_begin : (b : Basin) (series : Inflows) (before : List MonthRecord) (m : MonthRecord) (t : Told) →
     HasRightSets b m → BehindCalls b before m t →
@@ -133,51 +127,14 @@ inner_good b series before m strict a good t at =
     let ended = section_keeps b series (Behind b series (callers_due b m) m.plan.take) _
     (λ x. line.Amount quantity.Closing x (slice_index m.closing x)) last
     (entries_with_line b quantity.Closing) (behind_called b series m (callers_due b m) t) past in
-    good_both b series t (opening_lines b m)
-    (evaporated_lines b
-    m ++ (returned_lines b
-    m ++ (used_lines b
-    m ++ (flow_lines b
-    m ++ (deliver_lines b
-    m ++ (out_lines b
-    m ++ (call_lines b m ++ (due_lines (callers_due b m) ++ (closing_lines b m ++ (line.End ∷ []))))))))))
-    opening_good
-    (good_both b series (behind_opening b series m t) (evaporated_lines b m)
-    (returned_lines b
-    m ++ (used_lines b
-    m ++ (flow_lines b
-    m ++ (deliver_lines b
-    m ++ (out_lines b
-    m ++ (call_lines b m ++ (due_lines (callers_due b m) ++ (closing_lines b m ++ (line.End ∷ [])))))))))
-    evaporated_good
-    (good_both b series (behind_evaporated b series m t) (returned_lines b m)
-    (used_lines b
-    m ++ (flow_lines b
-    m ++ (deliver_lines b
-    m ++ (out_lines b
-    m ++ (call_lines b m ++ (due_lines (callers_due b m) ++ (closing_lines b m ++ (line.End ∷ []))))))))
-    returned_good
-    (good_both b series (behind_returned b series m t) (used_lines b m)
-    (flow_lines b
-    m ++ (deliver_lines b
-    m ++ (out_lines b
-    m ++ (call_lines b m ++ (due_lines (callers_due b m) ++ (closing_lines b m ++ (line.End ∷ []))))))) used_good
-    (good_both b series (behind_used b series m t) (flow_lines b m)
-    (deliver_lines b
-    m ++ (out_lines b
-    m ++ (call_lines b m ++ (due_lines (callers_due b m) ++ (closing_lines b m ++ (line.End ∷ [])))))) flow_good
-    (good_both b series (behind_flow b series m t) (deliver_lines b m)
-    (out_lines b m ++ (call_lines b m ++ (due_lines (callers_due b m) ++ (closing_lines b m ++ (line.End ∷ [])))))
-    deliver_good
-    (good_both b series (behind_deliver b series m t) (out_lines b m)
-    (call_lines b m ++ (due_lines (callers_due b m) ++ (closing_lines b m ++ (line.End ∷ [])))) out_good
-    (good_both b series (behind_out b series m t) (call_lines b m)
-    (due_lines (callers_due b m) ++ (closing_lines b m ++ (line.End ∷ []))) calls.0
-    (good_both b series (behind_calls b series m t) (due_lines (callers_due b m))
-    (closing_lines b m ++ (line.End ∷ [])) called.0
-    (good_both b series (behind_called b series m (callers_due b m) t) (closing_lines b m) (line.End ∷ [])
-    closing_good
-    ((
-      end_good b series (callers_due b m) (behind_closing b series m (callers_due b m) t) ended.callers,
-      tt,
-    )))))))))))
+    good_both b series t (opening_lines b m) _ opening_good
+    (good_both b series (behind_opening b series m t) (evaporated_lines b m) _ evaporated_good
+    (good_both b series (behind_evaporated b series m t) (returned_lines b m) _ returned_good
+    (good_both b series (behind_returned b series m t) (used_lines b m) _ used_good
+    (good_both b series (behind_used b series m t) (flow_lines b m) _ flow_good
+    (good_both b series (behind_flow b series m t) (deliver_lines b m) _ deliver_good
+    (good_both b series (behind_deliver b series m t) (out_lines b m) _ out_good
+    (good_both b series (behind_out b series m t) (call_lines b m) _ calls.0
+    (good_both b series (behind_calls b series m t) (due_lines (callers_due b m)) _ called.0
+    (good_both b series (behind_called b series m (callers_due b m) t) (closing_lines b m) (line.End ∷ []) closing_good
+    (end_good b series (callers_due b m) (behind_closing b series m (callers_due b m) t) ended.callers, tt))))))))))

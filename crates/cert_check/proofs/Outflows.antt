@@ -14,7 +14,7 @@ use Rattle.water_model.specs.declared.types.MonthRecord.{MonthRecord}
 use Rattle.water_model.proofs.Order.{Has, filter-has, numbers_from-has, numbers_from-below}
 use Rattle.result_reader.specs.Telling.{Told, tell, with_supply}
 use Rattle.cert_check.specs.Checking.{rows, balances}
-use Rattle.cert_check.proofs.Rows.{NoneHolds, AreGood, nothing_passed}
+use Rattle.cert_check.proofs.Rows.{NoneHolds, AreGood, early_good}
 
 clash : {X : Type 0} → true ≡ false → X
 clash h = cc
@@ -93,13 +93,8 @@ out_good : (b : Basin) (series : Inflows) (t : Told) (n amount : ℕ) → t.call
     (with_supply b series (tell b series t (line.Amount quantity.Outflow n amount)).now) node))
     (places_of b.nodes) ≡ false →
     NoneHolds (rows b series t (line.Amount quantity.Outflow n amount))
-out_good b series t n amount h balance = (
-  rw h refl,
-  (
-    nothing_passed b t (line.Amount quantity.Outflow n amount) (λ r. refl) (places_of b.rights),
-    (refl, (refl, (balance, tt))),
-  ),
-)
+out_good b series t n amount h balance =
+    early_good b series t (line.Amount quantity.Outflow n amount) h (λ r. refl) refl refl (balance, tt)
 
 -- `out` lines aren't refuted where all nodes are in balance behind them
 pub outflows_good : (b : Basin) (series : Inflows) (a : ℕ → ℕ) (xs done : List ℕ) (t : Told) → outlets b ≡ done ++ xs →

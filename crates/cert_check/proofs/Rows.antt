@@ -10,9 +10,10 @@ use Rattle.water_model.specs.declared.item.Item.TheVariants as line
 use Rattle.water_model.specs.declared.types.Basin.{Basin}
 use Rattle.water_model.specs.declared.types.Inflows.{Inflows}
 use Rattle.water_model.proofs.Order.{Has}
+use Rattle.result_reader.specs.Due.{is_member}
 use Rattle.result_reader.specs.Telling.{Told, tell}
 use Rattle.calls.specs.Callers.{is_short}
-use Rattle.cert_check.specs.Checking.{Row, rows, first_row, passes}
+use Rattle.cert_check.specs.Checking.{Row, rows, own_rows, first_row, passes, cut_needless, called_wrong}
 
 -- no row of the list holds
 abbrev pub NoneHolds : List Row → Type 0
@@ -67,6 +68,10 @@ pub good_rest : (b : Basin) (series : Inflows) (t : Told) (xs ys : List Item) �
 good_rest b series t [] ys g = g
 good_rest b series t (x ∷ xs) ys g = good_rest b series (tell b series t x) xs ys g.1
 
+pub good_parts : (b : Basin) (series : Inflows) (t : Told) (xs ys : List Item) → AreGood b series t (xs ++ ys) →
+    AreGood b series t xs × AreGood b series (fold (tell b series) t xs) ys
+good_parts b series t xs ys g = (good_first b series t xs ys g, good_rest b series t xs ys g)
+
 -- Lines one for each place, behind which something that a place's row needs stays.
 pub record Section (b : Basin) (series : Inflows) (P : Told → Type 0) (good : ℕ → Type 0) (item : ℕ →
     Item) : Type 0 where
@@ -103,7 +108,7 @@ section_keeps b series P good item s (x ∷ xs) t p =
     section_keeps b series P good item s xs (tell b series t (item x)) (s.keeps x t p)
 
 -- nothing is passed over before the `call` lines
-pub nothing_passed : (b : Basin) (t : Told) (i : Item) → ((r : ℕ) → passes b i r ≡ false) → (xs : List ℕ) →
+nothing_passed : (b : Basin) (t : Told) (i : Item) → ((r : ℕ) → passes b i r ≡ false) → (xs : List ℕ) →
     list_any (λ r. is_short t.now r && is_none (cut_of t.now r) && passes b i r) xs ≡ false
 nothing_passed b t i h [] = refl
 nothing_passed b t i h (r ∷ rs) =
@@ -112,6 +117,19 @@ nothing_passed b t i h (r ∷ rs) =
     none : (p : Bool) → p && false ≡ false
     none true = refl
     none false = refl
+
+-- of a line before the `call` lines only the row of its own kind can hold
+pub early_good : (b : Basin) (series : Inflows) (t : Told) (i : Item) → t.calling ≡ None →
+    ((r : ℕ) → passes b i r ≡ false) → cut_needless t i ≡ false → called_wrong b t i ≡ false →
+    NoneHolds (own_rows b series t i) → NoneHolds (rows b series t i)
+early_good b series t i none passed needless called own = (
+  rw none (no_call (not (is_member i))),
+  (nothing_passed b t i passed (places_of b.rights), (needless, (called, own))),
+)
+  where
+    no_call : (p : Bool) → p && false ≡ false
+    no_call true = refl
+    no_call false = refl
 
 -- Tests of numbers.
 pub is_same : (x y : ℕ) → not (x == y) ≡ false → x ≡ y

@@ -1,5 +1,5 @@
 -- The lines that are not refuted are those of a history.
-use Rattle.std.proofs.Common.{◌≡◌, ℕ, zero, suc, ◌+◌, ◌-◌, ◌<◌, Bool, true, false, refl, sym, ap, subst, ◌∙◌, arith}
+use Rattle.std.proofs.Common.{◌≡◌, ℕ, zero, suc, ◌+◌, ◌<◌, Bool, true, false, refl, sym, ap, subst, ◌∙◌, arith}
 use Rattle.std.proofs.Common.{inl, inr, List, [], ◌∷◌, ◌++◌, length, map, fold, append_assoc, append-nil, length-append}
 use Rattle.std.specs.Prelude.{Some, None, ◌||◌, ◌⊎◌}
 use Rattle.std.specs.List.{flat_map}

@@ -8,7 +8,6 @@ use Rattle.water_model.specs.Basin.{instream_link}
 use Rattle.water_model.specs.History.{opening_after}
 use Rattle.water_model.specs.Hydrology.{in_year, evaporation, returned_at, used_of, want_of}
 use Rattle.water_model.specs.Lookups.{of_entry}
-use Rattle.water_model.specs.Places.{places_of}
 use Rattle.water_model.specs.Plans.{carry_of}
 use Rattle.water_model.specs.declared.item.Item.TheVariants as line
 use Rattle.water_model.specs.declared.quantity.Quantity.TheVariants as quantity
@@ -17,7 +16,8 @@ use Rattle.water_model.specs.declared.types.Inflows.{Inflows}
 use Rattle.water_model.specs.declared.types.MonthRecord.{MonthRecord}
 use Rattle.result_reader.specs.Telling.{Told}
 use Rattle.cert_check.specs.Checking.{rows, amount_wrong, is_same_month}
-use Rattle.cert_check.proofs.Rows.{NoneHolds, Section, nothing_passed, is_same, same_is}
+use Rattle.cert_check.proofs.Rows.{NoneHolds, Section, early_good, is_same, same_is}
+use Rattle.water_text.proofs.MonthLaws.{same_month}
 
 -- what the rows of a section need of what is told
 abbrev pub Behind : List MonthRecord → Told → Type 0
@@ -41,22 +41,10 @@ pub openings : (b : Basin) (series : Inflows) (before : List MonthRecord) (a : �
     (λ x. a x ≡ slice_index (opening_after b before) x)
     (λ x. line.Amount quantity.Opening x (a x))
 openings b series before a = record {
-  makes = λ x t p g. (
-    rw p.0 refl,
-    (
-      nothing_passed b t (line.Amount quantity.Opening x (a x)) (λ r. refl) (places_of b.rights),
-      (
-        refl,
-        (
-          refl,
-          (
-            same_is (a x) (slice_index (opening_after b t.months) x) (g
-                ∙ ap (λ ms. slice_index (opening_after b ms) x) (sym p.1)),
-            tt,
-          ),
-        ),
-      ),
-    ),
+  makes = λ x t p g. early_good b series t (line.Amount quantity.Opening x (a x)) p.0 (λ r. refl) refl refl (
+    same_is (a x) (slice_index (opening_after b t.months) x) (g
+        ∙ ap (λ ms. slice_index (opening_after b ms) x) (sym p.1)),
+    tt,
   );
   tells = λ x t p n. is_same (a x) (slice_index (opening_after b t.months) x) n.1.1.1.1.0
       ∙ ap (λ ms. slice_index (opening_after b ms) x) p.1;
@@ -70,24 +58,12 @@ pub evaporations : (b : Basin) (series : Inflows) (index : ℕ) (opening : List 
     (λ r. evaporation r.area (slice_index opening x) (slice_index r.rate (in_year b index))) 0)
     (λ x. line.Amount quantity.Evaporated x (a x))
 evaporations b series index opening a = record {
-  makes = λ x t p g. (
-    rw p.0 refl,
-    (
-      nothing_passed b t (line.Amount quantity.Evaporated x (a x)) (λ r. refl) (places_of b.rights),
-      (
-        refl,
-        (
-          refl,
-          (
-            same_is (a x)
-                (of_entry b.reservoirs x
-                (λ r. evaporation r.area (slice_index t.now.opening x) (slice_index r.rate (in_year b t.now.index))) 0)
-                (rw (p.1, p.2) g),
-            tt,
-          ),
-        ),
-      ),
-    ),
+  makes = λ x t p g. early_good b series t (line.Amount quantity.Evaporated x (a x)) p.0 (λ r. refl) refl refl (
+    same_is (a x)
+        (of_entry b.reservoirs x
+        (λ r. evaporation r.area (slice_index t.now.opening x) (slice_index r.rate (in_year b t.now.index))) 0)
+        (rw (p.1, p.2) g),
+    tt,
   );
   tells = λ x t p n. (let e =
       is_same (a x) (of_entry b.reservoirs x
@@ -102,22 +78,8 @@ pub returns : (b : Basin) (series : Inflows) (before : List MonthRecord) (index 
     (λ x. a x ≡ returned_at b (map (λ m. m.delivered) before) x index)
     (λ x. line.Amount quantity.Returned x (a x))
 returns b series before index a = record {
-  makes = λ x t p g. (
-    rw p.0 refl,
-    (
-      nothing_passed b t (line.Amount quantity.Returned x (a x)) (λ r. refl) (places_of b.rights),
-      (
-        refl,
-        (
-          refl,
-          (
-            same_is (a x) (returned_at b (map (λ m. m.delivered) t.months) x t.now.index) (rw (p.1, p.2) g),
-            tt,
-          ),
-        ),
-      ),
-    ),
-  );
+  makes = λ x t p g. early_good b series t (line.Amount quantity.Returned x (a x)) p.0 (λ r. refl) refl refl
+      (same_is (a x) (returned_at b (map (λ m. m.delivered) t.months) x t.now.index) (rw (p.1, p.2) g), tt);
   tells = λ x t p n. (let e =
       is_same (a x) (returned_at b (map (λ m. m.delivered) t.months) x t.now.index) n.1.1.1.1.0 in rw (p.1, p.2) at e);
   keeps = λ x t p. (refl, p.1, p.2);
@@ -129,22 +91,8 @@ pub uses : (b : Basin) (series : Inflows) (before : List MonthRecord) (index : �
     (λ x. a x ≡ used_of b (map (λ m. m.delivered) before) x index)
     (λ x. line.Amount quantity.Used x (a x))
 uses b series before index a = record {
-  makes = λ x t p g. (
-    rw p.0 refl,
-    (
-      nothing_passed b t (line.Amount quantity.Used x (a x)) (λ r. refl) (places_of b.rights),
-      (
-        refl,
-        (
-          refl,
-          (
-            same_is (a x) (used_of b (map (λ m. m.delivered) t.months) x t.now.index) (rw (p.1, p.2) g),
-            tt,
-          ),
-        ),
-      ),
-    ),
-  );
+  makes = λ x t p g. early_good b series t (line.Amount quantity.Used x (a x)) p.0 (λ r. refl) refl refl
+      (same_is (a x) (used_of b (map (λ m. m.delivered) t.months) x t.now.index) (rw (p.1, p.2) g), tt);
   tells = λ x t p n. (let e =
       is_same (a x) (used_of b (map (λ m. m.delivered) t.months) x t.now.index) n.1.1.1.1.0 in rw (p.1, p.2) at e);
   keeps = λ x t p. (refl, p.1, p.2);
@@ -156,13 +104,8 @@ pub flows : (b : Basin) (series : Inflows) (month : Month) (a : ℕ → ℕ) →
     (λ x. nat_lt (carry_of b month x) (a x) ≡ false)
     (λ x. line.Amount quantity.Flow x (a x))
 flows b series month a = record {
-  makes = λ x t p g. (
-    rw p.0 refl,
-    (
-      nothing_passed b t (line.Amount quantity.Flow x (a x)) (λ r. refl) (places_of b.rights),
-      (refl, (refl, (ap (λ m. nat_lt (carry_of b m x) (a x)) p.1 ∙ g, tt))),
-    ),
-  );
+  makes = λ x t p g. early_good b series t (line.Amount quantity.Flow x (a x)) p.0 (λ r. refl) refl refl
+      (ap (λ m. nat_lt (carry_of b m x) (a x)) p.1 ∙ g, tt);
   tells = λ x t p n. ap (λ m. nat_lt (carry_of b m x) (a x)) (sym p.1) ∙ n.1.1.1.1.0;
   keeps = λ x t p. (refl, p.1);
 }
@@ -174,24 +117,12 @@ pub deliveries : (b : Basin) (series : Inflows) (index : ℕ) (used flow : List 
     × (amount_wrong (instream_link b x) flow (a x) (w x) ≡ false))
     (λ x. line.Deliver x (a x) (w x))
 deliveries b series index used flow a w = record {
-  makes = λ x t p g. (
-    rw p.0 refl,
-    (
-      nothing_passed b t (line.Deliver x (a x) (w x)) (λ r. refl) (places_of b.rights),
-      (
-        refl,
-        (
-          refl,
-          (
-            or_from (not (w x == want_of b series x t.now.index (slice_index t.now.used x)))
-                (amount_wrong (instream_link b x) t.now.plan.flow (a x) (w x))
-                (same_is (w x) (want_of b series x t.now.index (slice_index t.now.used x)) (rw (p.1, p.2) g.0))
-                (ap (λ f. amount_wrong (instream_link b x) f (a x) (w x)) p.3 ∙ g.1),
-            tt,
-          ),
-        ),
-      ),
-    ),
+  makes = λ x t p g. early_good b series t (line.Deliver x (a x) (w x)) p.0 (λ r. refl) refl refl (
+    or_from (not (w x == want_of b series x t.now.index (slice_index t.now.used x)))
+        (amount_wrong (instream_link b x) t.now.plan.flow (a x) (w x))
+        (same_is (w x) (want_of b series x t.now.index (slice_index t.now.used x)) (rw (p.1, p.2) g.0))
+        (ap (λ f. amount_wrong (instream_link b x) f (a x) (w x)) p.3 ∙ g.1),
+    tt,
   );
   tells = λ x t p n. (let h = or_parts (not (w x == want_of b series x t.now.index (slice_index t.now.used x)))
       (amount_wrong (instream_link b x) t.now.plan.flow (a x) (w x)) n.1.1.1.1.0 in (
@@ -203,28 +134,20 @@ deliveries b series index used flow a w = record {
 }
 
 pub title_good : (b : Basin) (series : Inflows) (t : Told) → t.calling ≡ None → NoneHolds (rows b series t (line.Title))
-title_good b series t h =
-    (rw h refl, (nothing_passed b t (line.Title) (λ r. refl) (places_of b.rights), (refl, (refl, tt))))
+title_good b series t h = early_good b series t (line.Title) h (λ r. refl) refl refl tt
 
 pub month_good : (b : Basin) (series : Inflows) (t : Told) (month : Month) → t.calling ≡ None →
     NoneHolds (rows b series t (line.Month month))
-month_good b series t month h =
-    (rw h refl, (nothing_passed b t (line.Month month) (λ r. refl) (places_of b.rights), (refl, (refl, tt))))
+month_good b series t month h = early_good b series t (line.Month month) h (λ r. refl) refl refl tt
 
 pub last_good : (b : Basin) (series : Inflows) (t : Told) (months : ℕ) → t.calling ≡ None →
     NoneHolds (rows b series t (line.Done months))
-last_good b series t months h =
-    (rw h refl, (nothing_passed b t (line.Done months) (λ r. refl) (places_of b.rights), (refl, (refl, tt))))
+last_good b series t months h = early_good b series t (line.Done months) h (λ r. refl) refl refl tt
 
 pub run_good : (b : Basin) (series : Inflows) (t : Told) → t.calling ≡ None →
     NoneHolds (rows b series t (line.Run b.first b.months))
-run_good b series t h = (
-  rw h refl,
-  (
-    nothing_passed b t (line.Run b.first b.months) (λ r. refl) (places_of b.rights),
-    (refl, (refl, (run_same b.first.year b.first.month b.months, tt))),
-  ),
-)
+run_good b series t h = early_good b series t (line.Run b.first b.months) h (λ r. refl) refl refl
+    (run_same b.first.year b.first.month b.months, tt)
   where
     run_same : (y m n : ℕ) → not (y == y && m == m && n == n) ≡ false
     run_same y m n = grind (arith, nat_tests)
@@ -244,6 +167,3 @@ head_is b series t first months n = by_parts first b.first n.1.1.1.1.0
         let parts = three (x.year == y.year) (x.month == y.month) (months == b.months) h in
         let year = eqb-true x.year y.year parts.0 in
         (same_month x y year (eqb-true x.month y.month parts.1), eqb-true months b.months parts.2)
-      where
-        same_month : (x y : Month) → x.year ≡ y.year → x.month ≡ y.month → x ≡ y
-        same_month x y e f = let made : Month = record { year = x.year; month = x.month } in rw (← e, ← f) refl

@@ -1,7 +1,7 @@
 -- The lines of a month, from its form, are those of a record.
 use Rattle.std.proofs.Common.{◌≡◌, ℕ, zero, suc, ◌+◌, ◌<◌, Bool, true, false, refl, sym, ap, ◌∙◌, arith, inl, inr, List}
 use Rattle.std.proofs.Common.{[], ◌∷◌, length, map, replicate, filter}
-use Rattle.std.specs.Prelude.{Option, Some, None, option_map, unwrap_or, slice_index, slice_set, is_some, if◌then◌else◌}
+use Rattle.std.specs.Prelude.{Option, Some, None, option_map, unwrap_or, slice_index, is_some, if◌then◌else◌}
 use Rattle.std.specs.List.{flat_map}
 use Rattle.std.proofs.lemmas.Bool.{cases_lt}
 use Rattle.std.proofs.lemmas.List.{length-replicate}
@@ -27,6 +27,7 @@ use Rattle.water_model.specs.declared.types.Basin.{Basin}
 use Rattle.water_model.specs.declared.types.Inflows.{Inflows}
 use Rattle.water_model.specs.declared.types.MonthRecord.{MonthRecord}
 use Rattle.water_model.proofs.Order.{Has, IsOrdered, filter-has, numbers_from-below, seniors_have, seniors_below}
+use Rattle.water_model.proofs.Order.{flat_same, map_same}
 use Rattle.water_model.proofs.Order.{seniors_ordered}
 use Rattle.water_model.proofs.Quantities.{has-with_line}
 use Rattle.result_reader.proofs.MonthTold.{take_of}
@@ -34,10 +35,11 @@ use Rattle.result_reader.proofs.Telling.{set_all, set_all-has}
 use Rattle.result_reader.proofs.WholeMonth.{IsAllTold}
 use Rattle.cert_check.proofs.Callers.{called_line}
 use Rattle.cert_check.proofs.Calls.{once_in_order}
-use Rattle.cert_check.proofs.Inverts.{AreApart, map_same, flat_same}
+use Rattle.cert_check.proofs.Inverts.{AreApart}
 use Rattle.cert_check.proofs.Month.{inner_lines, section_lines}
 use Rattle.cert_check.proofs.Spread.{onto, onto_same}
 use Rattle.result_reader.proofs.Sets.{put_sets, set_in, length-put_sets, put_sets-has, put_sets-same, no_sets}
+use Rattle.result_reader.proofs.AllTold.{set_all-same}
 
 -- No place comes twice in the lists that sections go over.
 
@@ -133,13 +135,6 @@ told_is : (xs : List ℕ) (a : ℕ → ℕ) (n k : ℕ) → ((x : ℕ) → Has x
     slice_index (set_all xs a (zeros n)) k ≡ a k
 told_is xs a n k below h =
     (let l = below k h in set_all-has xs a (zeros n) k (omega (arith, length-replicate {A = ℕ} n 0)) h)
-
-set_all-same : (xs : List ℕ) (a c : ℕ → ℕ) (ys : List ℕ) → ((k : ℕ) → Has xs k → a k ≡ c k) →
-    set_all xs a ys ≡ set_all xs c ys
-set_all-same [] a c ys h = refl
-set_all-same (x ∷ xs) a c ys h =
-    ap (λ n. set_all xs a (slice_set ys x n)) (h x (inl refl))
-    ∙ set_all-same xs a c (slice_set ys x (c x)) (λ k m. h k (inr m))
 
 told_again : (xs : List ℕ) (a : ℕ → ℕ) (n : ℕ) → ((x : ℕ) → Has xs x → x < n) →
     set_all xs (λ k. slice_index (set_all xs a (zeros n)) k) (zeros n) ≡ set_all xs a (zeros n)

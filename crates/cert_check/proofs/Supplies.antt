@@ -1,5 +1,5 @@
 -- The supply of a month is the list of what is supplied to each node.
-use Rattle.std.proofs.Common.{◌≡◌, ℕ, ◌+◌, ◌<◌, refl, sym, ap, ◌∙◌, arith, List, [], ◌∷◌, ◌++◌, length, take, drop}
+use Rattle.std.proofs.Common.{◌≡◌, ℕ, ◌+◌, ◌<◌, sym, ap, ◌∙◌, arith, List, length}
 use Rattle.std.specs.Prelude.{slice_index}
 use Rattle.std.proofs.lemmas.Grind.{same_number_lists}
 use Rattle.std.proofs.lemmas.List.{length-map}
@@ -40,12 +40,3 @@ supply_is b series m supply len each =
     same_number_lists supply (with_supply b series m).supply (len ∙ sym (length-supply b series m))
     (λ k l. (let within : k < length b.nodes = omega (arith, len) in
     each k within ∙ sym (supply_at b series m k within)))
-
--- a list that is written as a whole
-pub whole_rows : {X : Type 0} (old front : List X) → length front ≡ length old →
-    take (length old) (front ++ drop (length front) old) ≡ front
-whole_rows old front len = rw (sym len) (take_front front (drop (length front) old))
-  where
-    take_front : {X : Type 0} (xs ys : List X) → take (length xs) (xs ++ ys) ≡ xs
-    take_front [] ys = refl
-    take_front (x ∷ xs) ys = ap (λ (zs : List _). x ∷ zs) (take_front xs ys)

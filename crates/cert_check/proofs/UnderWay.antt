@@ -25,13 +25,13 @@ use Rattle.water_model.specs.declared.types.MonthRecord.{MonthRecord}
 use Rattle.water_model.specs.declared.types.Reservoir.{Reservoir}
 use Rattle.water_model.proofs.Histories.{IsMonth-run_month}
 use Rattle.result_reader.specs.Telling.{Told, tell, with_member}
-use Rattle.month_terms.proofs.Adds.{no_numbers}
 use Rattle.water_model.proofs.Wants.{want_most}
 use Rattle.water_model.proofs.Carries.{carry_most}
 use Rattle.cert_check.specs.Checking.{rows, amount_wrong}
 use Rattle.cert_check.specs.Coming.{IsBounded, is_before_called}
-use Rattle.water_model.proofs.SetEntries.{set_of_other}
+use Rattle.water_model.proofs.SetEntries.{set_of_other, no_sets}
 use Rattle.cert_check.proofs.Rows.{NoneHolds, AreGood, is_same}
+use Rattle.water_model.proofs.Lists.{no_numbers}
 
 -- a line within a month, but not its last
 abbrev pub is_amid : Item → Bool
@@ -251,11 +251,6 @@ free_more b series r t line.Title h f = f
 free_more b series r t (line.Run first months) h f = f
 free_more b series r t (line.Month month) h f =
     record { none = no_sets (length b.rights) r; other = λ e. (let never : None ≡ Some r = e in cc) }
-  where
-    no_sets : (n r : ℕ) → of_entry (replicate {A = Option (List Bool)} n None) r (λ s. s) None ≡ None
-    no_sets zero r = refl
-    no_sets (suc n) zero = refl
-    no_sets (suc n) (suc r) = no_sets n r
 free_more b series r t (line.Amount q entry amount) h f = record {
   none = ap (λ cuts. set_of cuts r) (cuts_with q t.now (slice_set (amounts_of q t.now) entry amount)) ∙ f.none;
   other = λ e. (let never : None ≡ Some r = e in cc);

@@ -14,8 +14,8 @@ use Rattle.water_model.specs.declared.types.Inflows.{Inflows}
 use Rattle.water_model.specs.declared.types.MonthRecord.{MonthRecord}
 use Rattle.calls.specs.Callers.{AreCallers, is_short}
 use Rattle.lag_returns.specs.Lags as lag
-use Rattle.lag_returns.specs.Lags.{OnTheWay}
-use Rattle.month_terms.specs.Terms.{HasReturned, HasUsed}
+use Rattle.lag_returns.specs.Lags.{OnTheWay, HasReturned}
+use Rattle.month_terms.specs.Terms.{HasUsed}
 use Rattle.result_reader.specs.Telling.{Told, with_supply}
 use Rattle.cert_check.specs.Checking.{caller_due}
 use Rattle.cert_check.specs.Shows.{IsRecordOf}

@@ -1,10 +1,9 @@
 //! What a checker keeps of a text.
-use calls::MOST_NODES;
 use lag_returns::Lags;
 use reservoirs::AreaTable;
 use rights_roll::roll::Roll;
 use water_model::rows::Rows;
-use water_model::types::{Basin, Inflows, MonthRecord};
+use water_model::types::{Basin, Inflows, MOST_NODES, MonthRecord};
 
 /// A basin and its series, and what is derived from the basin once: the roll of its rights, the area table of each
 /// reservoir, and the last outlet in the order of the file.

@@ -3,9 +3,9 @@ ghost use Rattle.std.specs.Prelude.{ℕ, ◌≡◌, ◌+◌, ◌^◌, ◌<◌, �
 ghost use Rattle.std.specs.Prelude.{false, Bool, All, Option, IfSome, IsSome, length, replicate, slice_index};
 ghost use Rattle.std.specs.Prelude.{slice_set, is_some, if◌then◌else◌};
 ghost use Rattle.calls.specs.Callers.{AreCallers};
-ghost use Rattle.lag_returns.specs.Lags.{return_rows};
+ghost use Rattle.lag_returns.specs.Lags.{HasReturned, return_rows};
 ghost use Rattle.lag_returns.specs.Lags as lag;
-ghost use Rattle.month_terms.specs.Terms.{HasReturned, HasUsed};
+ghost use Rattle.month_terms.specs.Terms.{HasUsed};
 ghost use Rattle.water_model.specs.Basin.{taking_node};
 ghost use Rattle.water_model.specs.CutSets.{set_of, with_set, without_sets};
 ghost use Rattle.water_model.specs.Quantities.{amounts_of, with_amounts};
@@ -25,7 +25,6 @@ ghost use Rattle.cert_check.specs.declared.answering.Due.{Due};
 use crate::account::{Account, Means};
 use crate::answering::next_due;
 use crate::told;
-use lag_returns::Lags;
 use month_terms::used::use_month;
 use rights_roll::roll::Roll;
 use water_model::item::Item;
@@ -235,19 +234,6 @@ pub fn enter_called(basin: &Basin, roll: &Roll, account: &mut Account)
     }
 }
 
-/// Writes what comes back to each node next.
-pub fn bring_back(basin: &Basin, lags: &Lags, comes: &mut [u64])
-    requires basin { IsValidBasin basin.now }
-    requires rows { return_rows lags.now ≡ basin.now.returns }
-    requires comes { length comes.old ≡ length basin.now.nodes }
-    ensures length { length comes.new ≡ length comes.old }
-    ensures each { (deliveries : List (List ℕ)) → lag.StandsFor lags.now basin.now.returns deliveries →
-        HasReturned basin.now deliveries comes.new }
-{
-    comes.fill(0);
-    lags.arrive(comes);
-}
-
 /// Enters an `end` line: what the month leaves to the next.
 pub fn enter_end(basin: &Basin, account: &mut Account)
     requires basin { IsValidBasin basin.now }
@@ -280,7 +266,7 @@ pub fn enter_end(basin: &Basin, account: &mut Account)
         .opens
         .as_mut_slice()
         .copy_from_slice(account.month.closing.as_slice());
-    bring_back(basin, &account.lags, account.comes.as_mut_slice());
+    account.lags.bring_back(basin, &mut account.comes);
     use_month(
         basin,
         account.done,

@@ -2,7 +2,7 @@
 ghost use Rattle.std.specs.Prelude.{ℕ, ◌≡◌, ◌<◌, [], length, nat_le, if◌then◌else◌, IfOk};
 ghost use Rattle.std.specs.List.{list_all};
 ghost use Rattle.lag_returns.specs.Lags as lag;
-ghost use Rattle.month_terms.specs.Terms.{HasReturned};
+ghost use Rattle.lag_returns.specs.Lags.{HasReturned};
 ghost use Rattle.result_reader.specs.Telling.{nothing_told};
 ghost use Rattle.water_model.specs.Basin.{is_outlet};
 ghost use Rattle.water_model.specs.Places.{outlets};
@@ -12,14 +12,12 @@ ghost use Rattle.cert_check.specs.Beginning.{IsBlank};
 ghost use Rattle.cert_check.specs.Keeping.{Keeps};
 
 use crate::account::Account;
-use crate::entering::bring_back;
-use calls::MOST_NODES;
 use lag_returns::Lags;
 use month_terms::opening::{blank_record, openings, zeros};
 use std::alloc::{AllocError, Global};
 use water_model::cut_list::CutList;
 use water_model::rows::Rows;
-use water_model::types::{Basin, MonthRecord};
+use water_model::types::{Basin, MOST_NODES, MonthRecord};
 
 /// A record with room for a month, of which nothing is told.
 fn blank_month(alloc: Global, basin: &Basin) -> Result<Box<MonthRecord>, AllocError>
@@ -38,7 +36,7 @@ fn first_comes(alloc: Global, basin: &Basin, lags: &Lags) -> Result<Rows<u64>, A
     ensures { IfOk result (HasReturned basin.now []) }
 {
     let mut comes = zeros(alloc, basin.nodes.len())?;
-    bring_back(basin, lags, comes.as_mut_slice());
+    lags.bring_back(basin, &mut comes);
     Ok(comes)
 }
 

@@ -7,42 +7,14 @@ use Rattle.circulation.specs.Contents.{Contents, network, IsCirculation, IsStart
 -- another flow in place of the flow
 pub flow-kept : (c : Contents) (flow : List ℕ) → IsCirculation c → length flow ≡ length c.from →
     IsFlow (network c) (λ a. slice_index flow a) → IsCirculation (record c { flow = flow })
-flow-kept c flow k same f = record {
-  shape = record {
-    few_nodes = k.shape.few_nodes;
-    few_arcs = k.shape.few_arcs;
-    to = k.shape.to;
-    supply = k.shape.supply;
-    lower = k.shape.lower;
-    upper = k.shape.upper;
-    flow = same;
-    scratch = k.shape.scratch;
-    small = k.shape.small;
-  };
-  ends = k.ends;
-  flow = f;
-  rows = k.rows;
-}
+flow-kept c flow k same f =
+    record { shape = assumption (same, k.shape); ends = k.ends; flow = f; rows = k.rows }
 
 -- other scratch words in place of the scratch words
 pub scratch-kept : (c : Contents) (scratch : List ℕ) → length scratch ≡ 4 * c.nodes + 8 → IsCirculation c →
     IsCirculation (record c { scratch = scratch })
-scratch-kept c scratch long k = record {
-  shape = record {
-    few_nodes = k.shape.few_nodes;
-    few_arcs = k.shape.few_arcs;
-    to = k.shape.to;
-    supply = k.shape.supply;
-    lower = k.shape.lower;
-    upper = k.shape.upper;
-    flow = k.shape.flow;
-    scratch = long;
-    small = k.shape.small;
-  };
-  ends = k.ends;
-  flow = k.flow;
-  rows = k.rows;
-}
+scratch-kept c scratch long k =
+    record { shape = assumption (long, k.shape); ends = k.ends; flow = k.flow; rows = k.rows }
 
 -- a month starts with the flow that was given
 pub month-kept : (c : Contents) (supply upper start : List ℕ) → IsCirculation c → IsStart c supply upper start →

@@ -1,7 +1,7 @@
 -- Sums that fit their type.
 use Rattle.std.proofs.Common.{◌≡◌, ℕ, ◌+◌, ◌-◌, ◌*◌, ◌<◌, ◌≤◌, Bool, true, false, ap, sym}
 use Rattle.std.proofs.Common.{◌∙◌, arith, List, length, get_or}
-use Rattle.std.specs.Prelude.{slice_index, slice_get, All, if◌then◌else◌, unwrap_or, ◌&&◌}
+use Rattle.std.specs.Prelude.{slice_index, All, if◌then◌else◌, ◌&&◌}
 use Rattle.std.proofs.lemmas.Option.{unwrap_or-slice_get}
 use Rattle.place_sums.specs.Sums.{total, total_where, when}
 use Rattle.place_sums.proofs.Totals.{total_most, total_where_fits, total_le, greatest_where_le}

@@ -6,6 +6,7 @@ use Rattle.water_text.specs.Months.{IsMonth, month_after}
 use Rattle.water_text.specs.declared.month.Month.{Month}
 use Rattle.edit_script.specs.Laws.{MonthsHaveTheirIndex}
 use Rattle.edit_script.specs.Names.{month_number}
+use Rattle.water_text.proofs.MonthLaws.{same_month}
 
 index : ℕ → ℕ → ℕ → Option ℕ
 index x first n = if nat_lt x first then None else (if nat_lt (x - first) n then Some (x - first) else None)
@@ -43,13 +44,10 @@ from_place x first n i l e =
     let diff : x - first ≡ i = omega arith in
     rw (is_above x first (omega arith), diff, is_below i n l) refl
 
-same_parts : (m n : Month) → m.year ≡ n.year → m.month ≡ n.month → m ≡ n
-same_parts m n years months = λ i. record { year = years i; month = months i }
-
 month_behind : (first m : Month) (i : ℕ) → IsMonth first → IsMonth m → month_number m ≡ month_number first + i →
     m ≡ month_after first i
 month_behind first m i h k e =
-    same_parts m (month_after first i) (omega (arith, h.month, k.month)) (omega (arith, h.month, k.month))
+    same_month m (month_after first i) (omega (arith, h.month, k.month)) (omega (arith, h.month, k.month))
 
 pub number_after : (first : Month) (i : ℕ) → IsMonth first → month_number (month_after first i) ≡ month_number first + i
 number_after first i h = omega (arith, h.month)

@@ -8,7 +8,7 @@ use Rattle.std.proofs.lemmas.Bool.{cases_eq}
 use Rattle.std.proofs.lemmas.Bool.Decides.{nat_tests}
 use Rattle.std.proofs.lemmas.List.Sums.{sum_by-cons}
 use Rattle.std.proofs.lemmas.List.Sorted.{sum_by-IsPermutation}
-use Rattle.water_model.proofs.Order.{Has}
+use Rattle.water_model.proofs.Order.{Has, map_same}
 use Rattle.index_seq.specs.Counts.{put_amount, rising, count_of}
 use Rattle.index_seq.specs.Text.{yearly_lines}
 use Rattle.index_seq.specs.declared.entry.Entry.TheVariants as line
@@ -167,11 +167,6 @@ counted_has (y ∷ ys) x h = elim (cases_eq y x) [
 ]
 
 -- lists in which each amount comes equally often have the same lines
-map_same : {Y : Type 0} (f g : ℕ → Y) (xs : List ℕ) → ((x : ℕ) → Has xs x → f x ≡ g x) → map f xs ≡ map g xs
-map_same f g [] h = refl
-map_same f g (x ∷ xs) h =
-    ap (λ y. y ∷ map f xs) (h x (inl refl)) ∙ ap (λ ys. g x ∷ ys) (map_same f g xs (λ y k. h y (inr k)))
-
 pub same_counts : (xs ys : List ℕ) → ((x : ℕ) → count_of x xs ≡ count_of x ys) → yearly_lines xs ≡ yearly_lines ys
 same_counts xs ys h =
     map_same (λ x. line.Yearly x (count_of x xs)) (λ x. line.Yearly x (count_of x ys)) (rising xs)

@@ -1,12 +1,12 @@
 -- The lines of sums that were put in order.
-use Rattle.std.proofs.Common.{◌≡◌, ℕ, refl, sym, ap, subst, ◌∙◌, List, [], ◌∷◌, ◌++◌, length, inl, inr, Option}
+use Rattle.std.proofs.Common.{◌≡◌, ℕ, sym, ap, subst, ◌∙◌, List, [], ◌∷◌, ◌++◌, length, Option}
 use Rattle.std.specs.Prelude.{slice_index_or}
 use Rattle.std.specs.List.{flat_map}
 use Rattle.std.specs.List.Sorted.{IsNonDecreasingBy, IsPermutation}
 use Rattle.water_model.specs.Places.{seniors_first}
 use Rattle.water_model.specs.declared.types.Basin.{Basin}
 use Rattle.water_model.specs.declared.types.Inflows.{Inflows}
-use Rattle.water_model.proofs.Order.{Has, seniors_below}
+use Rattle.water_model.proofs.Order.{seniors_below, flat_same}
 use Rattle.index_seq.specs.Ends.{HaveLines}
 use Rattle.index_seq.specs.Sums.{HaveSums}
 use Rattle.water_edge.proofs.Puts.{PutsFront}
@@ -18,12 +18,6 @@ use Rattle.index_seq.specs.Traces.{AreTraces, years_of, yearly_deliveries}
 use Rattle.index_seq.specs.declared.entry.Entry.TheVariants as line
 use Rattle.index_seq.proofs.Counting.{same_lines}
 use Rattle.index_seq.proofs.Running.{traces_whole, sums_whole}
-
-flat_same : {Y : Type 0} (f g : ℕ → List Y) (xs : List ℕ) → ((x : ℕ) → Has xs x → f x ≡ g x) →
-    flat_map f xs ≡ flat_map g xs
-flat_same f g [] h = refl
-flat_same f g (x ∷ xs) h =
-    ap (λ ys. ys ++ flat_map f xs) (h x (inl refl)) ∙ ap (λ ys. g x ++ ys) (flat_same f g xs (λ y k. h y (inr k)))
 
 pub sorted_lines : (b : Basin) (series : Inflows) (sums amounts : List (List ℕ)) → HaveSums b series (years_of b) sums →
     length amounts ≡ length sums →

@@ -2,7 +2,7 @@
 use Rattle.std.proofs.Common.{◌≡◌, ℕ, zero, suc, ◌+◌, ◌*◌, ◌<◌, ◌≤◌, ◌^◌, refl, sym, ap, subst, ◌∙◌, arith, List}
 use Rattle.std.proofs.Common.{[], ◌∷◌, ◌++◌, length, take, drop, map, inl, inr, append-nil, append_assoc, length-append}
 use Rattle.std.proofs.Common.{take_all, add-one}
-use Rattle.std.specs.Prelude.{slice_index, slice_index_or, slice_get, sum_by, Some, ◌⊎◌}
+use Rattle.std.specs.Prelude.{slice_index, slice_index_or, slice_get, sum_by, Some}
 use Rattle.std.proofs.Math.Nat.{mul-le-mul_right, add-mul, mul_assoc}
 use Rattle.std.proofs.lemmas.Grind.{flat_map-append}
 use Rattle.std.proofs.lemmas.List.{drop-append-le, take-append-le, length-drop, drop_all}
@@ -19,6 +19,7 @@ use Rattle.index_seq.specs.Sums.{IsEmptyYear, IsUnderWay, HaveSums}
 use Rattle.index_seq.specs.Traces.{begun_after, delivered_in_year, yearly_deliveries, years_of, HasWholeYears}
 use Rattle.index_seq.specs.Traces.{AreTraces}
 use Rattle.senior_hold.specs.MonthNetwork.{month_pushes}
+use Rattle.water_model.proofs.Histories.{at_end}
 
 -- what a right was delivered in a year that is over does not change
 year_stays : (right year : ℕ) (records : List MonthRecord) (m : MonthRecord) → 12 * year + 12 ≤ length records →
@@ -190,14 +191,6 @@ trace_start b series trace run all none h same fits stands empty = record {
   year = record { count = empty.count; each = empty.zeros };
 }
 
-last_or_before : {X : Type 0} (xs : List X) (x y : X) (i : ℕ) → slice_get (xs ++ x ∷ []) i ≡ Some y →
-    (slice_get xs i ≡ Some y) ⊎ ((i ≡ length xs) × (x ≡ y))
-last_or_before [] x y zero h = let same : x ≡ y = cc in inr (refl, same)
-last_or_before [] x y (suc i) h = let none : slice_get [] i ≡ Some y = h in cc
-last_or_before (z ∷ xs) x y zero h = inl h
-last_or_before (z ∷ xs) x y (suc i) h =
-    elim (last_or_before xs x y i h) [ inl before ↦ inl before | inr last ↦ inr (ap suc last.0, last.1) ]
-
 -- and when all its years are over, it is whole too
 pub trace_over : (b : Basin) (series : Inflows) (trace : ℕ) (run : RunSeen) (all : List (List ℕ)) (none : List ℕ) →
     IsUnderWay b series trace (years_of b) 0 run all none →
@@ -220,7 +213,7 @@ trace_over b series trace run all none u whole = record {
 
     each : (y : ℕ) (records : List MonthRecord) → slice_get (u.traces ++ u.records ∷ []) y ≡ Some records →
         IsHistory b (begun_after series y) records
-    each y records at = elim (last_or_before u.traces u.records records y at) [
+    each y records at = elim (at_end u.traces u.records records y at) [
       | inl before ↦ u.first.each y records before
       | inr last ↦
           let number : trace ≡ y = sym (last.0 ∙ u.number) in

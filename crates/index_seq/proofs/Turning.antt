@@ -1,7 +1,7 @@
 -- A series that begins in another year.
-use Rattle.std.proofs.Common.{◌≡◌, ℕ, ◌+◌, ◌-◌, ◌*◌, ◌%◌, ◌<◌, ◌≤◌, ◌^◌, refl, sym, ap, ◌∙◌, arith, List, [], ◌∷◌}
+use Rattle.std.proofs.Common.{◌≡◌, ℕ, ◌+◌, ◌-◌, ◌*◌, ◌%◌, ◌<◌, ◌≤◌, ◌^◌, refl, sym, ap, ◌∙◌, arith, List}
 use Rattle.std.proofs.Common.{◌++◌, subst, length, take, drop, get_or, inl, inr, length-append}
-use Rattle.std.specs.Prelude.{Bool, true, false, cond, filter, All}
+use Rattle.std.specs.Prelude.{All}
 use Rattle.std.proofs.Math.ListN.{get_or-append}
 use Rattle.std.proofs.Math.Nat.{mod-eq_of_lt, add-mod_left, mul-le-mul, mul-le-mul_right, add-mul}
 use Rattle.std.proofs.lemmas.Bool.{cases_lt}
@@ -13,6 +13,7 @@ use Rattle.water_model.proofs.Order.{length-numbers_from}
 use Rattle.water_model.specs.declared.types.Basin.{Basin}
 use Rattle.water_model.specs.declared.types.Inflows.{Inflows}
 use Rattle.index_seq.specs.Traces.{years_of, begun_after, IsBegunAfter, IsTurnOf}
+use Rattle.water_model.proofs.Gauges.{filter_short}
 
 -- an amount of the part that comes first, and of the part that comes last
 early : (xs : List ℕ) (at k : ℕ) → at + k < length xs → get_or (drop at xs ++ take at xs) k 0 ≡ get_or xs (at + k) 0
@@ -97,15 +98,6 @@ pub turn_of_same : (series begun : Inflows) → begun ≡ series → IsTurnOf se
 turn_of_same series begun e = subst (IsTurnOf series) (sym e) (record { rest = refl; count = refl })
 
 -- gauges are nodes, so the place is small
-filtered : (p : ℕ → Bool) (xs : List ℕ) → length (filter p xs) ≤ length xs
-filtered p [] = omega arith
-filtered p (x ∷ xs) = by_test (p x) (filtered p xs)
-  where
-    by_test : (t : Bool) → length (filter p xs) ≤ length xs →
-        length (cond t (x ∷ filter p xs) (filter p xs)) ≤ length (x ∷ xs)
-    by_test true h = omega arith
-    by_test false h = omega arith
-
 pub small_place : (b : Basin) (series : Inflows) (years : ℕ) → IsValidBasin b → IsSeriesOf b series →
     years < years_of b → 12 * years * length series.gauged ≤ 1200 * 2000
 small_place b series years valid fits h =
@@ -113,7 +105,7 @@ small_place b series years valid fits h =
     omega (
       arith,
       ap length fits.gauged,
-      filtered (λ n. is_gauged b n) (places_of b.nodes),
+      filter_short (λ n. is_gauged b n) (places_of b.nodes),
       length-numbers_from 0 (length b.nodes),
       valid.few.nodes,
     ) in

@@ -11,18 +11,16 @@ use Rattle.water_text.specs.declared.month.Month.{Month}
 use Rattle.water_model.specs.Hydrology.{run_month}
 use Rattle.water_model.specs.declared.types.Basin.{Basin}
 use Rattle.inflow_file.specs.SeriesFaults.{is_same_month, is_in_run, months_of}
+use Rattle.water_text.proofs.MonthLaws.{same_month}
 
 pub same_itself : (n : ℕ) → n == n ≡ true
 same_itself n = grind (arith, nat_tests)
-
-same_parts : (m n : Month) → m.year ≡ n.year → m.month ≡ n.month → m ≡ n
-same_parts m n years months = λ i. record { year = years i; month = months i }
 
 -- months are told apart by year and month
 pub same_month_is : (m n : Month) → is_same_month m n ≡ true → m ≡ n
 same_month_is m n h =
     let tests = and_parts (m.year == n.year) (m.month == n.month) h in
-    same_parts m n (eqb-true m.year n.year tests.0) (eqb-true m.month n.month tests.1)
+    same_month m n (eqb-true m.year n.year tests.0) (eqb-true m.month n.month tests.1)
 
 pub same_month_itself : (m : Month) → is_same_month m m ≡ true
 same_month_itself m = rw (same_itself m.year, same_itself m.month) refl

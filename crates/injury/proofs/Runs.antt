@@ -3,16 +3,16 @@ use Rattle.std.proofs.Common.{◌≡◌, ℕ, zero, suc, ◌+◌, ◌-◌, ◌*�
 use Rattle.std.proofs.Common.{ap₂, subst, arith, List, [], ◌∷◌, length, map, inl, inr, take}
 use Rattle.std.proofs.Common.{length-take}
 use Rattle.std.proofs.lemmas.Bool.{cases_lt, cases_order}
-use Rattle.std.proofs.lemmas.Grind.{same_number_lists}
 use Rattle.std.proofs.lemmas.Option.{slice_get_within}
-use Rattle.std.specs.Prelude.{if◌then◌else◌, ◌==◌, slice_index, slice_get, Option, Some, None, unwrap_or, option_map}
+use Rattle.std.specs.Prelude.{if◌then◌else◌, ◌==◌, insert, slice_index, slice_get, Option, Some, None, unwrap_or}
+use Rattle.std.specs.Prelude.{option_map}
 use Rattle.place_sums.specs.Sums.{total_where}
 use Rattle.place_sums.proofs.Totals.{total_same}
 use Rattle.water_model.specs.Lookups.{of_entry}
 use Rattle.water_model.specs.Basin.{instream_link, link_of_kind, right_name}
 use Rattle.water_model.specs.Plans.{IsGreatest, delivery}
 use Rattle.water_model.specs.Laws.{IsMetOrCut}
-use Rattle.water_model.specs.Hydrology.{run_month, in_year, inflow_at, inflow_of_kind, stored_at, evaporation}
+use Rattle.water_model.specs.Hydrology.{run_month, in_year, inflow_at, inflow_of_kind}
 use Rattle.water_model.specs.Hydrology.{delivered_in, delivered_before, returned_by, returned_at, table_at, number_of}
 use Rattle.water_model.specs.Hydrology.{cap_by_link, target_of, water_year, used_in_year, used_by_volume, used_of}
 use Rattle.water_model.specs.Hydrology.{want_by_volume, want_of}
@@ -31,6 +31,7 @@ use Rattle.water_model.specs.declared.types.RightKind.TheVariants.{Diversion, In
 use Rattle.water_model.proofs.Balance.{entry_holds, entry_at, opening_after_more}
 use Rattle.water_model.proofs.Duality.{delivery_by_take}
 use Rattle.water_model.proofs.Greatest.{record_is_greatest}
+use Rattle.water_model.proofs.Outcome.{BeginAlike, begin_alike, same_lists}
 use Rattle.water_model.proofs.Sets.{total_where_same}
 use Rattle.injury.specs.Common.{HaveOneName}
 use Rattle.injury.specs.Laws.{JuniorInjuresNobody}
@@ -191,59 +192,23 @@ module _ (b : Basin) (at : ℕ) (x : Right) (more : HasOneMore b (with_right b a
       Follows b series before m → Follows (with_right b at x) other others n → IsAlike m n
   month_alike series other before others m n valid give within same f g = record {
     delivered = delivered;
-    closing = by_place m.closing n.closing (length b.reservoirs) f.fits.closing g.fits.closing
+    closing = same_lists m.closing n.closing (length b.reservoirs) f.fits.closing g.fits.closing
         (λ v l. f.closing v l ∙ (sym (closes v) ∙ sym (g.closing v l)));
   }
     where
-      by_place : (xs ys : List ℕ) (k : ℕ) → length xs ≡ k → length ys ≡ k →
-          ((i : ℕ) → i < k → slice_index xs i ≡ slice_index ys i) → xs ≡ ys
-      by_place xs ys k e h i = same_number_lists xs ys (e ∙ sym h) (λ j l. i j (omega arith))
-
-      index : m.index ≡ n.index
-      index = f.index ∙ (same.count ∙ sym g.index)
-
       in_run : m.index < b.months
       in_run = let e = f.index in omega arith
 
-      month : m.month ≡ n.month
-      month = f.month ∙ (ap (run_month b) index ∙ sym g.month)
-
-      opening : m.opening ≡ n.opening
-      opening = f.opening ∙ (same.storage ∙ sym g.opening)
-
-      evaporated : m.evaporated ≡ n.evaporated
-      evaporated = by_place m.evaporated n.evaporated (length b.reservoirs) f.fits.evaporated g.fits.evaporated
-          (λ v l. f.evaporated v l ∙ (by_opening v ∙ sym (g.evaporated v l)))
-        where
-          by_opening : (v : ℕ) →
-              of_entry b.reservoirs v
-              (λ r. evaporation r.area (slice_index m.opening v) (slice_index r.rate (in_year b m.index))) 0
-              ≡ of_entry b.reservoirs v
-              (λ r. evaporation r.area (slice_index n.opening v) (slice_index r.rate (in_year b n.index))) 0
-          by_opening v = rw (opening, index) refl
-
-      returned : m.returned ≡ n.returned
-      returned = by_place m.returned n.returned (length b.nodes) f.fits.returned g.fits.returned
-          (λ k l. f.returned k l
-          ∙ (returned_same (map (λ k. k.delivered) before) (map (λ k. k.delivered) others) same.deliveries valid k
-          m.index
-          ∙ (ap (λ i. returned_at (with_right b at x) (map (λ k. k.delivered) others) k i) index
-          ∙ sym (g.returned k l))))
-
-      supply : m.supply ≡ n.supply
-      supply = by_place m.supply n.supply (length b.nodes) f.fits.supply g.fits.supply
-          (λ k l. f.supply k l ∙ (by_parts k ∙ sym (g.supply k l)))
-        where
-          by_parts : (k : ℕ) →
-              inflow_at b series k m.index + slice_index m.returned k + stored_at b m.opening m.evaporated k
-              ≡ inflow_at (with_right b at x) other k n.index + slice_index n.returned k + stored_at b n.opening
-              n.evaporated k
-          by_parts k = rw (inflow_same series other give k m.index in_run, opening, index, returned, evaporated) refl
+      alike : BeginAlike m n
+      alike = begin_alike b (insert b.rights at x) series other before others m n same.count same.storage
+          (λ k. returned_same (map (λ k. k.delivered) before) (map (λ k. k.delivered) others) same.deliveries valid k
+          m.index)
+          (λ k. inflow_same series other give k m.index in_run) f g
 
       wants : (r : ℕ) → r < length b.rights → slice_index n.want (moved at r) ≡ slice_index m.want r
       wants r l =
           g.want (moved at r) (moves r l)
-          ∙ (ap₂ (λ i u. want_of (with_right b at x) other (moved at r) i u) (sym index) (sym used)
+          ∙ (ap₂ (λ i u. want_of (with_right b at x) other (moved at r) i u) (sym alike.index) (sym used)
           ∙ (sym (want_same series other give r m.index (slice_index m.used r) in_run) ∙ sym (f.want r l)))
         where
           moves : (r : ℕ) → r < length b.rights → moved at r < length (with_right b at x).rights
@@ -252,12 +217,12 @@ module _ (b : Basin) (at : ℕ) (x : Right) (more : HasOneMore b (with_right b a
           used : slice_index m.used r ≡ slice_index n.used (moved at r)
           used = f.used r l
               ∙ (used_same (map (λ k. k.delivered) before) (map (λ k. k.delivered) others) same.deliveries r m.index l
-              ∙ (ap (λ i. used_of (with_right b at x) (map (λ k. k.delivered) others) (moved at r) i) index
+              ∙ (ap (λ i. used_of (with_right b at x) (map (λ k. k.delivered) others) (moved at r) i) alike.index
               ∙ sym (g.used (moved at r) (moves r l))))
 
       greatest : IsGreatest (with_right b at x) m.month m.supply n.want n.plan
-      greatest = subst (λ s. IsGreatest (with_right b at x) m.month s n.want n.plan) (sym supply)
-          (subst (λ t. IsGreatest (with_right b at x) t n.supply n.want n.plan) (sym month)
+      greatest = subst (λ s. IsGreatest (with_right b at x) m.month s n.want n.plan) (sym alike.supply)
+          (subst (λ t. IsGreatest (with_right b at x) t n.supply n.want n.plan) (sym alike.month)
           (record_is_greatest (with_right b at x) other others n g))
 
       deliver : (r : ℕ) → r < length b.rights →

@@ -1,9 +1,10 @@
 -- Deliveries on their way back to the river.
-use Rattle.std.specs.Prelude.{◌≡◌, ℕ, ◌-◌, ◌*◌, ◌%◌, ◌≤◌, List, length, map, slice_index, All, ◌==◌, if◌then◌else◌}
+use Rattle.std.specs.Prelude.{◌≡◌, ℕ, ◌-◌, ◌*◌, ◌%◌, ◌<◌, ◌≤◌, List, length, map, slice_index, All, ◌==◌, if◌then◌else◌}
 use Rattle.circular_buffer.specs.Buffer.{keep_last}
 use Rattle.place_sums.specs.Sums.{total}
-use Rattle.water_model.specs.Hydrology.{delivered_before, returned_by}
+use Rattle.water_model.specs.Hydrology.{delivered_before, returned_at, returned_by}
 use Rattle.water_model.specs.Lookups.{of_entry}
+use Rattle.water_model.specs.declared.types.Basin.{Basin}
 use Rattle.water_model.specs.declared.types.ReturnRow.{ReturnRow}
 
 -- a return row, the deliveries of its diversion that are on their way, the oldest first, and what the row's part of
@@ -42,3 +43,8 @@ abbrev pub arrivals_at : List ReturnRow → List (List ℕ) → ℕ → ℕ
 arrivals_at rows deliveries node =
     total (length rows)
     (λ k. of_entry rows k (λ row. if row.node == node then returned_by row deliveries (length deliveries) else 0) 0)
+
+-- what comes back to each node, by the deliveries of the months before
+pub record HasReturned (b : Basin) (deliveries : List (List ℕ)) (returned : List ℕ) : Type 0 where
+  pub count : length returned ≡ length b.nodes
+  pub each : (n : ℕ) → n < length b.nodes → slice_index returned n ≡ returned_at b deliveries n (length deliveries)

@@ -4,13 +4,15 @@
 ghost use Rattle.std.specs.Prelude.{◌≡◌, ℕ, ◌+◌, ◌*◌, ◌^◌, ◌<◌, ◌≤◌, ◌++◌, ◌∷◌, [], List, length, slice_index};
 ghost use Rattle.std.specs.Prelude.{slice_set, map, All, IfOk};
 ghost use Rattle.lag_returns.specs.ReturnFlows.{after_month, arriving, brought, due, emptied, fresh, with_delivery};
-ghost use Rattle.lag_returns.specs.Lags.{IsLagged, StandsFor, return_rows, arrivals_at};
+ghost use Rattle.lag_returns.specs.Lags.{HasReturned, IsLagged, StandsFor, return_rows, arrivals_at};
+ghost use Rattle.water_model.specs.Valid.{IsValidBasin};
 ghost use Rattle.water_model.specs.declared.types.ReturnRow.{ReturnRow};
 
 use circular_buffer::HeapCircularBuffer;
 use std::alloc::{AllocError, Global};
 use std::marker::Model;
-use water_model::types::ReturnRow;
+use water_model::rows::Rows;
+use water_model::types::{Basin, ReturnRow};
 
 pub mod laws;
 
@@ -172,6 +174,32 @@ impl Lags {
             slice_index into.new node ≡ slice_index into.old node + arrivals_at rows deliveries node }
     {
         arrive_each(&self.flows, into);
+    }
+
+    /// Writes what comes back to each node this month.
+    fn write_arrivals(&self, basin: &Basin, returned: &mut [u64])
+        requires basin { IsValidBasin basin.now }
+        requires rows { return_rows self.now ≡ basin.now.returns }
+        requires returned { length returned.old ≡ length basin.now.nodes }
+        ensures length { length returned.new ≡ length returned.old }
+        ensures each { (deliveries : List (List ℕ)) → StandsFor self.now basin.now.returns deliveries →
+            HasReturned basin.now deliveries returned.new }
+    {
+        returned.fill(0);
+        self.arrive(returned);
+    }
+
+    /// Writes what comes back to each node of a basin this month, by the basin's return rows, over what stood there.
+    /// The list is indexed by node. The cost is linear in the nodes and rows.
+    pub fn bring_back(&self, basin: &Basin, returned: &mut Rows<u64>)
+        requires basin { IsValidBasin basin.now }
+        requires rows { return_rows self.now ≡ basin.now.returns }
+        requires returned { length returned.old ≡ length basin.now.nodes }
+        ensures length { length returned.new ≡ length returned.old }
+        ensures each { (deliveries : List (List ℕ)) → StandsFor self.now basin.now.returns deliveries →
+            HasReturned basin.now deliveries returned.new }
+    {
+        self.write_arrivals(basin, returned.as_mut_slice());
     }
 
     /// Takes the month's deliveries, indexed by right and each at most 10^9, and moves to the next month. The cost is

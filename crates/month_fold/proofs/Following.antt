@@ -16,12 +16,15 @@ use Rattle.water_model.specs.declared.types.Basin.{Basin}
 use Rattle.water_model.specs.declared.types.Inflows.{Inflows}
 use Rattle.water_model.specs.declared.types.MonthRecord.{MonthRecord}
 use Rattle.water_model.specs.declared.types.Plan.{Plan}
-use Rattle.month_terms.specs.Terms.{FitsRecord, HasReturned, HasUsed, IsSettled, IsConcluded}
+use Rattle.month_terms.specs.Terms.{FitsRecord, HasUsed, IsSettled, IsConcluded}
 use Rattle.water_model.proofs.Wants.{want_most, want_carried}
 use Rattle.month_terms.proofs.Amounts.{supply_small, follows_small}
 use Rattle.senior_hold.specs.Solved.{IsGiven, IsSolved, AreSupplies, AreWants, FitsCuts}
 use Rattle.senior_hold.specs.Solved as sweep
 use Rattle.month_fold.specs.Runs.{RunSeen, StandsFor, IsNext}
+use Rattle.std.proofs.lemmas.List.{length-map}
+use Rattle.lag_returns.specs.Lags.{HasReturned}
+use Rattle.water_model.proofs.SetEntries.{emptied}
 
 -- a record in which the next month begins, behind these records
 pub record IsBegun (b : Basin) (series : Inflows) (records : List MonthRecord) (m : MonthRecord) : Type 0 where
@@ -41,14 +44,11 @@ node_small b series records m i evaporated n valid fits begun at l =
     (λ v. inflow_at b series v i + returned_at b (map (λ k. k.delivered) records) v i + stored_at b
     (opening_after b records) evaporated v) n l in
     let back : slice_index m.returned n ≡ returned_at b (map (λ k. k.delivered) records) n i =
-    begun.returned.each n l ∙ ap (returned_at b (map (λ k. k.delivered) records) n) (months records ∙ sym at) in
+    begun.returned.each n l
+    ∙ ap (returned_at b (map (λ k. k.delivered) records) n) (length-map records (λ k. k.delivered) ∙ sym at) in
     let stored : stored_at b m.closing evaporated n ≡ stored_at b (opening_after b records) evaporated n =
     ap (λ xs. stored_at b xs evaporated n) begun.stored in
     omega (arith, whole, one, back, stored)
-  where
-    months : (xs : List MonthRecord) → length (map (λ k. k.delivered) xs) ≡ length xs
-    months [] = refl
-    months (x ∷ xs) = omega (arith, months xs)
 
 -- the whole supply that is settled is less than a river can carry
 pub supplies_given : (b : Basin) (series : Inflows) (records : List MonthRecord) (m settled : MonthRecord) (i : ℕ) →
@@ -66,10 +66,6 @@ supplies_given b series records m settled i valid fits begun at is = record {
   );
 }
   where
-    months : (xs : List MonthRecord) → length (map (λ k. k.delivered) xs) ≡ length xs
-    months [] = refl
-    months (x ∷ xs) = omega (arith, months xs)
-
     opens : settled.opening ≡ opening_after b records
     opens = is.opening ∙ begun.stored
 
@@ -78,7 +74,8 @@ supplies_given b series records m settled i valid fits begun at is = record {
         (opening_after b records) settled.evaporated n
     each n l =
         let back : slice_index m.returned n ≡ returned_at b (map (λ k. k.delivered) records) n i =
-        begun.returned.each n l ∙ ap (returned_at b (map (λ k. k.delivered) records) n) (months records ∙ sym at) in
+        begun.returned.each n l
+        ∙ ap (returned_at b (map (λ k. k.delivered) records) n) (length-map records (λ k. k.delivered) ∙ sym at) in
         let stored : stored_at b settled.opening settled.evaporated n ≡ stored_at b (opening_after b records)
         settled.evaporated n = ap (λ xs. stored_at b xs settled.evaporated n) opens in
         omega (arith, is.supply.each n l, back, stored)
@@ -194,10 +191,6 @@ made_follows b series records i begun settled planned made valid fits starts at 
     f : Fields b series i begun settled planned made
     f = fields_of b series i begun settled planned made is
 
-    months : (xs : List MonthRecord) → length (map (λ k. k.delivered) xs) ≡ length xs
-    months [] = refl
-    months (x ∷ xs) = omega (arith, months xs)
-
     plan : IsPlan b made.month made.supply made.want made.plan
     plan = rw (f.month, f.supply, f.want, f.plan) is.solved.greatest.plan
 
@@ -211,7 +204,8 @@ made_follows b series records i begun settled planned made valid fits starts at 
     returned n l =
         rw f.returned
         (starts.returned.each n l
-        ∙ ap (returned_at b (map (λ k. k.delivered) records) n) (months records ∙ (sym at ∙ sym f.index)))
+        ∙ ap (returned_at b (map (λ k. k.delivered) records) n)
+        (length-map records (λ k. k.delivered) ∙ (sym at ∙ sym f.index)))
 
     supplied : (n : ℕ) → n < length b.nodes → slice_index made.supply n
         ≡ inflow_at b series n made.index + slice_index made.returned n + stored_at b made.opening made.evaporated n
@@ -221,7 +215,8 @@ made_follows b series records i begun settled planned made valid fits starts at 
         slice_index made.used r ≡ used_of b (map (λ k. k.delivered) records) r made.index
     used r l =
         ap (λ xs. slice_index xs r) f.used ∙ (starts.used.each r l
-        ∙ ap (used_of b (map (λ k. k.delivered) records) r) (months records ∙ (sym at ∙ sym f.index)))
+        ∙ ap (used_of b (map (λ k. k.delivered) records) r)
+        (length-map records (λ k. k.delivered) ∙ (sym at ∙ sym f.index)))
 
     wanted : (r : ℕ) → r < length b.rights →
         slice_index made.want r ≡ want_of b series r made.index (slice_index made.used r)
@@ -278,22 +273,13 @@ settled_given b series records i m settled cuts valid fits begun at shape is non
   fits_cuts = record {
     nodes = ap (λ c. c.nodes) none ∙ (ap (λ k. k.cuts.nodes) is.rest ∙ shape.fits.cut_nodes);
     rights = ap (λ c. length c.sets) none
-        ∙ (emptied settled.cuts.sets ∙ (ap (λ k. length k.cuts.sets) is.rest ∙ shape.fits.cuts));
+        ∙ (length-map settled.cuts.sets (λ _. nothing) ∙ (ap (λ k. length k.cuts.sets) is.rest ∙ shape.fits.cuts));
   };
-  no_sets = λ r l. ap (λ c. set_of c r) none ∙ no_set settled.cuts.sets r;
+  no_sets = λ r l. ap (λ c. set_of c r) none ∙ emptied settled.cuts.sets r;
 }
   where
     nothing : Option (List Bool)
     nothing = None
-
-    emptied : (sets : List (Option (List Bool))) → length (map (λ _. nothing) sets) ≡ length sets
-    emptied [] = refl
-    emptied (x ∷ sets) = omega (arith, emptied sets)
-
-    no_set : (sets : List (Option (List Bool))) (r : ℕ) → of_entry (map (λ _. nothing) sets) r (λ set. set) None ≡ None
-    no_set [] r = refl
-    no_set (x ∷ sets) zero = refl
-    no_set (x ∷ sets) (suc r) = no_set sets r
 
 -- what is planned takes little
 pub planned_small : (b : Basin) (series : Inflows) (i : ℕ) (m settled : MonthRecord) (plan : Plan) (cuts : CutSets) →

@@ -17,9 +17,9 @@ use Rattle.month_terms.specs.Terms.{HasUsed}
 use Rattle.month_fold.specs.Reaches.{HasDeliveries, HaveReaches, TellUse, TellsUse}
 use Rattle.month_fold.specs.Runs.{EngineSeen, RunSeen, StandsFor, run_with}
 use Rattle.month_terms.proofs.Amounts.{deliveries_small as all_small}
-use Rattle.month_terms.proofs.Adds.{no_numbers}
 use Rattle.month_terms.proofs.WaterYears.{nothing_used, used_most}
 use Rattle.month_fold.proofs.Following.{deliveries_small}
+use Rattle.water_model.proofs.Lists.{no_numbers}
 
 -- what each month delivered
 pub have_deliveries : {X : Type 0} (f : X → MonthRecord) (b : Basin) (series : Inflows) (xs : List X) → IsValidBasin b →

@@ -1,9 +1,9 @@
 //! One month more.
 ghost use Rattle.std.specs.Prelude.{ℕ, List, ◌≡◌, ◌+◌, ◌^◌, ◌<◌, ◌≤◌, ◌++◌, ◌∷◌, [], All, length, map};
 ghost use Rattle.std.specs.Prelude.{slice_index};
-ghost use Rattle.lag_returns.specs.Lags.{return_rows};
+ghost use Rattle.lag_returns.specs.Lags.{HasReturned, return_rows};
 ghost use Rattle.lag_returns.specs.Lags as lag;
-ghost use Rattle.month_terms.specs.Terms.{FitsRecord, HasReturned, HasUsed};
+ghost use Rattle.month_terms.specs.Terms.{FitsRecord, HasUsed};
 ghost use Rattle.senior_hold.specs.MonthNetwork.{month_pushes};
 ghost use Rattle.water_model.specs.Valid.{IsValidBasin};
 ghost use Rattle.water_model.specs.declared.types.MonthRecord.{MonthRecord};
@@ -20,19 +20,6 @@ use steps::Steps;
 use water_model::rows::Rows;
 use water_model::types::{Basin, Inflows, MonthRecord};
 
-/// Writes what arrives at each node this month.
-fn read_arrivals(basin: &Basin, lags: &Lags, returned: &mut [u64])
-    requires basin { IsValidBasin basin.now }
-    requires rows { return_rows lags.now ≡ basin.now.returns }
-    requires returned { length returned.old ≡ length basin.now.nodes }
-    ensures length { length returned.new ≡ length returned.old }
-    ensures each { (deliveries : List (List ℕ)) → lag.StandsFor lags.now basin.now.returns deliveries →
-        HasReturned basin.now deliveries returned.new }
-{
-    returned.fill(0);
-    lags.arrive(returned);
-}
-
 /// Writes what comes back to each node this month into its record, and what each right used of its volume before.
 fn bring_back(basin: &Basin, lags: &Lags, used: &[u64], month: &mut MonthRecord)
     requires basin { IsValidBasin basin.now }
@@ -45,7 +32,7 @@ fn bring_back(basin: &Basin, lags: &Lags, used: &[u64], month: &mut MonthRecord)
     ensures rest { month.new ≡ record month.old { returned = month.new.returned; used = month.new.used } }
     ensures length { length month.new.returned ≡ length month.old.returned }
 {
-    read_arrivals(basin, lags, month.returned.as_mut_slice());
+    lags.bring_back(basin, &mut month.returned);
     month.used.as_mut_slice().copy_from_slice(used);
 }
 

@@ -1,6 +1,6 @@
 -- Sums that grow by one place.
 use Rattle.std.proofs.Common.{◌≡◌, ℕ, zero, suc, ◌+◌, ◌<◌, ◌≤◌, Bool, false, refl, sym, ◌∙◌, ap, subst}
-use Rattle.std.proofs.Common.{arith, List, [], ◌∷◌, length, replicate}
+use Rattle.std.proofs.Common.{arith, List, [], ◌∷◌, length}
 use Rattle.std.specs.Prelude.{◌==◌, slice_index, slice_get, slice_set, Option, Some, None, if◌then◌else◌, unwrap_or}
 use Rattle.std.specs.Prelude.{option_map}
 use Rattle.std.proofs.lemmas.Option.{slice_get_within}
@@ -122,9 +122,3 @@ no_zone_more b take r v sum right e other h =
     of_kind (Diversion node) other = refl
     of_kind (Instream link) other = refl
     of_kind (Zone at level) other = absurd (other at level refl)
-
--- numbers that are all 0
-pub no_numbers : (n k : ℕ) → slice_index (replicate n 0) k ≡ 0
-no_numbers zero k = refl
-no_numbers (suc n) zero = refl
-no_numbers (suc n) (suc k) = no_numbers n k

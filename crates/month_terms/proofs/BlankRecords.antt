@@ -32,18 +32,7 @@ pub fits_with_closing : (b : Basin) (m : MonthRecord) (closing : List ℕ) → F
     length closing ≡ length b.reservoirs →
     FitsRecord b (record m { closing = closing })
 fits_with_closing b m closing h count = record {
-  fits = record {
-    opening = h.fits.opening;
-    evaporated = h.fits.evaporated;
-    closing = count;
-    returned = h.fits.returned;
-    supply = h.fits.supply;
-    used = h.fits.used;
-    want = h.fits.want;
-    delivered = h.fits.delivered;
-    cuts = h.fits.cuts;
-    cut_nodes = h.fits.cut_nodes;
-  };
+  fits = assumption (count, h.fits);
   flow = h.flow;
   take = h.take;
   out = h.out;

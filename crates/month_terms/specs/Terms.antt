@@ -2,7 +2,7 @@
 use Rattle.std.specs.Prelude.{◌≡◌, ℕ, ◌+◌, ◌<◌, List, length, slice_index}
 use Rattle.water_text.specs.Months.{IsMonth}
 use Rattle.water_model.specs.Lookups.{of_entry}
-use Rattle.water_model.specs.Hydrology.{run_month, in_year, inflow_at, evaporation, returned_at, stored_at, used_of}
+use Rattle.water_model.specs.Hydrology.{run_month, in_year, inflow_at, evaporation, stored_at, used_of}
 use Rattle.water_model.specs.Hydrology.{want_of}
 use Rattle.water_model.specs.History.{FitsBasin, is_zone_of}
 use Rattle.water_model.specs.Plans.{delivery}
@@ -17,11 +17,6 @@ pub record HasEvaporated (b : Basin) (index : ℕ) (opening evaporated : List �
   pub each : (v : ℕ) → v < length b.reservoirs → slice_index evaporated v
       ≡ of_entry b.reservoirs v (λ r. evaporation r.area (slice_index opening v) (slice_index r.rate (in_year b index)))
       0
-
--- what comes back to each node, by the deliveries of the months before
-pub record HasReturned (b : Basin) (deliveries : List (List ℕ)) (returned : List ℕ) : Type 0 where
-  pub count : length returned ≡ length b.nodes
-  pub each : (n : ℕ) → n < length b.nodes → slice_index returned n ≡ returned_at b deliveries n (length deliveries)
 
 -- the supply of each node: what flows in, what comes back, and what its reservoir holds after evaporation
 pub record HasSupply (b : Basin) (series : Inflows) (index : ℕ) (opening evaporated returned supply : List ℕ) : Type 0

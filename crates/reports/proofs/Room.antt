@@ -1,7 +1,7 @@
 -- The sums of a run are small.
 use Rattle.std.proofs.Common.{◌≡◌, ℕ, ◌+◌, ◌*◌, ◌^◌, ◌<◌, ◌≤◌, ◌∙◌, ap, arith, List, []}
 use Rattle.std.proofs.Common.{◌∷◌, ◌++◌, length, map, take, get_or, length-append}
-use Rattle.std.specs.Prelude.{is_some, sum, sum_by, All, slice_get, slice_index, nat_lt}
+use Rattle.std.specs.Prelude.{is_some, sum, sum_by, All, slice_index, nat_lt}
 use Rattle.std.proofs.lemmas.List.Sums.{sum_by-le, sum_by_push, sum-map, count_by-le-length}
 use Rattle.std.proofs.lemmas.Option.{slice_get-get_or}
 use Rattle.place_sums.specs.Sums.{total}

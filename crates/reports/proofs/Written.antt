@@ -1,19 +1,12 @@
 -- What is put piece by piece.
-use Rattle.std.proofs.Common.{◌≡◌, ℕ, List, [], ◌∷◌, ◌++◌, append_assoc, ◌∙◌, sym, ap, Result, Option, refl}
-use Rattle.std.specs.Prelude.{IsErr, slice_get, Some, unwrap_or, option_map}
+use Rattle.std.proofs.Common.{◌≡◌, ℕ, List, [], ◌∷◌, ◌++◌, append_assoc, ◌∙◌, sym, ap, refl}
+use Rattle.std.specs.Prelude.{slice_get, Some, unwrap_or, option_map}
 use Rattle.std.specs.List.{flat_map}
-use Rattle.water_edge.specs.Edge.{Puts}
-use Rattle.water_edge.proofs.Puts.{PutsFront, PutsFront-fails, PutsFront-cut}
 use Rattle.reports.specs.Reports.{row, balance_row}
 use Rattle.water_model.specs.declared.types.Basin.{Basin}
 use Rattle.reports.specs.Texts.{balance_front, balance_rest, figures_row, row_in}
 use Rattle.reports.specs.declared.figures.RightFigures.{RightFigures}
 use Rattle.reports.specs.declared.waters.Waters.{Waters}
-
--- a failed put leaves a front of whatever goes on with its piece
-pub Puts-cut : {E : Type 0} (old new : Option (List ℕ)) (r : Result (Unit {0}) E) (a b : List ℕ) → IsErr r →
-    PutsFront old new a → Puts old new r (a ++ b)
-Puts-cut old new r a b failed front = PutsFront-fails old new r (a ++ b) failed (PutsFront-cut old new a b front)
 
 -- the row of the balance in two pieces
 pub balance_split : (w : Waters) → balance_front w ++ balance_rest w ≡ balance_row w

@@ -39,38 +39,26 @@ pub record IsTrial (b : Basin) (series : Inflows) (records : List MonthRecord) (
   pub tally : IsTally b series records t.tally
   pub called : t.called ≡ called_count b records
 
--- the tally is that of the months before a month
-pub record IsTallyBefore (b : Basin) (series : Inflows) (t : Tally) (m : MonthRecord) : Type 0 where
+-- What is kept of months, a tally or a trial, is of the months before a month. `IsOf` says what it is to be of some.
+pub record IsKeptBefore {Kept : Type 0} (IsOf : Basin → Inflows → List MonthRecord → Kept → Type 0) (b : Basin)
+    (series : Inflows) (kept : Kept) (m : MonthRecord) : Type 0 where
   pub records : List MonthRecord
   pub partial : IsPartialHistory b series (records ++ m ∷ [])
-  pub tally : IsTally b series records t
+  pub is : IsOf b series records kept
 
-pub record IsTrialBefore (b : Basin) (series : Inflows) (t : Trial) (m : MonthRecord) : Type 0 where
-  pub records : List MonthRecord
-  pub partial : IsPartialHistory b series (records ++ m ∷ [])
-  pub trial : IsTrial b series records t
-
--- the tally is that of the months that a run went through
-pub record IsTallyOf (run : RunSeen) (t : Tally) : Type 0 where
+-- it is of the months that a run went through
+pub record IsKeptOf {Kept : Type 0} (IsOf : Basin → Inflows → List MonthRecord → Kept → Type 0) (run : RunSeen)
+    (kept : Kept) : Type 0 where
   pub records : List MonthRecord
   pub stands : StandsFor run records
-  pub tally : IsTally run.basin run.series records t
+  pub is : IsOf run.basin run.series records kept
 
-pub record IsTrialOf (run : RunSeen) (t : Trial) : Type 0 where
-  pub records : List MonthRecord
-  pub stands : StandsFor run records
-  pub trial : IsTrial run.basin run.series records t
-
--- the tally is that of a whole run
-pub record IsTallyOfRun (b : Basin) (series : Inflows) (t : Tally) : Type 0 where
+-- it is of a whole run
+pub record IsKeptOfRun {Kept : Type 0} (IsOf : Basin → Inflows → List MonthRecord → Kept → Type 0) (b : Basin)
+    (series : Inflows) (kept : Kept) : Type 0 where
   pub records : List MonthRecord
   pub run : IsRun b series records
-  pub tally : IsTally b series records t
-
-pub record IsTrialOfRun (b : Basin) (series : Inflows) (t : Trial) : Type 0 where
-  pub records : List MonthRecord
-  pub run : IsRun b series records
-  pub trial : IsTrial b series records t
+  pub is : IsOf b series records kept
 
 -- the sums of a right's figures and of one month more fit
 pub record HasRoom (f : RightFigures) (m : MonthRecord) (right : ℕ) : Type 0 where

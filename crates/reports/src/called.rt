@@ -7,7 +7,7 @@ ghost use Rattle.water_model.specs.Text.{calling_right};
 ghost use Rattle.water_model.specs.Valid.{IsValidBasin, IsSeriesOf};
 ghost use Rattle.water_model.specs.declared.types.MonthRecord.{MonthRecord};
 ghost use Rattle.reports.specs.Figures.{called_in};
-ghost use Rattle.reports.specs.Tallies.{IsTrial, IsTrialBefore};
+ghost use Rattle.reports.specs.Tallies.{IsKeptBefore, IsTrial};
 
 use crate::tally::Tally;
 use calls::{callers_by_node, calling_right};
@@ -67,7 +67,7 @@ impl Trial {
         requires basin { IsValidBasin basin.now }
         requires series { IsSeriesOf basin.now series.now }
         requires roll { IsRollOf basin.now.rights roll.now }
-        requires next { IsTrialBefore basin.now series.now self.old month.now }
+        requires next { IsKeptBefore IsTrial basin.now series.now self.old month.now }
         ensures { (records : List MonthRecord) → IsTrial basin.now series.now records self.old →
             IsTrial basin.now series.now (records ++ month.now ∷ []) self.new }
     {

@@ -2,7 +2,7 @@
 ghost use Rattle.std.specs.Prelude.{[], ◌≡◌, ◌+◌, ◌<◌, ◌≤◌, IfOk, OnErr};
 ghost use Rattle.senior_hold.specs.MonthNetwork.{month_pushes};
 ghost use Rattle.month_fold.specs.Runs.{GoesOn, StandsFor, run_pushes};
-ghost use Rattle.reports.specs.Tallies.{IsTallyOf, IsTallyOfRun, IsTrialOf, IsTrialOfRun};
+ghost use Rattle.reports.specs.Tallies.{IsKeptOf, IsKeptOfRun, IsTally, IsTrial};
 
 use crate::called::Trial;
 use crate::tally::Tally;
@@ -14,10 +14,10 @@ use steps::Steps;
 /// Solves the next month and adds it to a tally.
 fn tally_month<L: Ledger>(tally: &mut Tally, run: &mut Run, searches: &mut Steps<L>)
     requires left { run.old.done < run.old.basin.months }
-    requires tally { IsTallyOf run.old tally.old }
+    requires tally { IsKeptOf IsTally run.old tally.old }
     ensures goes_on { GoesOn run.old run.new }
     ensures done { run.new.done ≡ run.old.done + 1 }
-    ensures tally { IsTallyOf run.new tally.new }
+    ensures tally { IsKeptOf IsTally run.new tally.new }
     ensures pushes { searches.new ≤ searches.old + month_pushes run.old.basin }
 {
     run.step(searches);
@@ -27,9 +27,9 @@ fn tally_month<L: Ledger>(tally: &mut Tally, run: &mut Run, searches: &mut Steps
 /// Solves all months and adds them to a tally.
 fn tally_months<L: Ledger>(tally: &mut Tally, run: &mut Run, searches: &mut Steps<L>)
     requires first { run.old.done ≡ 0 }
-    requires tally { IsTallyOf run.old tally.old }
+    requires tally { IsKeptOf IsTally run.old tally.old }
     ensures goes_on { GoesOn run.old run.new }
-    ensures tally { IsTallyOfRun run.old.basin run.old.series tally.new }
+    ensures tally { IsKeptOfRun IsTally run.old.basin run.old.series tally.new }
     ensures pushes { searches.new ≤ searches.old + run_pushes run.old.basin }
 {
     for _month in 0..run.basin().months {
@@ -46,7 +46,7 @@ pub fn tally_of<L: Ledger>(
 ) -> Result<Tally, AllocError>
     requires { StandsFor run.old [] }
     ensures goes_on { GoesOn run.old run.new }
-    ensures tally { IfOk result (IsTallyOfRun run.old.basin run.old.series) }
+    ensures tally { IfOk result (IsKeptOfRun IsTally run.old.basin run.old.series) }
     ensures unsolved { OnErr result (searches.new ≡ searches.old) }
     ensures pushes { searches.new ≤ searches.old + run_pushes run.old.basin }
 {
@@ -58,10 +58,10 @@ pub fn tally_of<L: Ledger>(
 /// Solves the next month and adds it to a trial.
 fn try_month<L: Ledger>(trial: &mut Trial, run: &mut Run, searches: &mut Steps<L>)
     requires left { run.old.done < run.old.basin.months }
-    requires trial { IsTrialOf run.old trial.old }
+    requires trial { IsKeptOf IsTrial run.old trial.old }
     ensures goes_on { GoesOn run.old run.new }
     ensures done { run.new.done ≡ run.old.done + 1 }
-    ensures trial { IsTrialOf run.new trial.new }
+    ensures trial { IsKeptOf IsTrial run.new trial.new }
     ensures pushes { searches.new ≤ searches.old + month_pushes run.old.basin }
 {
     run.step(searches);
@@ -71,8 +71,8 @@ fn try_month<L: Ledger>(trial: &mut Trial, run: &mut Run, searches: &mut Steps<L
 /// Solves all months and adds them to a trial.
 fn try_months<L: Ledger>(trial: &mut Trial, run: &mut Run, searches: &mut Steps<L>)
     requires first { run.old.done ≡ 0 }
-    requires trial { IsTrialOf run.old trial.old }
-    ensures trial { IsTrialOfRun run.old.basin run.old.series trial.new }
+    requires trial { IsKeptOf IsTrial run.old trial.old }
+    ensures trial { IsKeptOfRun IsTrial run.old.basin run.old.series trial.new }
     ensures pushes { searches.new ≤ searches.old + run_pushes run.old.basin }
 {
     for _month in 0..run.basin().months {
@@ -88,7 +88,7 @@ pub fn trial_of<L: Ledger>(
     searches: &mut Steps<L>,
 ) -> Result<Trial, AllocError>
     requires { StandsFor run.old [] }
-    ensures trial { IfOk result (IsTrialOfRun run.old.basin run.old.series) }
+    ensures trial { IfOk result (IsKeptOfRun IsTrial run.old.basin run.old.series) }
     ensures unsolved { OnErr result (searches.new ≡ searches.old) }
     ensures pushes { searches.new ≤ searches.old + run_pushes run.old.basin }
 {

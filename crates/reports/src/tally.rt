@@ -2,7 +2,7 @@
 ghost use Rattle.std.specs.Prelude.{ℕ, List, ◌≡◌, ◌<◌, ◌++◌, ◌∷◌, [], length, slice_get, Some, IfOk};
 ghost use Rattle.water_model.specs.Valid.{IsValidBasin, IsSeriesOf};
 ghost use Rattle.water_model.specs.declared.types.MonthRecord.{MonthRecord};
-ghost use Rattle.reports.specs.Tallies.{figures_of, HasRoom, IsTally, IsTallyBefore};
+ghost use Rattle.reports.specs.Tallies.{figures_of, HasRoom, IsKeptBefore, IsTally};
 
 use crate::figures::RightFigures;
 use crate::waters::Waters;
@@ -64,7 +64,7 @@ impl Tally {
     pub fn add(&mut self, basin: &Basin, series: &Inflows, month: &MonthRecord)
         requires basin { IsValidBasin basin.now }
         requires series { IsSeriesOf basin.now series.now }
-        requires next { IsTallyBefore basin.now series.now self.old month.now }
+        requires next { IsKeptBefore IsTally basin.now series.now self.old month.now }
         ensures { (records : List MonthRecord) → IsTally basin.now series.now records self.old →
             IsTally basin.now series.now (records ++ month.now ∷ []) self.new }
     {

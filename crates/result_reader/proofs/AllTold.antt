@@ -33,15 +33,10 @@ use Rattle.water_model.specs.declared.types.RightKind.TheVariants as kind
 use Rattle.result_reader.specs.Records.{IsMonthBehind, IsTextMonth, AreTextMonths}
 use Rattle.result_reader.proofs.MonthTold.{take_of}
 use Rattle.water_model.proofs.Balance.{entry_at}
-use Rattle.water_model.proofs.Lists.{get_behind}
+use Rattle.water_model.proofs.Lists.{get_behind, no_numbers}
 use Rattle.result_reader.proofs.Sets.{all_sets}
 use Rattle.result_reader.proofs.Telling.{set_all, set_all-whole}
 use Rattle.result_reader.proofs.WholeMonth.{IsAllTold, AreAllTold}
-
-zeros : (n k : ℕ) → slice_index (replicate n 0) k ≡ 0
-zeros zero k = refl
-zeros (suc n) zero = refl
-zeros (suc n) (suc k) = zeros n k
 
 -- Lists of numbers.
 
@@ -55,10 +50,10 @@ told_list xs zs n len each =
     by_place : (k : ℕ) → Has xs k ⊎ ((Has xs k → ⊥) × (slice_index zs k ≡ 0)) → Has xs k ⊎
         ((Has xs k → ⊥) × (slice_index (replicate n 0) k ≡ slice_index zs k))
     by_place k (inl h) = inl h
-    by_place k (inr (other, none)) = inr (other, zeros n k ∙ sym none)
+    by_place k (inr (other, none)) = inr (other, no_numbers n k ∙ sym none)
 
 -- numbers that are equal at the places that are set
-set_all-same : (xs : List ℕ) (a c : ℕ → ℕ) (ys : List ℕ) → ((k : ℕ) → Has xs k → a k ≡ c k) →
+pub set_all-same : (xs : List ℕ) (a c : ℕ → ℕ) (ys : List ℕ) → ((k : ℕ) → Has xs k → a k ≡ c k) →
     set_all xs a ys ≡ set_all xs c ys
 set_all-same [] a c ys h = refl
 set_all-same (x ∷ xs) a c ys h =

@@ -1,6 +1,5 @@
 pub mod Form
 pub mod Due
-pub mod Marks
 pub mod Progress
 pub mod Words
 pub mod Reading

@@ -1,75 +1,34 @@
 //! The lines that are due in each month.
-ghost use Rattle.std.specs.Prelude.{◌≡◌, ◌<◌, ◌++◌, is_some, length, IfOk, OnOk};
+ghost use Rattle.std.specs.Prelude.{◌≡◌, ◌<◌, ◌++◌, IfOk, OnOk};
 ghost use Rattle.std.specs.List.{flat_map};
 ghost use Rattle.std.specs.Option.{option_to_list};
 ghost use Rattle.rights_roll.specs.Rolls.{IsRollOf};
-ghost use Rattle.water_model.specs.Basin.{taking_node};
 ghost use Rattle.water_model.specs.Entries.{count_in};
-ghost use Rattle.water_model.specs.Quantities.{has_line, space_of};
+ghost use Rattle.water_model.specs.Quantities.{AreReturnedTo};
 ghost use Rattle.water_model.specs.Text.{section_space};
 ghost use Rattle.water_model.specs.Valid.{IsValidBasin};
 ghost use Rattle.water_model.specs.declared.item.TheConstants.{SECTIONS};
 ghost use Rattle.result_reader.specs.Form.{due_in_month, shapes_at, shapes_in};
-ghost use Rattle.result_reader.specs.Marks.{AreMarks};
 
 use crate::shape::Shape;
 use rights_roll::roll::Roll;
 use std::alloc::{AllocError, Global};
+use water_model::calls::taking_node;
 use water_model::item::{SECTIONS, Section};
-use water_model::quantity::Quantity;
+use water_model::quantity::returned_to;
 use water_model::space::{count_in, entry_at};
-use water_model::types::{Basin, RightKind};
-
-/// For each node, whether some return row names it.
-fn marks_of(alloc: Global, basin: &Basin) -> Result<Vec<bool>, AllocError>
-    requires { IsValidBasin basin.now }
-    ensures { IfOk result (λ marks. AreMarks basin.now marks.items) }
-{
-    let mut marks = vec![in alloc; false; basin.nodes.len()]?;
-    for row in basin.returns.as_slice() {
-        marks[row.node as usize] = true;
-    }
-    Ok(marks)
-}
-
-/// Whether a month has a line for an entry of a quantity. `marks` has the nodes that return rows name.
-fn has_line(basin: &Basin, marks: &[bool], quantity: Quantity, entry: u32) -> bool
-    requires basin { IsValidBasin basin.now }
-    requires marks { AreMarks basin.now marks.now }
-    requires entry { entry < count_in (space_of quantity) basin.now }
-    ensures { result ≡ has_line basin.now quantity entry }
-{
-    match quantity {
-        Quantity::Returned => marks[entry as usize],
-        Quantity::Used => basin.rights[entry as usize].volume.is_some(),
-        Quantity::Outflow => basin.nodes[entry as usize].outlet,
-        Quantity::Opening | Quantity::Evaporated | Quantity::Flow | Quantity::Closing => true,
-    }
-}
-
-/// Whether a right takes water at a node: a diversion or a zone does.
-fn takes_water(basin: &Basin, right: u32) -> bool
-    requires basin { IsValidBasin basin.now }
-    requires right { right < length basin.now.rights }
-    ensures { result ≡ is_some (taking_node basin.now right) }
-{
-    match basin.rights[right as usize].kind {
-        RightKind::Diversion { .. } => true,
-        RightKind::Instream { .. } => false,
-        RightKind::Zone { reservoir, .. } => (reservoir as usize) < basin.reservoirs.len(),
-    }
-}
+use water_model::types::Basin;
 
 /// The line that is due for an entry of a section, if one is.
-fn shape_at(section: Section, basin: &Basin, marks: &[bool], entry: u32) -> Option<Shape>
+fn shape_at(section: Section, basin: &Basin, returned: &[bool], entry: u32) -> Option<Shape>
     requires basin { IsValidBasin basin.now }
-    requires marks { AreMarks basin.now marks.now }
+    requires returned { AreReturnedTo basin.now returned.now }
     requires entry { entry < count_in (section_space section) basin.now }
     ensures { option_to_list result ≡ shapes_at section basin.now entry }
 {
     match section {
         Section::Amounts(quantity) => {
-            if !has_line(basin, marks, quantity, entry) {
+            if !quantity.has_line(basin, returned, entry) {
                 return None;
             }
             Some(Shape::Amount { quantity, entry })
@@ -77,7 +36,7 @@ fn shape_at(section: Section, basin: &Basin, marks: &[bool], entry: u32) -> Opti
         Section::Deliveries => Some(Shape::Deliver { right: entry }),
         Section::Calls => Some(Shape::Call { right: entry }),
         Section::Called => {
-            if !takes_water(basin, entry) {
+            if taking_node(basin, entry).is_none() {
                 return None;
             }
             Some(Shape::Called { right: entry })
@@ -89,16 +48,16 @@ fn shape_at(section: Section, basin: &Basin, marks: &[bool], entry: u32) -> Opti
 fn add_entry(
     dues: &mut Vec<Shape>,
     basin: &Basin,
-    marks: &[bool],
+    returned: &[bool],
     section: Section,
     entry: u32,
 ) -> Result<(), AllocError>
     requires basin { IsValidBasin basin.now }
-    requires marks { AreMarks basin.now marks.now }
+    requires returned { AreReturnedTo basin.now returned.now }
     requires entry { entry < count_in (section_space section) basin.now }
     ensures { OnOk result (dues.new.items ≡ dues.old.items ++ shapes_at section basin.now entry) }
 {
-    if let Some(shape) = shape_at(section, basin, marks, entry) {
+    if let Some(shape) = shape_at(section, basin, returned, entry) {
         dues.push(shape)?;
     }
     Ok(())
@@ -109,19 +68,19 @@ fn add_section(
     dues: &mut Vec<Shape>,
     basin: &Basin,
     roll: &Roll,
-    marks: &[bool],
+    returned: &[bool],
     section: Section,
 ) -> Result<(), AllocError>
     requires basin { IsValidBasin basin.now }
     requires roll { IsRollOf basin.now.rights roll.now }
-    requires marks { AreMarks basin.now marks.now }
+    requires returned { AreReturnedTo basin.now returned.now }
     ensures { OnOk result (dues.new.items ≡ dues.old.items ++ shapes_in section basin.now) }
 {
     let space = section.space();
     let count = count_in(space, basin);
     for place in 0..count {
         let entry = entry_at(space, basin, roll.by_seniority(), place);
-        add_entry(dues, basin, marks, section, entry)?;
+        add_entry(dues, basin, returned, section, entry)?;
     }
     Ok(())
 }
@@ -132,10 +91,10 @@ fn sections_of(alloc: Global, basin: &Basin, roll: &Roll) -> Result<Vec<Shape>, 
     requires roll { IsRollOf basin.now.rights roll.now }
     ensures { IfOk result (λ dues. dues.items ≡ flat_map (λ section. shapes_in section basin.now) SECTIONS) }
 {
-    let marks = marks_of(alloc, basin)?;
+    let returned = returned_to(basin);
     let mut dues = Vec::new(alloc);
     for section in SECTIONS.iter() {
-        add_section(&mut dues, basin, roll, &marks, *section)?;
+        add_section(&mut dues, basin, roll, &returned, *section)?;
     }
     Ok(dues)
 }

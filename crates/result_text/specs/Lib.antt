@@ -1,4 +1,3 @@
 pub mod Range
 pub mod Members
 pub mod Begun
-pub mod Returned

@@ -1,46 +1,18 @@
 //! The lines of a section, entry by entry.
-ghost use Rattle.std.specs.Prelude.{◌≡◌, ◌≢◌, ◌<◌, false, slice_index, IfSome};
+ghost use Rattle.std.specs.Prelude.{◌≡◌, ◌≢◌, ◌<◌, slice_index, IfSome};
 ghost use Rattle.std.specs.Option.{option_to_list};
 ghost use Rattle.calls.specs.Callers.{AreCallers};
 ghost use Rattle.water_model.specs.Entries.{count_in};
 ghost use Rattle.water_model.specs.OfBasin.{IsOfBasin};
-ghost use Rattle.water_model.specs.Quantities.{amounts_of, has_line, space_of};
+ghost use Rattle.water_model.specs.Quantities.{AreReturnedTo, amounts_of, space_of};
 ghost use Rattle.water_model.specs.Text.{calling_right, lines_at, section_space};
 ghost use Rattle.water_model.specs.Valid.{IsValidBasin};
 ghost use Rattle.result_text.specs.Range.{FitsText};
-ghost use Rattle.result_text.specs.Returned.{AreReturnedTo};
 
-use calls::{MOST_NODES, calling_right};
+use calls::calling_right;
 use water_model::item::{Item, Section};
 use water_model::quantity::Quantity;
 use water_model::types::{Basin, MonthRecord};
-
-/// For each node, whether some return row names it. It goes over the rows once, and takes no memory.
-pub fn returned_to(basin: &Basin) -> [bool; MOST_NODES]
-    requires { IsValidBasin basin.now }
-    ensures { AreReturnedTo basin.now result }
-{
-    let mut marks = [false; MOST_NODES];
-    for row in basin.returns.as_slice() {
-        marks[row.node as usize] = true;
-    }
-    marks
-}
-
-/// Whether a month has a line for an entry of a quantity. `returned` has the nodes that return rows name.
-fn has_line(basin: &Basin, returned: &[bool], quantity: Quantity, entry: u32) -> bool
-    requires basin { IsValidBasin basin.now }
-    requires returned { AreReturnedTo basin.now returned.now }
-    requires entry { entry < count_in (space_of quantity) basin.now }
-    ensures { result ≡ has_line basin.now quantity entry }
-{
-    match quantity {
-        Quantity::Returned => returned[entry as usize],
-        Quantity::Used => basin.rights[entry as usize].volume.is_some(),
-        Quantity::Outflow => basin.nodes[entry as usize].outlet,
-        Quantity::Opening | Quantity::Evaporated | Quantity::Flow | Quantity::Closing => true,
-    }
-}
 
 /// The amount of an entry in the record.
 fn amount_at(basin: &Basin, month: &MonthRecord, quantity: Quantity, entry: u32) -> u64
@@ -82,7 +54,7 @@ pub fn line_at(
 {
     match section {
         Section::Amounts(quantity) => {
-            if !has_line(basin, returned, quantity, entry) {
+            if !quantity.has_line(basin, returned, entry) {
                 return None;
             }
             let amount = amount_at(basin, month, quantity, entry);

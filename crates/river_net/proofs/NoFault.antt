@@ -19,7 +19,7 @@ use Rattle.river_net.specs.NetFaults.{first_without_river, first_on_cycle, net_f
 use Rattle.river_net.specs.declared.refused.NetRefused.{NetRefused}
 use Rattle.river_net.specs.declared.refused.NetRefused.TheVariants.{SelfLink, LinkFromOutlet, NoRiver, DirectedCycle}
 use Rattle.river_net.proofs.Entries.{ends_in}
-use Rattle.river_net.proofs.Finds.{find_none, none_found}
+use Rattle.water_model.proofs.Finds.{find_none, none_found}
 use Rattle.river_net.proofs.Walks.{any_place, place_any, walk_one, walk_within}
 
 -- no entry passes where no place is found

@@ -3,7 +3,7 @@ use Rattle.std.proofs.Common.{◌≡◌, ℕ, ◌<◌, ◌≤◌, Bool, true, fa
 use Rattle.std.proofs.Common.{length}
 use Rattle.std.proofs.lemmas.List.{get_or-replicate}
 use Rattle.std.proofs.lemmas.Grind.{same_number_lists}
-use Rattle.std.specs.Prelude.{◌^◌, ◌-◌, slice_index, Option, Some}
+use Rattle.std.specs.Prelude.{◌^◌, slice_index, Option, Some}
 use Rattle.std.specs.Prelude.{None, is_some}
 use Rattle.place_sums.specs.Sums.{when}
 use Rattle.water_model.specs.Basin.{is_outlet, taking_node}
@@ -40,16 +40,7 @@ pub begun_net : {most : ℕ → ℕ} (b : Basin) (month : Month) (supply want up
     HasBasinEnds b (network c) → AreBounds b month want most (λ a. slice_index upper a) →
     IsMonthNetwork b month supply want (network (month_contents c supply upper start))
 begun_net b month supply want upper start c ends are = record {
-  ends = record {
-    nodes = ends.nodes;
-    arcs = ends.arcs;
-    link_from = ends.link_from;
-    link_to = ends.link_to;
-    take_from = ends.take_from;
-    take_to = ends.take_to;
-    out_from = ends.out_from;
-    out_to = ends.out_to;
-  };
+  ends = assumption (ends);
   link_upper = are.on_links;
   take_upper = are.on_takes;
   supplies = λ n l. refl;

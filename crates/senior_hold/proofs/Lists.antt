@@ -1,15 +1,9 @@
 -- Reads after writes and after additions.
 use Rattle.std.proofs.Common.{◌≡◌, ℕ, zero, suc, ◌+◌, ◌<◌, refl, sym, ◌∙◌, ap, arith, List, [], ◌∷◌, ◌++◌, length}
-use Rattle.std.proofs.Common.{take, drop, inl, inr}
+use Rattle.std.proofs.Common.{inl, inr}
 use Rattle.std.specs.Prelude.{slice_index, slice_get, Some}
 use Rattle.std.proofs.lemmas.Bool.{cases_lt}
 use Rattle.std.proofs.lemmas.Grind.{common_steps}
-
-pub get_before : {X : Type 0} (xs ys : List X) (k : ℕ) (x : X) → slice_get xs k ≡ Some x →
-    slice_get (xs ++ ys) k ≡ Some x
-get_before [] ys k x h = cc
-get_before (y ∷ xs) ys zero x h = h
-get_before (y ∷ xs) ys (suc k) x h = get_before xs ys k x h
 
 pub get_last : {X : Type 0} (xs : List X) (k : ℕ) (x : X) → k ≡ length xs → slice_get (xs ++ x ∷ []) k ≡ Some x
 get_last [] zero x h = refl
@@ -34,12 +28,3 @@ pushed_each f xs ys n y is len each here k l = elim (cases_lt k n) [
 
 pub pushed_count : {X : Type 0} (xs ys : List X) (y : X) (n : ℕ) → ys ≡ xs ++ y ∷ [] → length xs ≡ n → length ys ≡ n + 1
 pushed_count xs ys y n is len = ap length is ∙ grind (arith, common_steps)
-
--- a list that is written whole
-pub whole_rows : {X : Type 0} (old front : List X) → length front ≡ length old →
-    take (length old) (front ++ drop (length front) old) ≡ front
-whole_rows old front len = rw (sym len) (take_front front (drop (length front) old))
-  where
-    take_front : {X : Type 0} (xs ys : List X) → take (length xs) (xs ++ ys) ≡ xs
-    take_front [] ys = refl
-    take_front (x ∷ xs) ys = ap (λ (zs : List _). x ∷ zs) (take_front xs ys)

@@ -11,7 +11,7 @@ use Rattle.water_model.specs.declared.types.Plan.{Plan}
 use Rattle.river_net.specs.NetSeen.{NetSeen}
 use Rattle.river_net.specs.Net.{IsNet, IsNetOfSome, total_of}
 use Rattle.senior_hold.specs.Solved.{AreSupplies}
-use Rattle.senior_hold.proofs.Lists.{whole_rows}
+use Rattle.water_model.proofs.Lists.{whole_rows}
 
 pub net_of_some : (b : Basin) (net : NetSeen) → IsValidBasin b → IsNet b.nodes b.links net → IsNetOfSome net
 net_of_some b net valid is = record { nodes = b.nodes; links = b.links; is_net = is; sound = valid.network }

@@ -1,5 +1,5 @@
 -- A month by searches, over the network with a spill at each node of which only those of outlets carry anything.
-use Rattle.std.proofs.Common.{◌≡◌, ℕ, ◌+◌, ◌<◌, ◌≤◌, ◌^◌, ◌⊎◌, Bool, true, false, refl, sym, ◌∙◌, ap, subst, arith}
+use Rattle.std.proofs.Common.{◌≡◌, ℕ, ◌+◌, ◌<◌, ◌≤◌, ◌^◌, Bool, true, false, refl, sym, ◌∙◌, ap, subst, arith}
 use Rattle.std.proofs.Common.{List, length, inl, inr}
 use Rattle.std.proofs.lemmas.Bool.{cases_Bool, le-ltb, false≢true}
 use Rattle.std.proofs.lemmas.List.{length-replicate, get_or-replicate}
@@ -7,7 +7,6 @@ use Rattle.std.specs.Prelude.{slice_index, nat_lt}
 use Rattle.place_sums.specs.Sums.{total, count_where, when}
 use Rattle.place_sums.proofs.Totals.{total_append, total_le, total_most}
 use Rattle.water_model.specs.Basin.{is_outlet}
-use Rattle.water_model.specs.Cuts.{IsTight}
 use Rattle.water_model.specs.CutSets.{CutSets}
 use Rattle.water_model.specs.Laws.{AreDeliveries}
 use Rattle.water_model.specs.Plans.{IsPlan, delivery}
@@ -29,7 +28,7 @@ use Rattle.senior_hold.specs.Spilled.{spilled}
 use Rattle.senior_hold.proofs.Begins.{begun_net, begun_flow, plan_same}
 use Rattle.senior_hold.proofs.MonthArcs.{AreKinds}
 use Rattle.senior_hold.proofs.Plans.{list_get, plan_is, delivery_is}
-use Rattle.senior_hold.proofs.SettledPlans.{settled_down}
+use Rattle.senior_hold.proofs.SettledPlans.{settled_down, met_or_tight}
 use Rattle.senior_hold.proofs.Solves.{IsStanding, standing_first}
 use Rattle.senior_hold.proofs.SpilledArcs.{spilled_count, spilled_outlet, spill_is, spilled_arcs, spilled_kinds}
 use Rattle.senior_hold.proofs.Spilled.{spill_read}
@@ -172,7 +171,8 @@ pub searched_solved : (b : Basin) (month : Month) (supply want order : List ℕ)
     IsSolved b month supply want p cuts
 searched_solved b month supply want order c first cuts p q kinds o now outlets is start none = record {
   greatest = cuts_make_plan_greatest b month supply want d p plan
-      (record { each = λ r l. got b want (flow_of c) r l ∙ sym (delivers r l) }) (λ r l. of_settled r (settled r l));
+      (record { each = λ r l. got b want (flow_of c) r l ∙ sym (delivers r l) })
+      (λ r l. met_or_tight b month supply want d cuts r (settled r l));
   settled = λ delivered are r l. settled_stays b month supply want d delivered cuts cuts r l (same delivered are r l)
       (λ q m senior. same delivered are q m) refl (settled r l);
   river = λ h. subst (IsRunOfRiver b supply)
@@ -194,11 +194,6 @@ searched_solved b month supply want order c first cuts p q kinds o now outlets i
     delivers : (r : ℕ) → r < length b.rights → delivery b want p r ≡ delivered_by b want (flow_of c) r
     delivers r l = ap (λ (x : Plan). delivery b want x r) is
         ∙ delivery_is (spilled b) month supply want (network c) (flow_of c) r now.net flow l (spilled_kinds b kinds r l)
-
-    of_settled : (r : ℕ) → IsSettled b month supply want d cuts r →
-        (slice_index want r ≤ slice_index d r) ⊎ ((cut : List Bool) × IsTight b month supply d r cut)
-    of_settled r (inl met) = inl met.0
-    of_settled r (inr short) = inr (short.1.0, short.1.1.1.is_tight)
 
     same : (delivered : List ℕ) → AreDeliveries b want p delivered → (r : ℕ) → r < length b.rights →
         slice_index d r ≡ slice_index delivered r

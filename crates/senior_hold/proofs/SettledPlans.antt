@@ -1,5 +1,5 @@
 -- What is spilled runs down the rivers: the plan that this gives, and what it delivers.
-use Rattle.std.proofs.Common.{◌≡◌, ℕ, zero, suc, ◌+◌, ◌<◌, ◌≤◌, ◌^◌, ◌⊎◌, Bool, true, false, refl, sym, ◌∙◌, ap, subst}
+use Rattle.std.proofs.Common.{◌≡◌, ℕ, ◌+◌, ◌<◌, ◌≤◌, ◌^◌, ◌⊎◌, Bool, true, false, refl, sym, ◌∙◌, ap, subst}
 use Rattle.std.proofs.Common.{arith, List, length, replicate, inl, inr}
 use Rattle.std.proofs.lemmas.Bool.{cases_lt}
 use Rattle.std.proofs.lemmas.Bool.Decides.{nat_tests}
@@ -19,7 +19,7 @@ use Rattle.water_model.specs.Valid.{IsValidBasin}
 use Rattle.water_text.specs.declared.month.Month.{Month}
 use Rattle.water_model.specs.declared.types.Basin.{Basin}
 use Rattle.water_model.specs.declared.types.Plan.{Plan}
-use Rattle.water_model.proofs.Balance.{ends, total_where_all, total_where_none_pass}
+use Rattle.water_model.proofs.Balance.{ends, total_where_all, total_where_none_pass, has_all}
 use Rattle.water_model.proofs.CutBalance.{cut_balance}
 use Rattle.water_model.proofs.Duality.{cut_slack}
 use Rattle.water_model.proofs.Greatest.{cuts_make_plan_greatest}
@@ -43,10 +43,12 @@ use Rattle.senior_hold.proofs.Solves.{IsStanding}
 use Rattle.senior_hold.proofs.SpilledArcs.{spilled_count}
 use Rattle.senior_hold.proofs.WayOut.{ranks, river_carry}
 
-has_all : (n k : ℕ) → k < n → has (replicate n true) k ≡ true
-has_all zero k l = absurd (omega arith)
-has_all (suc n) zero l = refl
-has_all (suc n) (suc k) l = has_all n k (omega arith)
+-- a settled right is met or has a tight cut
+pub met_or_tight : (b : Basin) (month : Month) (supply want d : List ℕ) (cuts : CutSets) (r : ℕ) →
+    IsSettled b month supply want d cuts r →
+    (slice_index want r ≤ slice_index d r) ⊎ ((cut : List Bool) × IsTight b month supply d r cut)
+met_or_tight b month supply want d cuts r (inl met) = inl met.0
+met_or_tight b month supply want d cuts r (inr short) = inr (short.1.0, short.1.1.1.is_tight)
 
 -- no more is spilled than is supplied
 pub spills_most : (b : Basin) (month : Month) (supply want : List ℕ) (p : Plan) → IsValidBasin b →
@@ -310,7 +312,8 @@ pub tree_solved : (b : Basin) (month : Month) (supply want order : List ℕ) (c 
     IsSolved b month supply want p cuts
 tree_solved b month supply want order c first cuts p valid o few now s start none = record {
   greatest = cuts_make_plan_greatest b month supply want d p plan
-      (record { each = λ r l. got b want (flow_of c) r l ∙ sym (delivers r l) }) (λ r l. of_settled r (settled r l));
+      (record { each = λ r l. got b want (flow_of c) r l ∙ sym (delivers r l) })
+      (λ r l. met_or_tight b month supply want d cuts r (settled r l));
   settled = λ delivered are r l. settled_stays b month supply want d delivered cuts cuts r l (same delivered are r l)
       (λ q m senior. same delivered are q m) refl (settled r l);
   river = λ h. record {
@@ -336,11 +339,6 @@ tree_solved b month supply want order c first cuts p valid o few now s start non
 
     delivers : (r : ℕ) → r < length b.rights → delivery b want p r ≡ delivered_by b want (flow_of c) r
     delivers = settled_delivers b month supply want (flow_of c) p cuts (right_kind b valid) plan s settled
-
-    of_settled : (r : ℕ) → IsSettled b month supply want d cuts r →
-        (slice_index want r ≤ slice_index d r) ⊎ ((cut : List Bool) × IsTight b month supply d r cut)
-    of_settled r (inl met) = inl met.0
-    of_settled r (inr short) = inr (short.1.0, short.1.1.1.is_tight)
 
     same : (delivered : List ℕ) → AreDeliveries b want p delivered → (r : ℕ) → r < length b.rights →
         slice_index d r ≡ slice_index delivered r

@@ -78,16 +78,7 @@ changed old f s lower = record old { flow = f; scratch = s; lower = lower }
 pub net_kept : (b : Basin) (month : Month) (supply want : List ℕ) (c : Contents) (f s lower : List ℕ) →
     IsMonthNetwork b month supply want (network c) → IsMonthNetwork b month supply want (network (changed c f s lower))
 net_kept b month supply want c f s lower net = record {
-  ends = record {
-    nodes = net.ends.nodes;
-    arcs = net.ends.arcs;
-    link_from = net.ends.link_from;
-    link_to = net.ends.link_to;
-    take_from = net.ends.take_from;
-    take_to = net.ends.take_to;
-    out_from = net.ends.out_from;
-    out_to = net.ends.out_to;
-  };
+  ends = assumption (net.ends);
   link_upper = net.link_upper;
   take_upper = net.take_upper;
   supplies = net.supplies;

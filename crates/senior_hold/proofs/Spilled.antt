@@ -1,6 +1,6 @@
 -- A basin with an outlet at each node.
-use Rattle.std.proofs.Common.{◌≡◌, ℕ, zero, suc, ◌+◌, ◌<◌, ◌≤◌, Bool, true, false, refl, sym, ◌∙◌, ap, subst, arith}
-use Rattle.std.proofs.Common.{List, [], ◌∷◌, length, map, replicate, ◌^◌}
+use Rattle.std.proofs.Common.{◌≡◌, ℕ, ◌+◌, ◌<◌, ◌≤◌, Bool, true, false, refl, sym, ◌∙◌, ap, subst, arith}
+use Rattle.std.proofs.Common.{List, length, replicate, ◌^◌}
 use Rattle.std.proofs.lemmas.List.{length-map, length-replicate, get_or-replicate}
 use Rattle.std.proofs.lemmas.Bool.{false≢true}
 use Rattle.std.specs.Prelude.{◌==◌, slice_index, Option, Some, None, if◌then◌else◌}
@@ -21,13 +21,13 @@ use Rattle.senior_hold.proofs.Begins.{begun_net, begun_flow, plan_same}
 use Rattle.senior_hold.specs.Solved.{AreWants, FitsPlan}
 use Rattle.senior_hold.specs.Arcs.{AreBounds, AreAmounts}
 use Rattle.senior_hold.specs.Spilled.{IsSpilledStart}
-use Rattle.water_model.specs.Lookups.{of_entry}
 use Rattle.water_model.specs.CutSets.{CutSets, set_of, without_sets}
 use Rattle.senior_hold.specs.Solved.{IsGiven, FitsCuts}
 use Rattle.senior_hold.proofs.Solves.{IsStanding, standing_first}
 use Rattle.senior_hold.proofs.Turns.{IsTurn}
 use Rattle.circulation.specs.declared.Ends.{Ends}
 use Rattle.senior_hold.proofs.SpilledArcs.{spilled_count, spilled_outlet, spill_is, spilled_arcs}
+use Rattle.water_model.proofs.SetEntries.{emptied}
 
 -- the spills of a circulation
 pub has_spills : (b : Basin) (c : Contents) (first : ℕ) → first ≡ spill_arc b 0 → HasBasinEnds (spilled b) (network c) →
@@ -160,13 +160,8 @@ given_again b month supply want p q cuts swept cleared given fits_plan fits_cuts
     nodes = ap (λ (d : CutSets). d.nodes) is ∙ fits_cuts.nodes;
     rights = ap (λ (d : CutSets). length d.sets) is ∙ (length-map swept.sets (λ _. nothing) ∙ fits_cuts.rights);
   };
-  no_sets = λ r l. ap (λ (d : CutSets). set_of d r) is ∙ no_set swept.sets r;
+  no_sets = λ r l. ap (λ (d : CutSets). set_of d r) is ∙ emptied swept.sets r;
 }
   where
     nothing : Option (List Bool)
     nothing = None
-
-    no_set : (xs : List (Option (List Bool))) (r : ℕ) → of_entry (map (λ _. nothing) xs) r (λ set. set) None ≡ None
-    no_set [] r = refl
-    no_set (x ∷ xs) zero = refl
-    no_set (x ∷ xs) (suc r) = no_set xs r

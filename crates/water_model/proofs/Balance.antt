@@ -44,7 +44,7 @@ sum_total (x ∷ xs) =
 abbrev all_nodes : Basin → List Bool
 all_nodes b = replicate (length b.nodes) true
 
-has_all : (n k : ℕ) → k < n → has (replicate n true) k ≡ true
+pub has_all : (n k : ℕ) → k < n → has (replicate n true) k ≡ true
 has_all zero k l = absurd (omega arith)
 has_all (suc n) zero l = refl
 has_all (suc n) (suc k) l = has_all n k (omega arith)

@@ -21,7 +21,7 @@ use Rattle.water_model.specs.declared.types.Inflow.TheVariants.{Gauged}
 use Rattle.water_model.specs.declared.types.Inflows.{Inflows}
 use Rattle.water_model.specs.declared.types.Node.{Node}
 use Rattle.water_model.specs.declared.types.Right.{Right}
-use Rattle.water_model.proofs.Order.{Has, numbers_from-get, numbers_from-has, length-numbers_from}
+use Rattle.water_model.proofs.Order.{Has, numbers_from-get, numbers_from-has, length-numbers_from, has-filter}
 
 -- the place of a number that stands at i and nowhere before, or that stands nowhere where i is the length
 pub place_is : (xs : List ℕ) (x i : ℕ) → i ≤ length xs → ((k : ℕ) → k < i → get_or xs k 0 ≡ x → ⊥) →
@@ -81,18 +81,6 @@ searched_place xs x r up h = by_result r (searched xs x r h no_less)
       | inr behind ↦ omega (arith, missing.2 k behind l)
     ]) (λ l. absurd (omega arith))
 
-filter-has : (p : ℕ → Bool) (xs : List ℕ) (x : ℕ) → Has xs x → p x ≡ true → Has (filter p xs) x
-filter-has p [] x h e = h
-filter-has p (y ∷ ys) x h e = by_test (p y) refl (filter-has p ys x)
-  where
-    by_test : (t : Bool) → p y ≡ t → (Has ys x → p x ≡ true → Has (filter p ys) x) →
-        Has (if t then y ∷ filter p ys else filter p ys) x
-    by_test true f further = elim h [ inl is ↦ inl is | inr rest ↦ inr (further rest e) ]
-    by_test false f further = elim h [
-      | inl is ↦ let clash : false ≡ true = sym f ∙ (ap p (sym is) ∙ e) in cc
-      | inr rest ↦ further rest e
-    ]
-
 has_place : (xs : List ℕ) (x : ℕ) → Has xs x → place_in xs x < length xs
 has_place [] x h = absurd h
 has_place (y ∷ ys) x h = by_test (y == x) refl (has_place ys x)
@@ -112,14 +100,14 @@ pub gauge_within : (b : Basin) (series : Inflows) (node : ℕ) → IsSeriesOf b 
     is_gauged b node ≡ true →
     place_in series.gauged node < length series.gauged
 gauge_within b series node fits l gauged =
-    has_place series.gauged node (rw fits.gauged (filter-has (λ n. is_gauged b n) (places_of b.nodes) node
+    has_place series.gauged node (rw fits.gauged (has-filter (λ n. is_gauged b n) (places_of b.nodes) node
     (numbers_from-has 0 (length b.nodes) node node l (omega arith)) gauged))
 
 -- a column of a row of a table stands within the table
 pub cell_within : (i m l p : ℕ) → i < m → p < l → i * l + p < m * l
 cell_within i m l p h k = let below : (i + 1) * l ≤ m * l = mul-le-mul_right l (omega arith) in omega arith
 
-filter_short : (p : ℕ → Bool) (xs : List ℕ) → length (filter p xs) ≤ length xs
+pub filter_short : (p : ℕ → Bool) (xs : List ℕ) → length (filter p xs) ≤ length xs
 filter_short p [] = omega arith
 filter_short p (x ∷ xs) = by_test (p x) (filter_short p xs)
   where
@@ -179,7 +167,7 @@ pub wanted_within : (b : Basin) (series : Inflows) (right : ℕ) → IsSeriesOf 
     is_in_series b right ≡ true →
     place_in series.wanted right < length series.wanted
 wanted_within b series right fits l e =
-    has_place series.wanted right (rw fits.wanted (filter-has (λ r. is_in_series b r) (places_of b.rights) right
+    has_place series.wanted right (rw fits.wanted (has-filter (λ r. is_in_series b r) (places_of b.rights) right
     (numbers_from-has 0 (length b.rights) right right l (omega arith)) e))
 
 -- where the want of a right in a month stands

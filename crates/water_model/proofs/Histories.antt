@@ -1,13 +1,13 @@
 -- Partial histories grow record by record.
-use Rattle.std.proofs.Common.{◌≡◌, ℕ, zero, suc, ◌-◌, ◌<◌, ◌≤◌, refl, sym, ◌∙◌, ap, subst, arith, List, [], ◌∷◌, ◌++◌}
-use Rattle.std.proofs.Common.{length, map, take, inl, inr, length-append}
-use Rattle.std.specs.Prelude.{slice_get, Some, None, ◌⊎◌, unwrap_or, option_map}
+use Rattle.std.proofs.Common.{◌≡◌, ℕ, zero, suc, ◌+◌, ◌-◌, ◌<◌, ◌≤◌, refl, sym, ◌∙◌, ap, subst, arith, List, [], ◌∷◌}
+use Rattle.std.proofs.Common.{◌++◌, length, map, take, inl, inr, length-append}
+use Rattle.std.specs.Prelude.{slice_get, slice_index, Some, None, ◌⊎◌, unwrap_or, option_map}
 use Rattle.std.proofs.lemmas.List.{take-append-le}
 use Rattle.std.proofs.Math.Seq.{take-length}
 use Rattle.std.proofs.lemmas.Option.{slice_get_within}
 use Rattle.water_text.specs.Months.{IsMonth}
 use Rattle.water_model.specs.History.{IsPartialHistory, IsHistory, Follows, opening_after}
-use Rattle.water_model.specs.Hydrology.{run_month}
+use Rattle.water_model.specs.Hydrology.{run_month, inflow_at, stored_at, want_of}
 use Rattle.water_model.specs.Valid.{IsValidRun}
 use Rattle.water_model.specs.declared.types.Basin.{Basin}
 use Rattle.water_model.specs.declared.types.Inflows.{Inflows}
@@ -60,6 +60,21 @@ last_follows b series before m partial =
     subst (λ (rs : List MonthRecord). Follows b series rs m)
     (take-append-le (length before) before (m ∷ []) (omega arith) ∙ take-length before)
     (partial.each (length before) m (get_behind before [] m))
+
+-- a record that follows others with one series does with another that gives the same in its month
+pub follows_alike : (b : Basin) (series other : Inflows) (before : List MonthRecord) (m : MonthRecord) →
+    ((n : ℕ) → n < length b.nodes → inflow_at b series n m.index ≡ inflow_at b other n m.index) →
+    ((r used : ℕ) → r < length b.rights → want_of b series r m.index used ≡ want_of b other r m.index used) →
+    Follows b series before m → Follows b other before m
+follows_alike b series other before m inflows wants f = assumption (supply, want)
+  where
+    supply : (n : ℕ) → n < length b.nodes → slice_index m.supply n
+        ≡ inflow_at b other n m.index + slice_index m.returned n + stored_at b m.opening m.evaporated n
+    supply n l = f.supply n l
+        ∙ ap (λ x. x + slice_index m.returned n + stored_at b m.opening m.evaporated n) (inflows n l)
+
+    want : (r : ℕ) → r < length b.rights → slice_index m.want r ≡ want_of b other r m.index (slice_index m.used r)
+    want r l = f.want r l ∙ wants r (slice_index m.used r) l
 
 -- the closing of the last record is what the next month opens with
 pub opens_with_last : (b : Basin) (records : List MonthRecord) (m : MonthRecord) →

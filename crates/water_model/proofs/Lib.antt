@@ -16,6 +16,7 @@ pub mod Carries
 pub mod SetEntries
 pub mod Histories
 pub mod Lists
+pub mod Finds
 pub mod Outcome
 pub mod Returns
 pub mod Worked

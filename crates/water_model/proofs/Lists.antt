@@ -1,8 +1,9 @@
 -- Entries and fronts of lists, and the front of a partial history.
 use Rattle.std.proofs.Common.{◌≡◌, ℕ, zero, suc, ◌+◌, ◌<◌, ◌≤◌, refl, sym, ap, subst, ◌∙◌, arith, List, [], ◌∷◌, ◌++◌}
-use Rattle.std.proofs.Common.{length, take, Some}
-use Rattle.std.specs.Prelude.{slice_get, All}
-use Rattle.std.proofs.lemmas.List.{length-take}
+use Rattle.std.proofs.Common.{length, take, drop, replicate, inl, inr, Some}
+use Rattle.std.specs.Prelude.{◌≢◌, slice_get, slice_index, All}
+use Rattle.std.proofs.lemmas.Bool.{cases_order}
+use Rattle.std.proofs.lemmas.List.{length-take, take_at}
 use Rattle.std.proofs.lemmas.Option.{get_or_from_slice_get, slice_get_within}
 use Rattle.water_model.specs.History.{Follows, IsPartialHistory}
 use Rattle.water_model.specs.Places.{numbers_from}
@@ -13,6 +14,13 @@ use Rattle.water_model.specs.declared.types.MonthRecord.{MonthRecord}
 -- what holds of all holds of the entry at a place
 pub all_at : {X : Type 0} (P : X → Type 0) (xs : List X) (k : ℕ) (x : X) → All P xs → slice_get xs k ≡ Some x → P x
 all_at P xs k x h e = subst P (get_or_from_slice_get xs k x x e) (h k x (slice_get_within xs k x e))
+
+-- an entry, where more stands behind
+pub get_before : {X : Type 0} (xs ys : List X) (k : ℕ) (x : X) → slice_get xs k ≡ Some x →
+    slice_get (xs ++ ys) k ≡ Some x
+get_before [] ys k x h = cc
+get_before (y ∷ xs) ys zero x h = h
+get_before (y ∷ xs) ys (suc k) x h = get_before xs ys k x h
 
 -- the entry behind a front
 pub get_behind : {X : Type 0} (front rest : List X) (x : X) → slice_get (front ++ x ∷ rest) (length front) ≡ Some x
@@ -37,6 +45,28 @@ take_front [] (suc i) zero l = refl
 take_front [] (suc i) (suc j) l = refl
 take_front (y ∷ ys) (suc i) zero l = refl
 take_front (y ∷ ys) (suc i) (suc j) l = ap (λ zs. y ∷ zs) (take_front ys i j (omega arith))
+
+-- a list that is written whole
+pub whole_rows : {X : Type 0} (old front : List X) → length front ≡ length old →
+    take (length old) (front ++ drop (length front) old) ≡ front
+whole_rows old front len = rw (sym len) (take_at front (drop (length front) old) (length front) refl)
+
+-- numbers that are all 0
+pub no_numbers : (n k : ℕ) → slice_index (replicate n 0) k ≡ 0
+no_numbers zero k = refl
+no_numbers (suc n) zero = refl
+no_numbers (suc n) (suc k) = no_numbers n k
+
+-- where no two places are named alike, a name is that of one place
+pub once : {X : Type 0} (name : ℕ → X) (n : ℕ) → ((i j : ℕ) → i < j → j < n → name i ≢ name j) → (i j : ℕ) → i < n →
+    j < n → name i ≡ name j → i ≡ j
+once name n apart i j l m same = elim (cases_order i j) [
+  | inl is ↦ is
+  | inr other ↦ elim other [
+    | inl below ↦ absurd (apart i j below m same)
+    | inr above ↦ absurd (apart j i above l (sym same))
+  ]
+]
 
 -- one number more
 pub numbers_more : (from n : ℕ) → numbers_from from (suc n) ≡ numbers_from from n ++ (from + n) ∷ []

@@ -1,6 +1,7 @@
 -- Lists of numbers, and the order of rights.
 use Rattle.std.proofs.Common.{◌≡◌, ℕ, zero, suc, ◌+◌, ◌≤◌, ◌<◌, Bool, true, false, List, [], ◌∷◌, length, refl, sym, ap}
-use Rattle.std.proofs.Common.{◌∙◌, arith, inl, inr}
+use Rattle.std.proofs.Common.{◌∙◌, arith, inl, inr, map}
+use Rattle.std.specs.List.{flat_map}
 use Rattle.std.specs.Prelude.{slice_get, Some, None, find, filter, ◌⊎◌, ◌≢◌, if◌then◌else◌}
 use Rattle.water_model.specs.Rights.{is_senior_in, AreStrict}
 use Rattle.water_model.specs.declared.types.Right.{Right}
@@ -35,6 +36,16 @@ numbers_from-below from zero x h = absurd h
 numbers_from-below from (suc n) x (inl e) = (omega arith, omega arith)
 numbers_from-below from (suc n) x (inr h) = let b = numbers_from-below (suc from) n x h in
     (omega (arith, b.0), omega (arith, b.1))
+
+-- what is made of each element, where it is the same of each
+pub map_same : {Y : Type 0} (f g : ℕ → Y) (xs : List ℕ) → ((x : ℕ) → Has xs x → f x ≡ g x) → map f xs ≡ map g xs
+map_same f g [] h = refl
+map_same f g (x ∷ xs) h = rw (h x (inl refl), map_same f g xs (λ y m. h y (inr m))) refl
+
+pub flat_same : {Y : Type 0} (f g : ℕ → List Y) (xs : List ℕ) → ((x : ℕ) → Has xs x → f x ≡ g x) →
+    flat_map f xs ≡ flat_map g xs
+flat_same f g [] h = refl
+flat_same f g (x ∷ xs) h = rw (h x (inl refl), flat_same f g xs (λ y m. h y (inr m))) refl
 
 -- the elements that pass a test
 pub has-filter : (p : ℕ → Bool) (xs : List ℕ) (k : ℕ) → Has xs k → p k ≡ true → Has (filter p xs) k

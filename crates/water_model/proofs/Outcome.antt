@@ -19,6 +19,7 @@ use Rattle.water_model.specs.declared.types.Basin.{Basin}
 use Rattle.water_model.specs.declared.types.Inflows.{Inflows}
 use Rattle.water_model.specs.declared.types.MonthRecord.{MonthRecord}
 use Rattle.water_model.specs.declared.types.Plan.{Plan}
+use Rattle.water_model.specs.declared.types.Right.{Right}
 use Rattle.water_model.specs.declared.types.RightKind.{RightKind}
 use Rattle.water_model.specs.declared.types.RightKind.TheVariants.{Diversion, Instream, Zone}
 use Rattle.place_sums.proofs.Totals.{total_same}
@@ -27,7 +28,7 @@ use Rattle.water_model.proofs.Duality.{delivery_by_take}
 use Rattle.water_model.proofs.Greatest.{greatest_same, record_is_greatest}
 
 -- two lists of numbers of one length that agree at each place
-same_lists : (xs ys : List ℕ) (n : ℕ) → length xs ≡ n → length ys ≡ n →
+pub same_lists : (xs ys : List ℕ) (n : ℕ) → length xs ≡ n → length ys ≡ n →
     ((k : ℕ) → k < n → slice_index xs k ≡ slice_index ys k) → xs ≡ ys
 same_lists xs ys n e f h = same_number_lists xs ys (e ∙ sym f) (λ k l. h k (omega arith))
 
@@ -56,16 +57,73 @@ same_takes b month supply want p q valid plan other same r l = of_kind k.kind k.
     of_kind (Instream link) at on = plan.instream r l at ∙ sym (other.instream r l at)
     of_kind (Zone reservoir level) at on = by_take on
 
+-- what two months begin with, and what comes in
+pub record BeginAlike (m n : MonthRecord) : Type 0 where
+  pub index : m.index ≡ n.index
+  pub month : m.month ≡ n.month
+  pub opening : m.opening ≡ n.opening
+  pub evaporated : m.evaporated ≡ n.evaporated
+  pub returned : m.returned ≡ n.returned
+  pub supply : m.supply ≡ n.supply
+
+-- a month of a basin begins as one of the basin with other rights, behind as many months that leave the same storage,
+-- where as much comes back and flows in
+pub begin_alike : (b : Basin) (rights : List Right) (series other : Inflows) (before others : List MonthRecord)
+    (m n : MonthRecord) → length before ≡ length others → opening_after b before ≡ opening_after b others →
+    ((k : ℕ) → returned_at b (map (λ k. k.delivered) before) k m.index
+    ≡ returned_at (record b { rights = rights }) (map (λ k. k.delivered) others) k m.index) →
+    ((k : ℕ) → inflow_at b series k m.index ≡ inflow_at (record b { rights = rights }) other k m.index) →
+    Follows b series before m → Follows (record b { rights = rights }) other others n → BeginAlike m n
+begin_alike b rights series other before others m n count storage returns inflows f g = record {
+  index = index;
+  month = f.month ∙ (ap (run_month b) index ∙ sym g.month);
+  opening = opening;
+  evaporated = evaporated;
+  returned = returned;
+  supply = same_lists m.supply n.supply (length b.nodes) f.fits.supply g.fits.supply
+      (λ k l. f.supply k l ∙ (by_parts k ∙ sym (g.supply k l)));
+}
+  where
+    c : Basin
+    c = record b { rights = rights }
+
+    index : m.index ≡ n.index
+    index = f.index ∙ (count ∙ sym g.index)
+
+    opening : m.opening ≡ n.opening
+    opening = f.opening ∙ (storage ∙ sym g.opening)
+
+    evaporated : m.evaporated ≡ n.evaporated
+    evaporated = same_lists m.evaporated n.evaporated (length b.reservoirs) f.fits.evaporated g.fits.evaporated
+        (λ v l. f.evaporated v l ∙ (by_opening v ∙ sym (g.evaporated v l)))
+      where
+        by_opening : (v : ℕ) →
+            of_entry b.reservoirs v
+            (λ r. evaporation r.area (slice_index m.opening v) (slice_index r.rate (in_year b m.index))) 0
+            ≡ of_entry b.reservoirs v
+            (λ r. evaporation r.area (slice_index n.opening v) (slice_index r.rate (in_year b n.index))) 0
+        by_opening v = rw (opening, index) refl
+
+    returned : m.returned ≡ n.returned
+    returned = same_lists m.returned n.returned (length b.nodes) f.fits.returned g.fits.returned
+        (λ k l. f.returned k l
+        ∙ (returns k ∙ (ap (λ i. returned_at c (map (λ k. k.delivered) others) k i) index ∙ sym (g.returned k l))))
+
+    by_parts : (k : ℕ) →
+        inflow_at b series k m.index + slice_index m.returned k + stored_at b m.opening m.evaporated k
+        ≡ inflow_at c other k n.index + slice_index n.returned k + stored_at b n.opening n.evaporated k
+    by_parts k = rw (inflows k, opening, index, returned, evaporated) refl
+
 -- one month
 same_month : (b : Basin) (series : Inflows) (before others : List MonthRecord) (m n : MonthRecord) → IsValidBasin b →
     SameBefore b before others → Follows b series before m → Follows b series others n → HaveSameOutcome m n
 same_month b series before others m n valid same f g = record {
-  index = index;
-  month = month;
-  opening = opening;
-  evaporated = evaporated;
-  returned = returned;
-  supply = supply;
+  index = alike.index;
+  month = alike.month;
+  opening = alike.opening;
+  evaporated = alike.evaporated;
+  returned = alike.returned;
+  supply = alike.supply;
   used = used;
   want = want;
   delivered = same_lists m.delivered n.delivered (length b.rights) f.fits.delivered g.fits.delivered
@@ -88,56 +146,28 @@ same_month b series before others m n valid same f g = record {
     by_list : (xs : List ℕ) → length xs ≡ length b.nodes → sum xs ≡ total (length b.nodes) (λ k. slice_index xs k)
     by_list xs e = sum_total xs ∙ ap (λ k. total k (λ i. slice_index xs i)) e
 
-    index : m.index ≡ n.index
-    index = f.index ∙ (same.count ∙ sym g.index)
-
-    month : m.month ≡ n.month
-    month = f.month ∙ (ap (run_month b) index ∙ sym g.month)
-
-    opening : m.opening ≡ n.opening
-    opening = f.opening ∙ (same.storage ∙ sym g.opening)
-
-    evaporated : m.evaporated ≡ n.evaporated
-    evaporated = same_lists m.evaporated n.evaporated (length b.reservoirs) f.fits.evaporated g.fits.evaporated
-        (λ v l. f.evaporated v l ∙ (by_opening v ∙ sym (g.evaporated v l)))
-      where
-        by_opening : (v : ℕ) →
-            of_entry b.reservoirs v
-            (λ r. evaporation r.area (slice_index m.opening v) (slice_index r.rate (in_year b m.index))) 0
-            ≡ of_entry b.reservoirs v
-            (λ r. evaporation r.area (slice_index n.opening v) (slice_index r.rate (in_year b n.index))) 0
-        by_opening v = rw (opening, index) refl
-
-    returned : m.returned ≡ n.returned
-    returned = same_lists m.returned n.returned (length b.nodes) f.fits.returned g.fits.returned
-        (λ k l. f.returned k l ∙ (ap₂ (λ ds i. returned_at b ds k i) same.deliveries index ∙ sym (g.returned k l)))
-
-    supply : m.supply ≡ n.supply
-    supply = same_lists m.supply n.supply (length b.nodes) f.fits.supply g.fits.supply
-        (λ k l. f.supply k l ∙ (by_parts k ∙ sym (g.supply k l)))
-      where
-        by_parts : (k : ℕ) →
-            inflow_at b series k m.index + slice_index m.returned k + stored_at b m.opening m.evaporated k
-            ≡ inflow_at b series k n.index + slice_index n.returned k + stored_at b n.opening n.evaporated k
-        by_parts k = rw (opening, index, returned, evaporated) refl
+    alike : BeginAlike m n
+    alike = begin_alike b b.rights series series before others m n same.count same.storage
+        (λ k. ap (λ ds. returned_at b ds k m.index) same.deliveries) (λ k. refl) f g
 
     used : m.used ≡ n.used
     used = same_lists m.used n.used (length b.rights) f.fits.used g.fits.used
-        (λ r l. f.used r l ∙ (ap₂ (λ ds i. used_of b ds r i) same.deliveries index ∙ sym (g.used r l)))
+        (λ r l. f.used r l ∙ (ap₂ (λ ds i. used_of b ds r i) same.deliveries alike.index ∙ sym (g.used r l)))
 
     want : m.want ≡ n.want
     want = same_lists m.want n.want (length b.rights) f.fits.want g.fits.want
-        (λ r l. f.want r l ∙ (ap₂ (λ us i. want_of b series r i (slice_index us r)) used index ∙ sym (g.want r l)))
+        (λ r l. f.want r l
+        ∙ (ap₂ (λ us i. want_of b series r i (slice_index us r)) used alike.index ∙ sym (g.want r l)))
 
     g_plan : IsPlan b m.month m.supply m.want n.plan
     g_plan = subst (λ w. IsPlan b m.month m.supply w n.plan) (sym want)
-        (subst (λ s. IsPlan b m.month s n.want n.plan) (sym supply)
-        (subst (λ t. IsPlan b t n.supply n.want n.plan) (sym month) g.plan))
+        (subst (λ s. IsPlan b m.month s n.want n.plan) (sym alike.supply)
+        (subst (λ t. IsPlan b t n.supply n.want n.plan) (sym alike.month) g.plan))
 
     g_greatest : IsGreatest b m.month m.supply m.want n.plan
     g_greatest = subst (λ w. IsGreatest b m.month m.supply w n.plan) (sym want)
-        (subst (λ s. IsGreatest b m.month s n.want n.plan) (sym supply)
-        (subst (λ t. IsGreatest b t n.supply n.want n.plan) (sym month) (record_is_greatest b series others n g)))
+        (subst (λ s. IsGreatest b m.month s n.want n.plan) (sym alike.supply)
+        (subst (λ t. IsGreatest b t n.supply n.want n.plan) (sym alike.month) (record_is_greatest b series others n g)))
 
     g_delivered : (r : ℕ) → r < length b.rights → slice_index n.delivered r ≡ delivery b m.want n.plan r
     g_delivered r l = g.delivered r l ∙ ap (λ w. delivery b w n.plan r) (sym want)

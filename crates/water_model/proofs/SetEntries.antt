@@ -1,5 +1,6 @@
 -- The sets of rights after writes.
 use Rattle.std.proofs.Common.{◌≡◌, ◌≢◌, ℕ, zero, suc, ◌<◌, Bool, List, [], ◌∷◌, length, refl, sym, ap, arith}
+use Rattle.std.proofs.Common.{replicate, map}
 use Rattle.std.specs.Prelude.{Option, None, slice_set}
 use Rattle.water_model.specs.CutSets.{CutSets, set_of, with_set}
 use Rattle.water_model.specs.Lookups.{of_entry}
@@ -42,3 +43,15 @@ set_of_with c r s l = entry_set c.sets r s l
 
 pub set_of_other : (c : CutSets) (r q : ℕ) (s : Option (List Bool)) → q ≢ r → set_of (with_set c r s) q ≡ set_of c q
 set_of_other c r q s ne = entry_apart c.sets r q s ne
+
+-- where no right has a set, none is found
+pub no_sets : (n r : ℕ) → of_entry (replicate {A = Option (List Bool)} n None) r (λ s. s) None ≡ None
+no_sets zero r = refl
+no_sets (suc n) zero = refl
+no_sets (suc n) (suc r) = no_sets n r
+
+pub emptied : (xs : Sets) (r : ℕ) →
+    of_entry (map {A = Option (List Bool)} {B = Option (List Bool)} (λ _. None) xs) r (λ s. s) None ≡ None
+emptied [] r = refl
+emptied (x ∷ xs) zero = refl
+emptied (x ∷ xs) (suc r) = emptied xs r

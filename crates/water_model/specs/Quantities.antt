@@ -1,9 +1,9 @@
 -- The quantities of a month's record: what each is of, its list, and its word.
-use Rattle.std.specs.Prelude.{ℕ, Bool, true, false, List, codes, filter, is_some, ◌==◌}
+use Rattle.std.specs.Prelude.{◌≡◌, ℕ, ◌<◌, ◌≤◌, ◌==◌, Bool, true, false, List, codes, filter, is_some, length}
 use Rattle.std.specs.List.{list_any}
 use Rattle.water_model.specs.Basin.{is_outlet}
 use Rattle.water_model.specs.Entries.{in_order}
-use Rattle.water_model.specs.Lookups.{of_entry}
+use Rattle.water_model.specs.Lookups.{has, of_entry}
 use Rattle.water_model.specs.declared.quantity.Quantity.{Quantity}
 use Rattle.water_model.specs.declared.quantity.Quantity.TheVariants as quantity
 use Rattle.water_model.specs.declared.space.Space.{Space}
@@ -65,3 +65,8 @@ has_line b quantity.Closing v = true
 -- the entries with a line, in the order of their lines
 abbrev pub entries_with_line : Basin → Quantity → List ℕ
 entries_with_line b q = filter (λ entry. has_line b q entry) (in_order (space_of q) b)
+
+-- for each node, whether some return row names it. There may be places behind the nodes
+pub record AreReturnedTo (b : Basin) (marks : List Bool) : Type 0 where
+  pub enough : length b.nodes ≤ length marks
+  pub each : (n : ℕ) → n < length b.nodes → has marks n ≡ list_any (λ row. row.node == n) b.returns

@@ -1,8 +1,11 @@
 //! The quantities of a month's record.
-ghost use Rattle.std.specs.Prelude.{◌≡◌, ◌≤◌, length};
-ghost use Rattle.water_model.specs.Quantities.{amount_word, space_of};
+ghost use Rattle.std.specs.Prelude.{◌≡◌, ◌<◌, ◌≤◌, length};
+ghost use Rattle.water_model.specs.Entries.{count_in};
+ghost use Rattle.water_model.specs.Quantities.{AreReturnedTo, amount_word, has_line, space_of};
+ghost use Rattle.water_model.specs.Valid.{IsValidBasin};
 
 use crate::space::Space;
+use crate::types::{Basin, MOST_NODES};
 
 /// What one amount tells of an entry. A month's record has a list of amounts for each quantity, and a result text lines
 /// for them. All are in units of 1,000 cubic metres.
@@ -52,4 +55,33 @@ impl Quantity {
             Quantity::Closing => b"close",
         }
     }
+
+    /// Whether a month has a line for an entry. `returned` has the nodes that return rows name, as of `returned_to`.
+    pub fn has_line(self, basin: &Basin, returned: &[bool], entry: u32) -> bool
+        requires basin { IsValidBasin basin.now }
+        requires returned { AreReturnedTo basin.now returned.now }
+        requires entry { entry < count_in (space_of self) basin.now }
+        ensures { result ≡ has_line basin.now self entry }
+    {
+        let at = entry as usize;
+        match self {
+            Quantity::Returned => returned[at],
+            Quantity::Used => basin.rights[at].volume.is_some(),
+            Quantity::Outflow => basin.nodes[at].outlet,
+            Quantity::Opening | Quantity::Evaporated | Quantity::Flow | Quantity::Closing => true,
+        }
+    }
+}
+
+/// For each node, whether some return row names it; behind the nodes nothing is marked. It goes over the rows once, and
+/// takes no memory.
+pub fn returned_to(basin: &Basin) -> [bool; MOST_NODES]
+    requires { IsValidBasin basin.now }
+    ensures { AreReturnedTo basin.now result }
+{
+    let mut marks = [false; MOST_NODES];
+    for row in basin.returns.as_slice() {
+        marks[row.node as usize] = true;
+    }
+    marks
 }

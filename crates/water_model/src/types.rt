@@ -9,6 +9,9 @@ use water_text::day::Day;
 use water_text::month::Month;
 use water_text::name::Name;
 
+/// The most nodes that a valid basin has.
+pub const MOST_NODES: usize = 2000;
+
 /// A place of the basin where water comes together. Water that reaches an outlet leaves the basin.
 #[derive(Drop)]
 pub struct Node {

@@ -1,5 +1,5 @@
 -- Months are read as they are spelled, and spelled as they are read.
-use Rattle.std.proofs.Common.{◌≡◌, ℕ, ◌+◌, ◌-◌, ◌*◌, ◌/◌, ◌%◌, ◌<◌, ◌≤◌, Bool, true, false, refl, sym, ap, ◌∙◌, arith}
+use Rattle.std.proofs.Common.{◌≡◌, ℕ, ◌+◌, ◌*◌, ◌/◌, ◌%◌, ◌<◌, ◌≤◌, Bool, true, false, refl, sym, ap, ◌∙◌, arith}
 use Rattle.std.proofs.Common.{List, [], ◌∷◌, ◌++◌, length, subst}
 use Rattle.std.specs.Prelude.{Some, None, ◌&&◌, ◌==◌, nat_le, codes, slice_range, if◌then◌else◌}
 use Rattle.std.specs.Char.{digit_value, is_ascii_digit}
@@ -36,8 +36,12 @@ length-month_digits m h =
     ap (λ ds. length (ds ++ (45 ∷ (48 + m.month / 10) ∷ (48 + m.month % 10) ∷ [])))
     (decimal_year m.year (omega (arith, h.year)) (omega (arith, h.year)))
 
+-- months of one year and one number are one
+pub same_month : (m n : Month) → m.year ≡ n.year → m.month ≡ n.month → m ≡ n
+same_month m n years months = λ i. record { year = years i; month = months i }
+
 -- a number below ten has a digit
-is_digit : (d : ℕ) → d < 10 → is_ascii_digit (48 + d) ≡ true
+pub is_digit : (d : ℕ) → d < 10 → is_ascii_digit (48 + d) ≡ true
 is_digit d h = grind (arith, nat_tests)
 
 -- six digits round a dash have the shape of a month
@@ -48,7 +52,7 @@ spelling_has_shape a b c d e f ha hb hc hd he hf =
     rw (is_digit a ha, is_digit b hb, is_digit c hc, is_digit d hd, is_digit e he, is_digit f hf) refl
 
 -- two digits have the value that they spell
-two_digits : (m : ℕ) → m ≤ 99 → digits_value 10 ((48 + m / 10) ∷ (48 + m % 10) ∷ []) ≡ m
+pub two_digits : (m : ℕ) → m ≤ 99 → digits_value 10 ((48 + m / 10) ∷ (48 + m % 10) ∷ []) ≡ m
 two_digits m h =
     let tens : digit_value (48 + m / 10) + 48 ≡ 48 + m / 10 =
     digit_value_digit (48 + m / 10) (omega arith, omega arith) in
@@ -82,7 +86,7 @@ read_month-month_digits m h =
     rw (year_is, shape, year, month, passes m h) refl
 
 -- a month that passes the test is within the range
-is_within : (m : Month) → is_month m ≡ true → IsMonth m
+pub is_within : (m : Month) → is_month m ≡ true → IsMonth m
 is_within m h = record {
   year = (grind (arith, nat_tests), grind (arith, nat_tests));
   month = (grind (arith, nat_tests), grind (arith, nat_tests));

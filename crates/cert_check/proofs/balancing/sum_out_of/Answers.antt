@@ -3,7 +3,7 @@ use Rattle.std.specs.Prelude.{◌==◌, slice_index}
 use Rattle.water_model.specs.Basin.{tail_of, takes_at}
 use Rattle.water_model.specs.Plans.{outflow_from, taken_at}
 use Rattle.place_sums.proofs.Totals.{total_where_most}
-use Rattle.month_terms.proofs.Adds.{no_numbers}
+use Rattle.water_model.proofs.Lists.{no_numbers}
 use Rattle.cert_check.proofs.balancing.sum_out_of.Goals as goal
 
 pub add_outflows-requires-clause-small : goal.add_outflows-requires-clause-small

@@ -2,13 +2,13 @@ use Rattle.std.proofs.Common.{◌≡◌, sym, refl, ap, subst, ◌∙◌, [], Li
 use Rattle.std.specs.Prelude.{slice_index}
 use Rattle.std.proofs.lemmas.List.{length-map, length-replicate}
 use Rattle.lag_returns.specs.Lags as lag
-use Rattle.month_terms.proofs.Adds.{no_numbers}
 use Rattle.month_terms.proofs.WaterYears.{nothing_used}
 use Rattle.result_reader.specs.Telling.{nothing_told}
 use Rattle.cert_check.specs.Beginning.{IsBlank}
 use Rattle.cert_check.specs.Keeping.{Keeps}
 use Rattle.cert_check.specs.declared.account.Account.{Account}
 use Rattle.cert_check.proofs.Fitting.{nobody, none_answered, none_settled}
+use Rattle.water_model.proofs.Lists.{no_numbers}
 use Rattle.cert_check.proofs.opening.blank_account.Goals as goal
 
 clash : {X : Type 0} → false ≡ true → X

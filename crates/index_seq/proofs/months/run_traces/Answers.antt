@@ -1,11 +1,11 @@
 use Rattle.std.proofs.Common.{◌≡◌, ◌∙◌, ◌+◌, ℕ, List, arith, sym, subst}
-use Rattle.senior_hold.proofs.Lists.{whole_rows}
 use Rattle.index_seq.specs.Sums.{HaveSums, IsEmptyYear}
 use Rattle.index_seq.specs.Traces.{years_of}
 use Rattle.index_seq.proofs.Running.{within_steps, one_step, sums_start}
 use Rattle.index_seq.proofs.Turning.{turn_of_same}
 use Rattle.index_seq.proofs.months.run_traces.Goals as goal
 use Rattle.month_fold.specs.Runs.{run_pushes}
+use Rattle.water_model.proofs.Lists.{whole_rows}
 
 pub returns-in_err-engine-clause-pushes : goal.returns-in_err-engine-clause-pushes
 returns-in_err-engine-clause-pushes g c =

@@ -1,7 +1,7 @@
 use Rattle.std.proofs.Common.{◌∙◌, [], ◌∷◌, ◌++◌, sym, ap, subst, arith, length, List, ℕ}
 use Rattle.std.specs.Prelude.{slice_index}
 use Rattle.month_terms.specs.Terms.{HasUsed}
-use Rattle.senior_hold.proofs.Lists.{whole_rows}
+use Rattle.water_model.proofs.Lists.{whole_rows}
 use Rattle.month_fold.proofs.next.use_volumes.Goals as goal
 
 pub returns : goal.returns

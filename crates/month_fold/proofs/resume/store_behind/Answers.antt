@@ -1,8 +1,8 @@
 use Rattle.std.proofs.Common.{◌∙◌, ap, sym, length, map, List, ℕ}
 use Rattle.std.proofs.lemmas.List.{length-map}
-use Rattle.senior_hold.proofs.Lists.{whole_rows}
 use Rattle.water_model.specs.declared.types.Reservoir.{Reservoir}
 use Rattle.month_fold.proofs.Resuming.{last_at, stored_by_last, stored_by_none}
+use Rattle.water_model.proofs.Lists.{whole_rows}
 use Rattle.month_fold.proofs.resume.store_behind.Goals as goal
 
 pub copy_from_slice-requires : goal.copy_from_slice-requires

@@ -1,7 +1,7 @@
 use Rattle.std.proofs.Common.{◌∙◌, ap, length, map}
 use Rattle.std.specs.Prelude.{replicate}
-use Rattle.senior_hold.proofs.Lists.{whole_rows}
 use Rattle.month_fold.proofs.Resuming.{last_at, last_tells, used_by_last, used_by_zeros}
+use Rattle.water_model.proofs.Lists.{whole_rows}
 use Rattle.month_fold.proofs.resume.use_behind.Goals as goal
 
 pub use_last-requires-clause-index : goal.use_last-requires-clause-index

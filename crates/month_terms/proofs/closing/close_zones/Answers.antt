@@ -3,7 +3,8 @@ use Rattle.std.specs.Prelude.{slice_index}
 use Rattle.place_sums.proofs.Totals.{total_where_start}
 use Rattle.water_model.specs.History.{is_zone_of}
 use Rattle.place_sums.proofs.Totals.{total_where_most}
-use Rattle.month_terms.proofs.Adds.{zone_more, no_zone_more, zone_within, no_numbers}
+use Rattle.month_terms.proofs.Adds.{zone_more, no_zone_more, zone_within}
+use Rattle.water_model.proofs.Lists.{no_numbers}
 use Rattle.month_terms.proofs.closing.close_zones.Goals as goal
 use Rattle.month_terms.proofs.closing.close_zones.Goals.{in-Zone, in_default}
 

@@ -1,8 +1,8 @@
 use Rattle.std.proofs.Common.{◌≡◌, ◌+◌, ◌∙◌, sym, ap, length, true, false}
 use Rattle.std.specs.Prelude.{slice_index}
 use Rattle.water_model.specs.Hydrology.{begins_year}
-use Rattle.month_terms.proofs.Adds.{no_numbers}
 use Rattle.month_terms.proofs.WaterYears.{used_more, used_anew}
+use Rattle.water_model.proofs.Lists.{no_numbers}
 use Rattle.month_terms.proofs.used.use_month.Goals as goal
 
 pub returns-then-begins_year-clause-each : goal.returns-then-begins_year-clause-each

@@ -1,13 +1,13 @@
 use Rattle.std.proofs.Common.{◌≡◌, ◌+◌, ◌*◌, ◌≤◌}
 use Rattle.month_fold.specs.Runs.{GoesOn}
 use Rattle.senior_hold.specs.MonthNetwork.{month_pushes}
-use Rattle.reports.specs.Tallies.{IsTallyOf}
+use Rattle.reports.specs.Tallies.{IsKeptOf, IsTally}
 use Rattle.reports.proofs.months.tally_months.Given as goal
 
 abbrev pub invariant-loop-month : goal.invariant-loop-month
 invariant-loop-month g l = record {
   goes_on : GoesOn l.fn.run l.run;
   done : l.run.done ≡ l._month;
-  tally : IsTallyOf l.run l.tally;
+  tally : IsKeptOf IsTally l.run l.tally;
   pushes : l.searches ≤ l.fn.searches + l._month * month_pushes l.fn.run.basin;
 }

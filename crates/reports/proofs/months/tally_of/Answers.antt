@@ -8,5 +8,5 @@ pub tally_months-requires-clause-tally : goal.tally_months-requires-clause-tally
 tally_months-requires-clause-tally g c = record {
   records = [];
   stands = c.requires;
-  tally = rw c.basin.ensures.value at (c.in_ok-tally.ensures c.args.run.now.series);
+  is = rw c.basin.ensures.value at (c.in_ok-tally.ensures c.args.run.now.series);
 }

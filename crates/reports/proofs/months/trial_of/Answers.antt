@@ -8,5 +8,5 @@ pub try_months-requires-clause-trial : goal.try_months-requires-clause-trial
 try_months-requires-clause-trial g c = record {
   records = [];
   stands = c.requires;
-  trial = rw c.basin.ensures.value at (c.in_ok-trial.ensures c.args.run.now.series);
+  is = rw c.basin.ensures.value at (c.in_ok-trial.ensures c.args.run.now.series);
 }

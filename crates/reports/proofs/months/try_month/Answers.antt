@@ -1,4 +1,5 @@
-use Rattle.reports.proofs.Loops.{next_trial, trial_more}
+use Rattle.reports.specs.Tallies.{IsTrial}
+use Rattle.reports.proofs.Loops.{kept_before, kept_more}
 use Rattle.reports.proofs.months.try_month.Goals as goal
 
 pub add-requires-clause-series : goal.add-requires-clause-series
@@ -10,14 +11,14 @@ add-requires-clause-roll g c = rw c.basin.ensures.value c.roll.ensures
 pub add-requires-clause-next : goal.add-requires-clause-next
 add-requires-clause-next g c =
     rw (c.basin.ensures.value, c.series.ensures.value, c.month.ensures)
-    (next_trial c.args.run.now c.step.new.self c.args.trial.now (record {
+    (kept_before IsTrial c.args.run.now c.step.new.self c.args.trial.now (record {
       basin = c.step.ensures.basin;
       series = c.step.ensures.series;
     }) c.requires.trial c.step.ensures.month)
 
 pub returns-clause-trial : goal.returns-clause-trial
 returns-clause-trial g c =
-    trial_more c.args.run.now c.step.new.self c.args.trial.now (record {
+    kept_more IsTrial c.args.run.now c.step.new.self c.args.trial.now (record {
       basin = c.step.ensures.basin;
       series = c.step.ensures.series;
     }) c.requires.trial c.step.ensures.month c.add.new.self

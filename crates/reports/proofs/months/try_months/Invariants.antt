@@ -1,13 +1,13 @@
 use Rattle.std.proofs.Common.{◌≡◌, ◌+◌, ◌*◌, ◌≤◌}
 use Rattle.month_fold.specs.Runs.{GoesOn}
 use Rattle.senior_hold.specs.MonthNetwork.{month_pushes}
-use Rattle.reports.specs.Tallies.{IsTrialOf}
+use Rattle.reports.specs.Tallies.{IsKeptOf, IsTrial}
 use Rattle.reports.proofs.months.try_months.Given as goal
 
 abbrev pub invariant-loop-month : goal.invariant-loop-month
 invariant-loop-month g l = record {
   goes_on : GoesOn l.fn.run l.run;
   done : l.run.done ≡ l._month;
-  trial : IsTrialOf l.run l.trial;
+  trial : IsKeptOf IsTrial l.run l.trial;
   pushes : l.searches ≤ l.fn.searches + l._month * month_pushes l.fn.run.basin;
 }

@@ -1,8 +1,8 @@
 use Rattle.std.proofs.Common.{List, ℕ, subst}
 use Rattle.water_edge.specs.Edge.{Puts}
 use Rattle.reports.specs.Texts.{balance_front, balance_rest}
-use Rattle.water_edge.proofs.Puts.{Puts-then}
-use Rattle.reports.proofs.Written.{Puts-cut, balance_split}
+use Rattle.water_edge.proofs.Puts.{Puts-then, Puts-cut}
+use Rattle.reports.proofs.Written.{balance_split}
 use Rattle.reports.proofs.rows.put_balance.Goals as goal
 
 pub returns-in_err-put_front-clause-text : goal.returns-in_err-put_front-clause-text

@@ -2,10 +2,9 @@ use Rattle.std.proofs.Common.{List, ℕ, ◌++◌}
 use Rattle.std.specs.List.{flat_map}
 use Rattle.std.proofs.KnownBytes.{Appends-trans}
 use Rattle.water_model.specs.Places.{seniors_first}
-use Rattle.water_edge.proofs.Puts.{PutsFront-then, Puts-then}
+use Rattle.water_edge.proofs.Puts.{PutsFront-then, Puts-then, Puts-cut}
 use Rattle.reports.specs.Reports.{balance_row, done_row}
 use Rattle.reports.specs.Texts.{run_row, row_in}
-use Rattle.reports.proofs.Written.{Puts-cut}
 use Rattle.reports.proofs.texts.put_report.Goals as goal
 
 pub returns-in_err-put_rights-clause-text : goal.returns-in_err-put_rights-clause-text

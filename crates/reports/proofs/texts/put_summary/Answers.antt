@@ -1,9 +1,8 @@
 use Rattle.std.proofs.Common.{◌++◌}
 use Rattle.std.proofs.KnownBytes.{Appends-trans}
-use Rattle.water_edge.proofs.Puts.{PutsFront-then, Puts-then}
+use Rattle.water_edge.proofs.Puts.{PutsFront-then, Puts-then, Puts-cut}
 use Rattle.reports.specs.Reports.{balance_row, done_row}
 use Rattle.reports.specs.Texts.{made_rows, amount_rows, count_rows}
-use Rattle.reports.proofs.Written.{Puts-cut}
 use Rattle.reports.proofs.texts.put_summary.Goals as goal
 
 pub returns-in_err-put_totals-clause-text : goal.returns-in_err-put_totals-clause-text

@@ -5,7 +5,7 @@ pub totals_of-totals-requires : goal.totals_of-totals-requires
 totals_of-totals-requires g c =
     let all = rw (c.in-Ok.ensures.basin, c.in-Ok.ensures.series) at c.in-Ok-trial_of.ensures.trial in
     totals_room c.args.basin.now c.args.series.now all.records c.in-Ok-trial_of.trial.tally c.requires.basin
-    c.requires.series all.run.history.partial all.trial.tally
+    c.requires.series all.run.history.partial all.is.tally
 
 pub returns-in-Ok-put_summary-clause-text : goal.returns-in-Ok-put_summary-clause-text
 returns-in-Ok-put_summary-clause-text g c =
@@ -14,7 +14,7 @@ returns-in-Ok-put_summary-clause-text g c =
     (g.K.Sink.taken c.args.sink.now) (g.K.Sink.taken c.put_summary.new.sink) all.run
     (summary_told c.args.number c.args.size c.args.basin.now c.args.series.now all.records c.in-Ok-trial_of.trial.tally
     c.totals_of-totals.result c.in-Ok-trial_of.trial.called
-    all.trial.tally all.trial.called c.totals_of-totals.ensures.short_months c.totals_of-totals.ensures.wanted
+    all.is.tally all.is.called c.totals_of-totals.ensures.short_months c.totals_of-totals.ensures.wanted
     c.totals_of-totals.ensures.delivered)
     c.in-Ok-put_summary.ensures.text
 
@@ -25,6 +25,6 @@ returns-clause-text g c =
     (g.K.Sink.taken c.args.sink.now) (g.K.Sink.taken c.put_summary.new.sink) all.run
     (summary_told c.args.number c.args.size c.args.basin.now c.args.series.now all.records c.in-Ok-trial_of.trial.tally
     c.totals_of-totals.result c.in-Ok-trial_of.trial.called
-    all.trial.tally all.trial.called c.totals_of-totals.ensures.short_months c.totals_of-totals.ensures.wanted
+    all.is.tally all.is.called c.totals_of-totals.ensures.short_months c.totals_of-totals.ensures.wanted
     c.totals_of-totals.ensures.delivered)
     c.in-Err-put_summary.ensures.text

@@ -1,6 +1,6 @@
 use Rattle.std.proofs.Common.{arith, sym, ◌∙◌}
 use Rattle.river_net.specs.Search.{reaches_itself}
-use Rattle.river_net.proofs.Finds.{find_first, find_none}
+use Rattle.water_model.proofs.Finds.{find_first, find_none}
 use Rattle.river_net.proofs.cycle.node_on_cycle.Goals as goal
 
 pub returns-then-branch : goal.returns-then-branch

@@ -2,13 +2,13 @@ use Rattle.std.proofs.Common.{◌≡◌, ◌∙◌, ◌<◌, ℕ, List, length, 
 use Rattle.std.proofs.lemmas.List.{with_items_is}
 use Rattle.circulation.specs.Contents.{on_last}
 use Rattle.senior_hold.specs.Spilled.{spilled}
-use Rattle.senior_hold.proofs.Lists.{whole_rows}
 use Rattle.senior_hold.proofs.SpilledArcs.{spilled_count}
 use Rattle.water_model.proofs.Carries.{carry_most}
 use Rattle.senior_hold.proofs.Begins.{start_is, river_plan, bounds_over, amounts_over}
 use Rattle.senior_hold.proofs.Spilled.{spilled_wants}
 use Rattle.senior_hold.proofs.SpilledStarts.{held_arcs, last_all}
 use Rattle.senior_hold.proofs.SearchedPlans.{plan_up, outlets_most, outlets_small, begun}
+use Rattle.water_model.proofs.Lists.{whole_rows}
 use Rattle.senior_hold.proofs.search_sweep.begin_river.Goals as goal
 
 pub lend_month-requires-clause-few : goal.lend_month-requires-clause-few

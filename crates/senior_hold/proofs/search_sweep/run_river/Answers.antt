@@ -1,7 +1,7 @@
 use Rattle.std.proofs.Common.{◌∙◌, ℕ, List, ◌<◌, ◌≤◌, ◌^◌, length, slice_index, arith, ap, sym, subst}
 use Rattle.water_model.specs.RunOfRiver.{IsRunOfRiver}
-use Rattle.senior_hold.proofs.Lists.{whole_rows}
 use Rattle.senior_hold.proofs.Rivers.{net_of_some, supply_small, made_whole, river_is, out_small}
+use Rattle.water_model.proofs.Lists.{whole_rows}
 use Rattle.senior_hold.proofs.search_sweep.run_river.Goals as goal
 
 pub natural-requires-clause-net : goal.natural-requires-clause-net

@@ -1,9 +1,9 @@
 use Rattle.std.proofs.Common.{◌≡◌, ◌∙◌, ◌^◌, ◌<◌, ℕ, List, length, slice_index, arith, ap}
 use Rattle.std.proofs.lemmas.List.{with_items_is, get_or-replicate}
 use Rattle.senior_hold.specs.Spilled.{spilled}
-use Rattle.senior_hold.proofs.Lists.{whole_rows}
 use Rattle.senior_hold.proofs.Begins.{bounds_over}
 use Rattle.senior_hold.proofs.SpilledStarts.{held_arcs, supplies_few, spilled_begins, spilled_begun}
+use Rattle.water_model.proofs.Lists.{whole_rows}
 use Rattle.senior_hold.proofs.tree_sweep.begin_spilled.Goals as goal
 
 pub lend_month-requires-clause-few : goal.lend_month-requires-clause-few

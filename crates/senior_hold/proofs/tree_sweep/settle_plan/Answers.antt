@@ -3,10 +3,10 @@ use Rattle.water_model.specs.RunOfRiver.{RunsNaturally}
 use Rattle.circulation.specs.Contents.{flow_of}
 use Rattle.river_net.specs.Net.{total_of}
 use Rattle.senior_hold.specs.Spilled.{spills_of, IsSettledPlan}
-use Rattle.senior_hold.proofs.Lists.{whole_rows}
 use Rattle.senior_hold.proofs.Plans.{list_get}
 use Rattle.senior_hold.proofs.Rivers.{made_whole}
 use Rattle.senior_hold.proofs.SpilledArcs.{spilled_arcs}
+use Rattle.water_model.proofs.Lists.{whole_rows}
 use Rattle.senior_hold.proofs.tree_sweep.settle_plan.Goals as goal
 
 pub read_spills-requires-clause-spills : goal.read_spills-requires-clause-spills

@@ -17,7 +17,7 @@ overflow_add-self c =
       arith,
       called_room c.args.basin.now next.records c.args.month.now c.requires.basin
           (omega (arith, next.partial.within, length-append next.records (c.args.month.now ∷ []))),
-      next.trial.called,
+      next.is.called,
       c.called_in.ensures.value,
     )
 

@@ -10,21 +10,21 @@ add_rights-requires-clause-want c =
     let next = c.requires.next in
     let follows = last_follows c.args.basin.now c.args.series.now next.records c.args.month.now next.partial in
     follows.fits.want
-    ∙ sym (entries_count (figures_of next.records) c.args.basin.now.rights c.args.self.now.rights next.tally.rights)
+    ∙ sym (entries_count (figures_of next.records) c.args.basin.now.rights c.args.self.now.rights next.is.rights)
 
 pub add_rights-requires-clause-delivered : goal.add_rights-requires-clause-delivered
 add_rights-requires-clause-delivered c =
     let next = c.requires.next in
     let follows = last_follows c.args.basin.now c.args.series.now next.records c.args.month.now next.partial in
     follows.fits.delivered
-    ∙ sym (entries_count (figures_of next.records) c.args.basin.now.rights c.args.self.now.rights next.tally.rights)
+    ∙ sym (entries_count (figures_of next.records) c.args.basin.now.rights c.args.self.now.rights next.is.rights)
 
 pub add_rights-requires-clause-room : goal.add_rights-requires-clause-room
 add_rights-requires-clause-room c = λ right figures at.
     let next = c.requires.next in
     let told =
     entry_told (figures_of next.records) c.args.basin.now.rights c.args.self.now.rights right figures
-    next.tally.rights at in
+    next.is.rights at in
     right_room c.args.basin.now c.args.series.now next.records c.args.month.now right figures c.requires.basin
     c.requires.series next.partial told.0 told.1
 
@@ -43,7 +43,7 @@ pub with_month-self-requires-clause-room : goal.with_month-self-requires-clause-
 with_month-self-requires-clause-room c =
     let next = c.requires.next in
     month_room c.args.basin.now c.args.series.now next.records c.args.month.now c.args.self.now.waters c.requires.basin
-    c.requires.series next.partial next.tally.waters
+    c.requires.series next.partial next.is.waters
 
 pub returns : goal.returns
 returns c = λ records is. record {

@@ -1,6 +1,6 @@
 use Rattle.std.proofs.Common.{◌≡◌, ℕ, false, replicate, refl, zero, suc}
 use Rattle.water_model.specs.Lookups.{has}
-use Rattle.result_text.proofs.section.returned_to.Goals as goal
+use Rattle.water_model.proofs.quantity.returned_to.Goals as goal
 
 -- nothing is marked
 none_marked : (count n : ℕ) → has (replicate count false) n ≡ false

@@ -1,28 +1,28 @@
 use Rattle.std.proofs.Common.{◌≡◌, ◌∙◌, ap, arith, length, get_or}
 use Rattle.std.specs.Prelude.{slice_index}
 use Rattle.std.proofs.lemmas.List.{get_or-replicate}
+use Rattle.water_model.proofs.Lists.{no_numbers}
 use Rattle.lag_returns.proofs.ValidRows.{valid_rows, arrivals_are_returns}
-use Rattle.month_terms.proofs.Adds.{no_numbers}
-use Rattle.cert_check.proofs.entering.bring_back.Goals as goal
+use Rattle.lag_returns.proofs.Lags.write_arrivals.Goals as goal
 
 pub arrive-requires-clause-room : goal.arrive-requires-clause-room
 arrive-requires-clause-room c = λ k d l.
     let none : get_or c.fill.new.self k d ≡ 0 =
     ap (λ xs. get_or xs k d) (c.fill.ensures.after (λ y h. h))
-    ∙ get_or-replicate (length c.args.comes.now) k 0 d (omega (arith, c.fill.ensures.len)) in
+    ∙ get_or-replicate (length c.args.returned.now) k 0 d (omega (arith, c.fill.ensures.len)) in
     omega (arith, none, ap length c.requires.rows, (valid_rows c.args.basin.now c.requires.basin).few)
 
 pub returns-clause-each : goal.returns-clause-each
 returns-clause-each c = λ deliveries stands. record {
-  count = c.arrive.ensures.length ∙ (c.fill.ensures.len ∙ c.requires.comes);
+  count = c.arrive.ensures.length ∙ (c.fill.ensures.len ∙ c.requires.returned);
   each = λ n l.
       let none : slice_index c.fill.new.self n ≡ 0 =
-      ap (λ xs. slice_index xs n) (c.fill.ensures.after (λ y h. h)) ∙ no_numbers (length c.args.comes.now) n in
+      ap (λ xs. slice_index xs n) (c.fill.ensures.after (λ y h. h)) ∙ no_numbers (length c.args.returned.now) n in
       omega (
         arith,
         none,
         arrivals_are_returns c.args.basin.now deliveries n,
         c.arrive.ensures.adds c.args.basin.now.returns deliveries stands n
-            (omega (arith, c.fill.ensures.len, c.requires.comes)),
+            (omega (arith, c.fill.ensures.len, c.requires.returned)),
       );
 }
