@@ -12,7 +12,6 @@ use Rattle.water_model.specs.declared.types.Inflows.{Inflows}
 use Rattle.water_model.specs.declared.types.MonthRecord.{MonthRecord}
 use Rattle.basin_cli.specs.declared.ending.Ending.{Ending}
 use Rattle.basin_cli.specs.declared.ending.Ending.TheVariants as ending
-use Rattle.basin_cli.specs.declared.ending.SecondFinding.TheVariants as of_second
 use Rattle.basin_cli.specs.Actions.{EndsAsking, IsAnswered}
 use Rattle.basin_cli.specs.Command.{Files}
 use Rattle.basin_cli.specs.Ending.{status_of}
@@ -37,8 +36,8 @@ month_of b series month name right m about =
     let follows = last_follows b series is.before m is.partial in (
       m.index,
       record {
-        within = omega (arith, follows.index, is.partial.within, length-append is.before (m ∷ []));
-        is = sym follows.month ∙ is.is;
+        within = omega (arith, follows.behind.index, is.partial.within, length-append is.before (m ∷ []));
+        is = sym follows.behind.month ∙ is.is;
       },
     )
 

@@ -32,9 +32,9 @@ last_record b series run index same fits done last = record {
   before = last.before;
   partial = partial;
   reaches = rw (← same) last.stands.reaches;
-  is = follows.month
+  is = follows.behind.month
       ∙ ap (run_month b)
-      (omega (arith, follows.index, done, last.stands.done, length-append last.before (run.last ∷ [])));
+      (omega (arith, follows.behind.index, done, last.stands.done, length-append last.before (run.last ∷ [])));
 }
   where
     partial : IsPartialHistory b series (last.before ++ run.last ∷ [])
@@ -97,11 +97,11 @@ one_answer b series month name right other m n valid one two short =
     second = last_follows b series two.of_month.before n two.of_month.partial
 
     index : m.index ≡ n.index
-    index = one_index b month m.index n.index valid (sym first.month ∙ one.of_month.is)
-        (sym second.month ∙ two.of_month.is)
+    index = one_index b month m.index n.index valid (sym first.behind.month ∙ one.of_month.is)
+        (sym second.behind.month ∙ two.of_month.is)
 
     place : length one.of_month.before ≡ length two.of_month.before
-    place = sym first.index ∙ (index ∙ second.index)
+    place = sym first.behind.index ∙ (index ∙ second.behind.index)
 
     outcome : HaveSameOutcome m n
     outcome =

@@ -91,7 +91,13 @@ same_partial b series other records same partial = record {
   where
     in_run : (i : ℕ) (m : MonthRecord) → slice_get records i ≡ Some m → Follows b series (take i records) m →
         m.index < b.months
-    in_run i m at f = omega (arith, f.index, length-take i records, slice_get_within records i m at, partial.within)
+    in_run i m at f = omega (
+      arith,
+      f.behind.index,
+      length-take i records,
+      slice_get_within records i m at,
+      partial.within,
+    )
 
 -- a history with one series is one with the other
 pub same_history : (b : Basin) (series other : Inflows) (records : List MonthRecord) → GiveSame b series other →

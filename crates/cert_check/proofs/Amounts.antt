@@ -86,7 +86,7 @@ whole_supply b series before m valid fits partial f =
     let same = total_same (length b.nodes) (λ n. slice_index m.supply n)
     (λ n. inflow_at b series n m.index + returned_at b (map (λ k. k.delivered) before) n m.index + stored_at b
     (opening_after b before) m.evaporated n)
-    (λ n l. f.supply n l ∙ rw (f.returned n l, f.opening) refl) in
+    (λ n l. f.behind.supply n l ∙ rw (f.behind.returned n l, f.opening) refl) in
     omega (arith, small, same)
 
 pub history_amounts : (b : Basin) (series : Inflows) (before : List MonthRecord) (m : MonthRecord) → IsValidBasin b →
@@ -94,13 +94,13 @@ pub history_amounts : (b : Basin) (series : Inflows) (before : List MonthRecord)
     length before < b.months → Follows b series before m → HasTextAmounts m
 history_amounts b series before m valid fits partial left f = record {
   listed = listed;
-  delivered = all_small m.delivered (length b.rights) f.fits.delivered
+  delivered = all_small m.delivered (length b.rights) f.behind.fits.delivered
       (λ r l. omega (arith, (follows_small b series before m valid fits f).delivered r));
-  want = all_small m.want (length b.rights) f.fits.want (λ r l. omega (arith, wanted r l));
+  want = all_small m.want (length b.rights) f.behind.fits.want (λ r l. omega (arith, wanted r l));
 }
   where
     month : IsMonth m.month
-    month = subst IsMonth (sym f.month) (IsMonth-run_month b m.index valid.run (omega (arith, f.index)))
+    month = subst IsMonth (sym f.behind.month) (IsMonth-run_month b m.index valid.run (omega (arith, f.behind.index)))
 
     opening : (v : ℕ) → v < length b.reservoirs → slice_index m.opening v ≤ 10 ^ 15
     opening v l = rw (f.opening) (opening_small b series before valid fits partial v l)
@@ -110,7 +110,7 @@ history_amounts b series before m valid fits partial left f = record {
         let entry = entry_at b.reservoirs v l in
         let is : slice_index m.evaporated v ≡ evaporation entry.0.area (slice_index m.opening v)
         (slice_index entry.0.rate (in_year b m.index)) =
-        f.evaporated v l
+        f.behind.evaporated v l
         ∙ ap (λ o. unwrap_or
         (option_map
         (λ (r : reservoir.Reservoir). evaporation r.area (slice_index m.opening v)
@@ -118,36 +118,36 @@ history_amounts b series before m valid fits partial left f = record {
         omega (arith, is, opening v l)
 
     wanted : (r : ℕ) → r < length b.rights → slice_index m.want r ≤ 10 ^ 9
-    wanted r l = rw (f.want r l) (want_most b series r m.index (slice_index m.used r) valid fits l)
+    wanted r l = rw (f.behind.want r l) (want_most b series r m.index (slice_index m.used r) valid fits l)
 
     listed : (q : Quantity) → AreTextAmounts (amounts_of q m)
-    listed quantity.Opening = all_small m.opening (length b.reservoirs) f.fits.opening opening
-    listed quantity.Evaporated = all_small m.evaporated (length b.reservoirs) f.fits.evaporated evaporated
-    listed quantity.Returned = all_small m.returned (length b.nodes) f.fits.returned (λ n l. omega (
+    listed quantity.Opening = all_small m.opening (length b.reservoirs) f.behind.fits.opening opening
+    listed quantity.Evaporated = all_small m.evaporated (length b.reservoirs) f.behind.fits.evaporated evaporated
+    listed quantity.Returned = all_small m.returned (length b.nodes) f.behind.fits.returned (λ n l. omega (
       arith,
-      f.returned n l,
+      f.behind.returned n l,
       term_le_total (length b.nodes) (λ n. returned_at b (map (λ k. k.delivered) before) n m.index) n l,
       returns_small b (map (λ k. k.delivered) before) m.index valid
           (deliveries_small b series before valid fits partial),
     ))
-    listed quantity.Used = all_small m.used (length b.rights) f.fits.used
+    listed quantity.Used = all_small m.used (length b.rights) f.behind.fits.used
         (λ r l. omega (
           arith,
-          f.used r l,
+          f.behind.used r l,
           used_most b (map (λ k. k.delivered) before) r m.index (10 ^ 9)
               (deliveries_small b series before valid fits partial r),
-          f.index,
+          f.behind.index,
           valid.run.months.1,
         ))
-    listed quantity.Flow = all_small m.plan.flow (length b.links) f.plan.flow_len
-        (λ e l. omega (arith, f.plan.carries e l, carry_most b m.month e valid month l))
-    listed quantity.Outflow = all_small m.plan.out (length b.nodes) f.plan.out_len (λ n l. omega (
+    listed quantity.Flow = all_small m.plan.flow (length b.links) f.behind.plan.flow_len
+        (λ e l. omega (arith, f.behind.plan.carries e l, carry_most b m.month e valid month l))
+    listed quantity.Outflow = all_small m.plan.out (length b.nodes) f.behind.plan.out_len (λ n l. omega (
       arith,
       term_le_total (length b.nodes) (λ n. slice_index m.plan.out n) n l,
-      plan_balance b m.month m.supply m.want m.plan valid f.plan,
+      plan_balance b m.month m.supply m.want m.plan valid f.behind.plan,
       whole_supply b series before m valid fits partial f,
     ))
-    listed quantity.Closing = all_small m.closing (length b.reservoirs) f.fits.closing
+    listed quantity.Closing = all_small m.closing (length b.reservoirs) f.behind.fits.closing
         (closing_small b series before m valid fits f)
 
 -- the records of a history are such as a text tells

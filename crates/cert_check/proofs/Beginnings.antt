@@ -1,16 +1,14 @@
 -- What a checker begins with.
-use Rattle.std.proofs.Common.{◌≡◌, ℕ, ◌+◌, ◌≤◌, Bool, true, false, refl, ap, ◌∙◌, arith, List, [], ◌∷◌}
-use Rattle.std.proofs.Common.{length, replicate, filter, add-one, zero-add}
-use Rattle.std.specs.Prelude.{Option, None, ◌&&◌, nat_le, if◌then◌else◌}
+use Rattle.std.proofs.Common.{◌≡◌, ℕ, ◌+◌, ◌≤◌, Bool, true, false, refl, ap, ◌∙◌, arith, [], ◌∷◌, filter}
+use Rattle.std.proofs.Common.{add-one, zero-add}
+use Rattle.std.specs.Prelude.{◌&&◌, nat_le, if◌then◌else◌}
 use Rattle.std.specs.List.{list_all}
 use Rattle.std.proofs.lemmas.Bool.Decides.{nat_tests}
-use Rattle.std.proofs.lemmas.List.{length-replicate}
 use Rattle.std.proofs.lemmas.List.Folds.{list_all-append}
 use Rattle.std.proofs.lemmas.List.Elements.{filter-append}
-use Rattle.month_terms.specs.Blank.{blank_record}
 use Rattle.month_terms.proofs.BlankRecords.{blank_fits}
 use Rattle.water_model.proofs.Lists.{numbers_more}
-use Rattle.water_model.specs.CutSets.{CutSets}
+use Rattle.water_model.specs.Blank.{blank_month}
 use Rattle.water_model.specs.Places.{numbers_from}
 use Rattle.water_model.specs.Valid.{IsValidBasin}
 use Rattle.water_model.specs.declared.types.Basin.{Basin}
@@ -59,14 +57,11 @@ most_more false k last l = omega arith
 
 -- An account of nothing.
 
-pub blank_is : (b : Basin) (cuts : CutSets) (rights nodes : ℕ) → IsValidBasin b →
-    cuts ≡ record { nodes = nodes; sets = replicate rights None } → rights ≡ length b.rights → nodes ≡ length b.nodes →
-    IsBlank b (blank_record b cuts)
-blank_is b cuts rights nodes valid h r n = record {
-  fits = blank_fits b cuts (ap (λ k. length k.sets) h ∙ (length-replicate {A = Option (List Bool)} rights None ∙ r))
-      (ap (λ k. k.nodes) h ∙ n);
+pub blank_is : (b : Basin) → IsValidBasin b → IsBlank b (blank_month b 0 b.first)
+blank_is b valid = record {
+  fits = blank_fits b 0 b.first;
   calendar = valid.run.first;
-  shows = assumption (ap (λ k. k.sets) h ∙ ap (λ k. replicate {A = Option (List Bool)} k None) r);
+  shows = assumption (refl);
 }
 
 -- a book of no line

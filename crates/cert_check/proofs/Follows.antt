@@ -74,17 +74,17 @@ pub follows_good : (b : Basin) (series : Inflows) (before : List MonthRecord) (m
     Follows b series before m → IsTextMonth b series before m → IsGoodMonth b series before m
 follows_good b series before m f t = record {
   opening = λ x h. ap (λ xs. slice_index xs x) f.opening;
-  evaporated = λ x h. f.evaporated x (has-with_line b quantity.Evaporated x h).0;
-  returned = λ x h. f.returned x (has-with_line b quantity.Returned x h).0;
-  used = λ x h. f.used x (has-with_line b quantity.Used x h).0;
+  evaporated = λ x h. f.behind.evaporated x (has-with_line b quantity.Evaporated x h).0;
+  returned = λ x h. f.behind.returned x (has-with_line b quantity.Returned x h).0;
+  used = λ x h. f.behind.used x (has-with_line b quantity.Used x h).0;
   flow = λ x h. le-ltb (carry_of b m.month x) (slice_index m.plan.flow x)
-      (f.plan.carries x (has-with_line b quantity.Flow x h).0);
+      (f.behind.plan.carries x (has-with_line b quantity.Flow x h).0);
   deliver =
       λ x h. (let l = seniors_below b.rights x h in
-      (f.want x l, amount_right b m x (instream_link b x) (f.plan.wants x l) (f.delivered x l)));
+      (f.behind.want x l, amount_right b m x (instream_link b x) (f.behind.plan.wants x l) (f.behind.delivered x l)));
   balance =
       λ n l. eq-eqb (slice_index m.supply n + inflow_to b m.plan.flow n)
-      (outflow_from b m.plan.flow n + taken_at b m.plan.take n + slice_index m.plan.out n) (f.plan.balance n l);
+      (outflow_from b m.plan.flow n + taken_at b m.plan.take n + slice_index m.plan.out n) (f.behind.plan.balance n l);
   sets = right_sets b series before m f t;
   closing = λ x h. f.closing x (has-with_line b quantity.Closing x h).0;
 }

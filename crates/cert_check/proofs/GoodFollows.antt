@@ -120,52 +120,54 @@ pub good_follows : (b : Basin) (series : Inflows) (before : List MonthRecord) (m
     m.index ≡ length before → m.month ≡ run_month b m.index → length (opening_after b before) ≡ length b.reservoirs →
     Follows b series before m
 good_follows b series before m valid a g index month opens = record {
-  fits = record {
-    opening = opening_len;
-    evaporated = listed_len quantity.Evaporated;
-    closing = listed_len quantity.Closing;
-    returned = listed_len quantity.Returned;
-    supply = sym (ap length a.supply)
-        ∙ (length-map (places_of b.nodes) supply_of ∙ length-numbers_from 0 (length b.nodes));
-    used = listed_len quantity.Used;
-    want = told_len (seniors_first b) _ (length b.rights) m.want a.want;
-    delivered = told_len (seniors_first b) _ (length b.rights) m.delivered a.delivered;
-    cuts = sym (ap length a.sets)
-        ∙ (length-put_sets (seniors_first b) (λ r. cut_of m r) (replicate (length b.rights) None)
-        ∙ length-replicate (length b.rights) None);
-    cut_nodes = a.nodes;
+  behind = record {
+    fits = record {
+      opening = opening_len;
+      evaporated = listed_len quantity.Evaporated;
+      closing = listed_len quantity.Closing;
+      returned = listed_len quantity.Returned;
+      supply = sym (ap length a.supply)
+          ∙ (length-map (places_of b.nodes) supply_of ∙ length-numbers_from 0 (length b.nodes));
+      used = listed_len quantity.Used;
+      want = told_len (seniors_first b) _ (length b.rights) m.want a.want;
+      delivered = told_len (seniors_first b) _ (length b.rights) m.delivered a.delivered;
+      cuts = sym (ap length a.sets)
+          ∙ (length-put_sets (seniors_first b) (λ r. cut_of m r) (replicate (length b.rights) None)
+          ∙ length-replicate (length b.rights) None);
+      cut_nodes = a.nodes;
+    };
+    index = index;
+    month = month;
+    evaporated = λ v l. g.evaporated v (with_line-has b quantity.Evaporated v l refl);
+    returned = λ n l. by_filter (λ k. has_line b quantity.Returned k) (in_order (space_of quantity.Returned) b) n
+        (slice_index m.returned n) (returned_at b (map (λ k. k.delivered) before) n m.index)
+        (in_order-has (space_of quantity.Returned) b n l) (g.returned n) (unlisted quantity.Returned n)
+        (nothing_returns b (map (λ k. k.delivered) before) n m.index);
+    supply = λ n l. sym (ap (λ xs. slice_index xs n) a.supply)
+        ∙ (map_at supply_of 0 (length b.nodes) n l ∙ ap supply_of (zero_more n));
+    used = λ r l. by_filter (λ k. has_line b quantity.Used k) (in_order (space_of quantity.Used) b) r
+        (slice_index m.used r) (used_of b (map (λ k. k.delivered) before) r m.index)
+        (in_order-has (space_of quantity.Used) b r l) (g.used r) (unlisted quantity.Used r)
+        (nothing_used b (map (λ k. k.delivered) before) r m.index);
+    want = λ r l. (g.deliver r (seniors_have b.rights r l)).0;
+    plan = record {
+      flow_len = listed_len quantity.Flow;
+      take_len = told_len (seniors_first b) _ (length b.rights) m.plan.take a.take;
+      out_len = listed_len quantity.Outflow;
+      carries = λ e l. ltb-false (carry_of b m.month e) (slice_index m.plan.flow e)
+          (g.flow e (with_line-has b quantity.Flow e l refl));
+      wants = λ r l. (right r l).most;
+      instream = λ r l e. (right r l).instream e;
+      outlets = λ n l e. unlisted quantity.Outflow n
+          (λ h. (let both : false ≡ true = sym e ∙ (has-with_line b quantity.Outflow n h).1 in cc));
+      balance =
+          λ n l. eqb-true (slice_index m.supply n + inflow_to b m.plan.flow n)
+          (outflow_from b m.plan.flow n + taken_at b m.plan.take n + slice_index m.plan.out n) (g.balance n l);
+    };
+    delivered = λ r l. (right r l).delivered;
   };
-  index = index;
-  month = month;
   opening = same_number_lists m.opening (opening_after b before) (opening_len
       ∙ sym opens) (λ k l. g.opening k (with_line-has b quantity.Opening k (omega (arith, opening_len)) refl));
-  evaporated = λ v l. g.evaporated v (with_line-has b quantity.Evaporated v l refl);
-  returned = λ n l. by_filter (λ k. has_line b quantity.Returned k) (in_order (space_of quantity.Returned) b) n
-      (slice_index m.returned n) (returned_at b (map (λ k. k.delivered) before) n m.index)
-      (in_order-has (space_of quantity.Returned) b n l) (g.returned n) (unlisted quantity.Returned n)
-      (nothing_returns b (map (λ k. k.delivered) before) n m.index);
-  supply = λ n l. sym (ap (λ xs. slice_index xs n) a.supply)
-      ∙ (map_at supply_of 0 (length b.nodes) n l ∙ ap supply_of (zero_more n));
-  used = λ r l. by_filter (λ k. has_line b quantity.Used k) (in_order (space_of quantity.Used) b) r
-      (slice_index m.used r) (used_of b (map (λ k. k.delivered) before) r m.index)
-      (in_order-has (space_of quantity.Used) b r l) (g.used r) (unlisted quantity.Used r)
-      (nothing_used b (map (λ k. k.delivered) before) r m.index);
-  want = λ r l. (g.deliver r (seniors_have b.rights r l)).0;
-  plan = record {
-    flow_len = listed_len quantity.Flow;
-    take_len = told_len (seniors_first b) _ (length b.rights) m.plan.take a.take;
-    out_len = listed_len quantity.Outflow;
-    carries = λ e l. ltb-false (carry_of b m.month e) (slice_index m.plan.flow e)
-        (g.flow e (with_line-has b quantity.Flow e l refl));
-    wants = λ r l. (right r l).most;
-    instream = λ r l e. (right r l).instream e;
-    outlets = λ n l e. unlisted quantity.Outflow n
-        (λ h. (let both : false ≡ true = sym e ∙ (has-with_line b quantity.Outflow n h).1 in cc));
-    balance =
-        λ n l. eqb-true (slice_index m.supply n + inflow_to b m.plan.flow n)
-        (outflow_from b m.plan.flow n + taken_at b m.plan.take n + slice_index m.plan.out n) (g.balance n l);
-  };
-  delivered = λ r l. (right r l).delivered;
   short = λ r l short. (let s = g.sets.short r l (lt-ltb (slice_index m.delivered r) (slice_index m.want r) short) in
       (s.0, s.1, is_tight_is b m r s.0 s.2));
   met = λ r l met. g.sets.met r l (le-ltb (slice_index m.delivered r) (slice_index m.want r) met);

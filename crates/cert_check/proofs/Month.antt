@@ -6,6 +6,7 @@ use Rattle.std.specs.List.{flat_map}
 use Rattle.std.proofs.lemmas.List.{length-replicate}
 use Rattle.place_sums.specs.Sums.{total_where}
 use Rattle.water_model.specs.Basin.{instream_link}
+use Rattle.water_model.specs.Blank.{blank_month}
 use Rattle.water_model.specs.History.{cut_of, opening_after, is_zone_of}
 use Rattle.water_model.specs.Hydrology.{in_year, evaporation, returned_at, used_of, want_of}
 use Rattle.water_model.specs.Lookups.{of_entry}
@@ -26,7 +27,7 @@ use Rattle.water_model.specs.declared.types.Inflows.{Inflows}
 use Rattle.water_model.specs.declared.types.MonthRecord.{MonthRecord}
 use Rattle.water_model.proofs.Order.{Has, seniors_below}
 use Rattle.water_model.proofs.Quantities.{amount_lines, flat_map_one}
-use Rattle.result_reader.specs.Telling.{Told, tell, blank_month, with_supply}
+use Rattle.result_reader.specs.Telling.{Told, tell, with_supply}
 use Rattle.result_reader.proofs.MonthTold.{Makes, makes_amounts, makes_deliveries, tells_calls, with_sets}
 use Rattle.result_reader.proofs.Sets.{put_sets}
 use Rattle.result_reader.proofs.Telling.{set_all, tell_call, fold-both}

@@ -7,6 +7,7 @@ use Rattle.std.proofs.lemmas.List.Folds.{list_any-append}
 use Rattle.std.proofs.Math.Seq.{take-append_seam}
 use Rattle.std.proofs.lemmas.Bool.{or_from, or_parts}
 use Rattle.water_model.proofs.Lists.{get_behind}
+use Rattle.water_model.specs.Blank.{blank_month}
 use Rattle.water_model.specs.History.{IsPartialHistory, IsHistory, Follows, cut_of}
 use Rattle.water_model.specs.Places.{members_from, seniors_first}
 use Rattle.water_model.specs.Quantities.{amounts_of, entries_with_line}
@@ -22,7 +23,7 @@ use Rattle.water_model.specs.declared.types.Basin.{Basin}
 use Rattle.water_model.specs.declared.types.Inflows.{Inflows}
 use Rattle.water_model.specs.declared.types.MonthRecord.{MonthRecord}
 use Rattle.result_reader.specs.Records.{AreTextMonths}
-use Rattle.result_reader.specs.Telling.{Told, tell, nothing_told, blank_month}
+use Rattle.result_reader.specs.Telling.{Told, tell, nothing_told}
 use Rattle.result_reader.proofs.AllTold.{month_of, are_all_told}
 use Rattle.result_reader.proofs.Telling.{fold-both}
 use Rattle.result_reader.proofs.TextForm.{texts_are_accepted}
@@ -91,7 +92,7 @@ months_good b series records before (m ∷ ms) valid history texts is told t c m
     let at : At b before (begun b m) (tell b series t (line.Month m.month)) = record {
       calling = refl;
       months = months;
-      now_is = ap (λ n. blank_month b n m.month) (count ∙ sym f.index);
+      now_is = ap (λ n. blank_month b n m.month) (count ∙ sym f.behind.index);
       called = refl;
     } in
     let good = follows_good b series before m f text in
@@ -104,7 +105,7 @@ months_good b series records before (m ∷ ms) valid history texts is told t c m
     ∙ calm b series (inner_lines b m (callers_due b m)) (tell b series t (line.Month m.month))
     (inner_calm b series m (callers_due b m)) in
     let later : behind.months ≡ before ++ m ∷ [] =
-    month_told b series m (calling_right b m) t (f.index ∙ sym count) told.1 ∙ ap (λ xs. xs ++ m ∷ []) months in
+    month_told b series m (calling_right b m) t (f.behind.index ∙ sym count) told.1 ∙ ap (λ xs. xs ++ m ∷ []) months in
     let rest =
     months_good b series records (before ++ m ∷ []) ms valid history texts
     (is ∙ sym (append_assoc before (m ∷ []) ms))

@@ -5,6 +5,7 @@ use Rattle.std.specs.Prelude.{Some, None, ◌||◌, ◌⊎◌}
 use Rattle.std.specs.List.{flat_map}
 use Rattle.std.proofs.lemmas.List.{length-map}
 use Rattle.std.proofs.lemmas.Bool.{or_parts}
+use Rattle.water_model.specs.Blank.{blank_month}
 use Rattle.water_model.specs.History.{IsPartialHistory, IsHistory, Follows, opening_after}
 use Rattle.water_model.specs.Hydrology.{run_month}
 use Rattle.water_model.specs.Places.{numbers_from}
@@ -18,7 +19,7 @@ use Rattle.water_model.specs.declared.types.Inflows.{Inflows}
 use Rattle.water_model.specs.declared.types.MonthRecord.{MonthRecord}
 use Rattle.water_model.proofs.Histories.{nothing_is_partial, one_month_more, opens_with_last}
 use Rattle.result_reader.specs.Form.{Fills, IsFront, due, due_in_month, due_for_month}
-use Rattle.result_reader.specs.Telling.{Told, tell, nothing_told, blank_month}
+use Rattle.result_reader.specs.Telling.{Told, tell, nothing_told}
 use Rattle.result_reader.specs.declared.shape.Shape.{Shape}
 use Rattle.result_reader.specs.declared.shape.Shape.TheVariants as shape
 use Rattle.result_reader.proofs.WholeMonth.{IsAllTold, month_told}
@@ -155,7 +156,7 @@ next_month b valid series before t i s dues sized at left stands g =
         months = month_told b series m (calling_right b m) t (at ∙ sym count) told
             ∙ ap (λ xs. xs ++ m ∷ []) stands.months;
         partial = one_month_more b series before m stands.partial (omega (arith, at, left)) follows;
-        opens = ap length (opens_with_last b before m) ∙ follows.fits.closing;
+        opens = ap length (opens_with_last b before m) ∙ follows.behind.fits.closing;
       };
     }
   where

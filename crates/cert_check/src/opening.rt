@@ -8,26 +8,14 @@ ghost use Rattle.water_model.specs.Basin.{is_outlet};
 ghost use Rattle.water_model.specs.Places.{outlets};
 ghost use Rattle.water_model.specs.Valid.{IsValidBasin};
 ghost use Rattle.water_model.specs.declared.types.Inflows.{Inflows};
-ghost use Rattle.cert_check.specs.Beginning.{IsBlank};
 ghost use Rattle.cert_check.specs.Keeping.{Keeps};
 
 use crate::account::Account;
 use lag_returns::Lags;
-use month_terms::opening::{blank_record, openings, zeros};
+use month_terms::opening::{blank_month, openings, zeros};
 use std::alloc::{AllocError, Global};
-use water_model::cut_list::CutList;
 use water_model::rows::Rows;
-use water_model::types::{Basin, MOST_NODES, MonthRecord};
-
-/// A record with room for a month, of which nothing is told.
-fn blank_month(alloc: Global, basin: &Basin) -> Result<Box<MonthRecord>, AllocError>
-    requires basin { IsValidBasin basin.now }
-    ensures { IfOk result (λ month. IsBlank basin.now month.value) }
-{
-    let cuts = CutList::open(alloc, basin.rights.len() as u32, basin.nodes.len() as u32)?;
-    let month = blank_record(alloc, basin, cuts)?;
-    Ok(month)
-}
+use water_model::types::{Basin, MOST_NODES};
 
 /// What comes back to each node in the first month.
 fn first_comes(alloc: Global, basin: &Basin, lags: &Lags) -> Result<Rows<u64>, AllocError>

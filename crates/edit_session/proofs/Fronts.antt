@@ -22,7 +22,7 @@ front_partial b series other records month agree h = record {
       let within : j < length records = slice_get_within records j m r.1 in
       subst (λ (xs : List MonthRecord). Follows b other xs m) (sym (take_front records month j (omega (arith, r.0))))
       (let follows = h.each j m r.1 in
-      let early : m.index < month = omega (arith, follows.index, length-take j records, r.0) in
+      let early : m.index < month = omega (arith, follows.behind.index, length-take j records, r.0) in
       follows_alike b series other (take j records) m (λ n l. agree.inflows n m.index l early)
       (λ right used l. agree.wants right m.index used l early) follows);
 }

@@ -57,7 +57,7 @@ pub month_fits : (b : Basin) (series : Inflows) (records : List MonthRecord) (m 
     length so_far ≡ length b.rights →
     IsPartialHistory b series (records ++ m ∷ []) → length so_far ≡ length m.delivered
 month_fits b series records m so_far count partial =
-    count ∙ sym (partial.each (length records) m (at_end records)).fits.delivered
+    count ∙ sym (partial.each (length records) m (at_end records)).behind.fits.delivered
   where
     at_end : (xs : List MonthRecord) → slice_get (xs ++ m ∷ []) (length xs) ≡ Some m
     at_end [] = refl

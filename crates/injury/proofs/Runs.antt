@@ -192,12 +192,12 @@ module _ (b : Basin) (at : ℕ) (x : Right) (more : HasOneMore b (with_right b a
       Follows b series before m → Follows (with_right b at x) other others n → IsAlike m n
   month_alike series other before others m n valid give within same f g = record {
     delivered = delivered;
-    closing = same_lists m.closing n.closing (length b.reservoirs) f.fits.closing g.fits.closing
+    closing = same_lists m.closing n.closing (length b.reservoirs) f.behind.fits.closing g.behind.fits.closing
         (λ v l. f.closing v l ∙ (sym (closes v) ∙ sym (g.closing v l)));
   }
     where
       in_run : m.index < b.months
-      in_run = let e = f.index in omega arith
+      in_run = let e = f.behind.index in omega arith
 
       alike : BeginAlike m n
       alike = begin_alike b (insert b.rights at x) series other before others m n same.count same.storage
@@ -207,18 +207,18 @@ module _ (b : Basin) (at : ℕ) (x : Right) (more : HasOneMore b (with_right b a
 
       wants : (r : ℕ) → r < length b.rights → slice_index n.want (moved at r) ≡ slice_index m.want r
       wants r l =
-          g.want (moved at r) (moves r l)
+          g.behind.want (moved at r) (moves r l)
           ∙ (ap₂ (λ i u. want_of (with_right b at x) other (moved at r) i u) (sym alike.index) (sym used)
-          ∙ (sym (want_same series other give r m.index (slice_index m.used r) in_run) ∙ sym (f.want r l)))
+          ∙ (sym (want_same series other give r m.index (slice_index m.used r) in_run) ∙ sym (f.behind.want r l)))
         where
           moves : (r : ℕ) → r < length b.rights → moved at r < length (with_right b at x).rights
           moves r l = omega (arith, moved_within at r (length b.rights) l, one_more_right b at x more.place)
 
           used : slice_index m.used r ≡ slice_index n.used (moved at r)
-          used = f.used r l
+          used = f.behind.used r l
               ∙ (used_same (map (λ k. k.delivered) before) (map (λ k. k.delivered) others) same.deliveries r m.index l
               ∙ (ap (λ i. used_of (with_right b at x) (map (λ k. k.delivered) others) (moved at r) i) alike.index
-              ∙ sym (g.used (moved at r) (moves r l))))
+              ∙ sym (g.behind.used (moved at r) (moves r l))))
 
       greatest : IsGreatest (with_right b at x) m.month m.supply n.want n.plan
       greatest = subst (λ s. IsGreatest (with_right b at x) m.month s n.want n.plan) (sym alike.supply)
@@ -228,11 +228,11 @@ module _ (b : Basin) (at : ℕ) (x : Right) (more : HasOneMore b (with_right b a
       deliver : (r : ℕ) → r < length b.rights →
           delivery b m.want m.plan r ≡ delivery (with_right b at x) n.want n.plan (moved at r)
       deliver =
-          month_same b at x more m.month m.supply m.want n.want m.delivered m.plan n.plan f.plan wants f.fits.delivered
-          (record { each = f.delivered }) (met_or_cut b series before m f) greatest
+          month_same b at x more m.month m.supply m.want n.want m.delivered m.plan n.plan f.behind.plan wants
+          f.behind.fits.delivered (record { each = f.behind.delivered }) (met_or_cut b series before m f) greatest
 
       delivered : (r : ℕ) → r < length b.rights → slice_index m.delivered r ≡ slice_index n.delivered (moved at r)
-      delivered r l = f.delivered r l ∙ (deliver r l ∙ sym (g.delivered (moved at r)
+      delivered r l = f.behind.delivered r l ∙ (deliver r l ∙ sym (g.behind.delivered (moved at r)
           (omega (arith, moved_within at r (length b.rights) l, one_more_right b at x more.place))))
 
       closes : (v : ℕ) →

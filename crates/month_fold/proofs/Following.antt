@@ -167,17 +167,19 @@ pub made_follows : (b : Basin) (series : Inflows) (records : List MonthRecord) (
     IsMade b series i begun settled planned made → IsNext b series records made
 made_follows b series records i begun settled planned made valid fits starts at is = record {
   follows = record {
-    fits = (made_fits b series i begun settled planned made is).fits;
-    index = f.index ∙ at;
-    month = f.month ∙ (is.is_settled.month ∙ ap (run_month b) (sym f.index));
+    behind = record {
+      fits = (made_fits b series i begun settled planned made is).fits;
+      index = f.index ∙ at;
+      month = f.month ∙ (is.is_settled.month ∙ ap (run_month b) (sym f.index));
+      evaporated = λ v l. evaporated v l;
+      returned = λ n l. returned n l;
+      supply = λ n l. supplied n l;
+      used = λ r l. used r l;
+      want = λ r l. wanted r l;
+      plan = plan;
+      delivered = λ r l. delivered r l;
+    };
     opening = f.opening ∙ (is.is_settled.opening ∙ starts.stored);
-    evaporated = λ v l. evaporated v l;
-    returned = λ n l. returned n l;
-    supply = λ n l. supplied n l;
-    used = λ r l. used r l;
-    want = λ r l. wanted r l;
-    plan = plan;
-    delivered = λ r l. delivered r l;
     short = λ r l h. (let found = reach r l h in (found.0, found.1, found.2.is_tight));
     met = λ r l h. met r l h;
     closing =

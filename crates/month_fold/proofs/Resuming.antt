@@ -28,7 +28,7 @@ have_deliveries f b series xs valid fits partial = λ k d l.
     let follows =
     partial.each k (f (get_or xs k d)) (slice_get-map f xs k ∙ ap (option_map f) (slice_get-get_or xs k d l)) in
     record {
-      count = follows.fits.delivered;
+      count = follows.behind.fits.delivered;
       small = deliveries_small b series (take k (map f xs)) (f (get_or xs k d)) valid fits follows;
     }
 
@@ -49,24 +49,24 @@ tell_use b series records valid fits partial i m at =
     let within = slice_get_within records i m at in
     let count = length-take i records in
     record {
-      index = follows.index;
-      within = omega (arith, follows.index, partial.within);
+      index = follows.behind.index;
+      within = omega (arith, follows.behind.index, partial.within);
       delivered =
           record {
-            count = follows.fits.delivered;
+            count = follows.behind.fits.delivered;
             small =
                 deliveries_small b series (take i records) m valid fits follows;
           };
       used = record {
-        count = follows.fits.used;
-        each = λ r l. follows.used r l ∙ ap (used_of b (map (λ k. k.delivered) (take i records)) r)
-            (omega (arith, follows.index, length-map (take i records) (λ (k : MonthRecord). k.delivered)));
+        count = follows.behind.fits.used;
+        each = λ r l. follows.behind.used r l ∙ ap (used_of b (map (λ k. k.delivered) (take i records)) r)
+            (omega (arith, follows.behind.index, length-map (take i records) (λ (k : MonthRecord). k.delivered)));
       };
       little = λ r l. omega (
         arith,
-        follows.used r l,
+        follows.behind.used r l,
         used_most b (map (λ k. k.delivered) (take i records)) r m.index (10 ^ 9) (small r),
-        follows.index,
+        follows.behind.index,
         partial.within,
         valid.run.months.1,
       );
@@ -149,7 +149,7 @@ stored_count b series records partial = by_last (slice_get records (length recor
     by_last : (o : Option MonthRecord) → slice_get records (length records - 1) ≡ o →
         length (unwrap_or (option_map (λ m. m.closing) o) (map (λ v. v.opening) b.reservoirs)) ≡ length b.reservoirs
     by_last None e = length-map b.reservoirs (λ v. v.opening)
-    by_last (Some m) e = (partial.each (length records - 1) m e).fits.closing
+    by_last (Some m) e = (partial.each (length records - 1) m e).behind.fits.closing
 
 -- behind the last of some months it is what that one left
 pub stored_by_last : (b : Basin) (records : List MonthRecord) (m : MonthRecord) →

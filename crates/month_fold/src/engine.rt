@@ -9,12 +9,11 @@ ghost use Rattle.water_model.specs.declared.types.MonthRecord.{MonthRecord};
 ghost use Rattle.month_fold.specs.Reaches.{HasDeliveries, HaveReaches, TellUse};
 ghost use Rattle.month_fold.specs.Runs.{StandsFor, HasMonths, run_with};
 
-use crate::blank::blank_month;
 use crate::next::{next_month, use_volumes};
 use crate::resume::{bring_behind, store_behind, use_behind};
 use lag_returns::Lags;
 use month_terms::evaporation::tables_of;
-use month_terms::opening::zeros;
+use month_terms::opening::{blank_month, zeros};
 use reservoirs::AreaTable;
 use rights_roll::roll::Roll;
 use senior_hold::Solver;

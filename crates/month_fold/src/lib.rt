@@ -1,7 +1,6 @@
 //! The months of a run, one after the other: each opens with what the months before it left.
 #![tactic(auto)]
 
-mod blank;
 pub mod engine;
 pub mod laws;
 mod next;

@@ -1,15 +1,14 @@
 -- The lengths of a blank record's lists.
-use Rattle.std.proofs.Common.{◌≡◌, ℕ, List, length}
+use Rattle.std.proofs.Common.{◌≡◌, ℕ, Bool, List, Option, None, refl, length}
 use Rattle.std.proofs.lemmas.List.{length-replicate}
-use Rattle.water_model.specs.CutSets.{CutSets}
+use Rattle.water_text.specs.declared.month.Month.{Month}
+use Rattle.water_model.specs.Blank.{blank_month}
 use Rattle.water_model.specs.declared.types.Basin.{Basin}
 use Rattle.water_model.specs.declared.types.MonthRecord.{MonthRecord}
-use Rattle.month_terms.specs.Blank.{blank_record}
 use Rattle.month_terms.specs.Terms.{FitsRecord}
 
-pub blank_fits : (b : Basin) (cuts : CutSets) → length cuts.sets ≡ length b.rights → cuts.nodes ≡ length b.nodes →
-    FitsRecord b (blank_record b cuts)
-blank_fits b cuts sets nodes = record {
+pub blank_fits : (b : Basin) (index : ℕ) (month : Month) → FitsRecord b (blank_month b index month)
+blank_fits b index month = record {
   fits = record {
     opening = length-replicate (length b.reservoirs) 0;
     evaporated = length-replicate (length b.reservoirs) 0;
@@ -19,8 +18,8 @@ blank_fits b cuts sets nodes = record {
     used = length-replicate (length b.rights) 0;
     want = length-replicate (length b.rights) 0;
     delivered = length-replicate (length b.rights) 0;
-    cuts = sets;
-    cut_nodes = nodes;
+    cuts = length-replicate {A = Option (List Bool)} (length b.rights) None;
+    cut_nodes = refl;
   };
   flow = length-replicate (length b.links) 0;
   take = length-replicate (length b.rights) 0;

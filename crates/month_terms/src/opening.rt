@@ -1,6 +1,8 @@
 //! What a run begins with.
 ghost use Rattle.std.specs.Prelude.{◌≡◌, length, map, replicate, IfOk};
-ghost use Rattle.month_terms.specs.Blank.{blank_plan, blank_record};
+ghost use Rattle.month_terms.specs.Terms.{FitsRecord};
+ghost use Rattle.water_model.specs.Blank.{blank_month, blank_plan};
+ghost use Rattle.water_model.specs.Valid.{IsValidBasin};
 
 use std::alloc::{AllocError, Global};
 use water_model::cut_list::CutList;
@@ -56,15 +58,15 @@ fn blank_plan(alloc: Global, basin: &Basin) -> Result<Plan, AllocError>
     Ok(Plan { flow, take, out })
 }
 
-/// A record of the first month that has these sets and else zeros. AllocError comes where memory is lacking.
-pub fn blank_record(
-    alloc: Global,
-    basin: &Basin,
-    cuts: CutList,
-) -> Result<Box<MonthRecord>, AllocError>
-    ensures { IfOk result (λ month. month.value ≡ blank_record basin.now cuts) }
+/// A record of the first month, with room for any month: all its numbers are 0, and no right has a set. AllocError
+/// comes where memory is lacking.
+pub fn blank_month(alloc: Global, basin: &Basin) -> Result<Box<MonthRecord>, AllocError>
+    requires { IsValidBasin basin.now }
+    ensures blank { IfOk result (λ month. month.value ≡ blank_month basin.now 0 basin.now.first) }
+    ensures fits { IfOk result (λ month. FitsRecord basin.now month.value) }
 {
     let nodes = basin.nodes.len();
+    let cuts = CutList::open(alloc, basin.rights.len() as u32, nodes as u32)?;
     let plan = blank_plan(alloc, basin)?;
     let by_reservoir = three_zeros(alloc, basin.reservoirs.len())?;
     let by_right = three_zeros(alloc, basin.rights.len())?;

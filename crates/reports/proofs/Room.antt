@@ -48,7 +48,7 @@ wanted_small b series records r valid fits partial l =
     most : (before : List MonthRecord) (m : MonthRecord) → IsPartialHistory b series before →
         Follows b series before m → slice_index m.want r ≤ 10 ^ 9
     most before m front follows =
-        rw (follows.want r l) (want_most b series r m.index (slice_index m.used r) valid fits l)
+        rw (follows.behind.want r l) (want_most b series r m.index (slice_index m.used r) valid fits l)
 
 pub delivered_small : (b : Basin) (series : Inflows) (records : List MonthRecord) (r : ℕ) → IsValidBasin b →
     IsSeriesOf b series →
@@ -110,10 +110,10 @@ returns_all_small b series records valid fits partial =
         Follows b series before m → sum m.returned ≤ 2 * 10 ^ 12
     most before m front follows =
         let whole : sum m.returned ≡ total (length b.nodes) (λ n. slice_index m.returned n) =
-        sum_total m.returned ∙ ap (λ k. total k (λ n. slice_index m.returned n)) follows.fits.returned in
+        sum_total m.returned ∙ ap (λ k. total k (λ n. slice_index m.returned n)) follows.behind.fits.returned in
         let each =
         total_same (length b.nodes) (λ n. slice_index m.returned n)
-        (λ n. returned_at b (map (λ k. k.delivered) before) n m.index) follows.returned in
+        (λ n. returned_at b (map (λ k. k.delivered) before) n m.index) follows.behind.returned in
         omega (
           arith,
           whole,

@@ -13,7 +13,7 @@ use Rattle.place_sums.proofs.Totals.{total_zero}
 use Rattle.water_model.proofs.Entries.{in_order-has}
 use Rattle.water_model.proofs.Order.{Has, filter-has, has-filter, seniors_have, seniors_below}
 use Rattle.water_model.specs.Basin.{taking_node, taking_node_of_kind, instream_link, link_of_kind}
-use Rattle.water_model.specs.History.{cut_of}
+use Rattle.water_model.specs.History.{IsMonthBehind, cut_of}
 use Rattle.water_model.specs.Hydrology.{returned_at, returned_by, used_of, used_by_volume, used_in_year, inflow_at}
 use Rattle.water_model.specs.Hydrology.{stored_at}
 use Rattle.water_model.specs.Lookups.{of_entry}
@@ -30,7 +30,7 @@ use Rattle.water_model.specs.declared.types.ReturnRow.{ReturnRow}
 use Rattle.water_model.specs.declared.types.Right.{Right}
 use Rattle.water_model.specs.declared.types.RightKind.{RightKind}
 use Rattle.water_model.specs.declared.types.RightKind.TheVariants as kind
-use Rattle.result_reader.specs.Records.{IsMonthBehind, IsTextMonth, AreTextMonths}
+use Rattle.result_reader.specs.Records.{IsTextMonth, AreTextMonths}
 use Rattle.result_reader.proofs.MonthTold.{take_of}
 use Rattle.water_model.proofs.Balance.{entry_at}
 use Rattle.water_model.proofs.Lists.{get_behind, no_numbers}

@@ -3,6 +3,7 @@ use Rattle.std.proofs.Common.{◌≡◌, ℕ, ◌+◌, ◌<◌, Bool, refl, sym,
 use Rattle.std.proofs.Common.{replicate, append_assoc, append-nil, length-append}
 use Rattle.std.specs.Prelude.{Option, Some, None, slice_index}
 use Rattle.std.specs.List.{flat_map}
+use Rattle.water_model.specs.Blank.{blank_month}
 use Rattle.water_model.specs.Entries.{count_in}
 use Rattle.water_model.specs.History.{cut_of}
 use Rattle.water_model.specs.Hydrology.{inflow_at, stored_at}
@@ -16,7 +17,7 @@ use Rattle.water_model.specs.declared.quantity.Quantity.TheVariants as quantity
 use Rattle.water_model.specs.declared.types.Basin.{Basin}
 use Rattle.water_model.specs.declared.types.Inflows.{Inflows}
 use Rattle.water_model.specs.declared.types.MonthRecord.{MonthRecord}
-use Rattle.result_reader.specs.Telling.{Told, tell, told_by, nothing_told, blank_month, with_supply}
+use Rattle.result_reader.specs.Telling.{Told, tell, told_by, nothing_told, with_supply}
 use Rattle.result_reader.proofs.Telling.{set_all, fold-both}
 use Rattle.result_reader.proofs.MonthTold.{Tells, sections_told, take_of, with_section}
 use Rattle.result_reader.proofs.Sets.{put_sets}

@@ -3,6 +3,7 @@ use Rattle.std.specs.Prelude.{ℕ, ◌+◌, true, false, List, [], ◌∷◌, �
 use Rattle.std.specs.Prelude.{None, option_map, is_some, if◌then◌else◌, slice_index, slice_set}
 use Rattle.water_text.specs.declared.month.Month.{Month}
 use Rattle.water_model.specs.Basin.{taking_node}
+use Rattle.water_model.specs.Blank.{blank_month}
 use Rattle.water_model.specs.CutSets.{with_set}
 use Rattle.water_model.specs.History.{cut_of}
 use Rattle.water_model.specs.Hydrology.{inflow_at, stored_at}
@@ -21,28 +22,6 @@ pub record Told : Type 0 where
   pub now : MonthRecord
   pub calling : Option ℕ
   pub called : ℕ
-
--- a month of which nothing is told
-abbrev pub blank_month : Basin → ℕ → Month → MonthRecord
-blank_month b index month = record {
-  index = index;
-  month = month;
-  opening = replicate (length b.reservoirs) 0;
-  evaporated = replicate (length b.reservoirs) 0;
-  returned = replicate (length b.nodes) 0;
-  used = replicate (length b.rights) 0;
-  supply = replicate (length b.nodes) 0;
-  want = replicate (length b.rights) 0;
-  plan = record {
-    flow = replicate (length b.links) 0;
-    take = replicate (length b.rights) 0;
-    out =
-        replicate (length b.nodes) 0;
-  };
-  delivered = replicate (length b.rights) 0;
-  cuts = record { nodes = length b.nodes; sets = replicate (length b.rights) None };
-  closing = replicate (length b.reservoirs) 0;
-}
 
 abbrev pub nothing_told : Basin → Told
 nothing_told b = record { months = []; now = blank_month b 0 b.first; calling = None; called = 0 }

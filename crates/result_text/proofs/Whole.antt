@@ -85,7 +85,7 @@ sets_sized b series before m f right = by_range (cases_lt right (length b.rights
     outside : length b.rights ≤ right → cut_of m right ≡ None
     outside l =
         ap (λ (o : Option (Option (List Bool))). unwrap_or (option_map (λ set. set) o) None)
-        (slice_get_past m.cuts.sets right (omega (arith, f.fits.cuts)))
+        (slice_get_past m.cuts.sets right (omega (arith, f.behind.fits.cuts)))
 
     by_range : (right < length b.rights) ⊎ (length b.rights ≤ right) → is_sized (cut_of m right)
     by_range (inr beyond) = no_set (outside beyond)
@@ -99,9 +99,9 @@ pub FitsText-follows : (b : Basin) (series : Inflows) (before : List MonthRecord
     Follows b series before m →
     length before < b.months → FitsText b m
 FitsText-follows b series before m valid f l = record {
-  fits = f.fits;
-  month = subst IsMonth (sym f.month) (IsMonth-run_month b m.index valid.run (omega (arith, f.index)));
-  flow = f.plan.flow_len;
-  out = f.plan.out_len;
+  fits = f.behind.fits;
+  month = subst IsMonth (sym f.behind.month) (IsMonth-run_month b m.index valid.run (omega (arith, f.behind.index)));
+  flow = f.behind.plan.flow_len;
+  out = f.behind.plan.out_len;
   sets = sets_sized b series before m f;
 }

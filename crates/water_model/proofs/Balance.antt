@@ -182,11 +182,11 @@ take_goes b series before m valid follows r l = of_kind k.kind k.link k.diversio
     of_kind (Diversion node) on d z at h =
         let none = no_zones z in
         let taken : slice_index m.delivered r ≡ slice_index m.plan.take r =
-        follows.delivered r l ∙ delivery_by_take b m.want m.plan r on in
+        follows.behind.delivered r l ∙ delivery_by_take b m.want m.plan r on in
         rw d (omega arith)
     of_kind (Instream link) on d z at h =
         let none = no_zones z in
-        let zero = follows.plan.instream r l at in
+        let zero = follows.behind.plan.instream r l at in
         rw d (omega arith)
     of_kind (Zone reservoir level) on d z at h =
         let all = total_same (length b.reservoirs) (λ v. if is_zone_of b r v then slice_index m.plan.take r else 0)
@@ -205,10 +205,10 @@ pub month_balance : (b : Basin) (series : Inflows) (before : List MonthRecord) (
     sum m.opening + whole_inflow b series m.index + sum m.returned
     ≡ sum m.closing + sum m.evaporated + diverted b m + sum m.plan.out
 month_balance b series before m valid follows =
-    let balance = plan_balance b m.month m.supply m.want m.plan valid follows.plan in
+    let balance = plan_balance b m.month m.supply m.want m.plan valid follows.behind.plan in
     let supply = total_same nodes (λ n. slice_index m.supply n)
     (λ n. inflow_at b series n m.index + slice_index m.returned n + stored_at b m.opening m.evaporated n)
-    follows.supply in
+    follows.behind.supply in
     let parts =
     total_add nodes (λ n. inflow_at b series n m.index + slice_index m.returned n)
     (λ n. stored_at b m.opening m.evaporated n) in
@@ -233,11 +233,11 @@ month_balance b series before m valid follows =
       split,
       swap,
       closing,
-      by_list m.opening reservoirs follows.fits.opening,
-      by_list m.evaporated reservoirs follows.fits.evaporated,
-      by_list m.closing reservoirs follows.fits.closing,
-      by_list m.returned nodes follows.fits.returned,
-      by_list m.plan.out nodes follows.plan.out_len,
+      by_list m.opening reservoirs follows.behind.fits.opening,
+      by_list m.evaporated reservoirs follows.behind.fits.evaporated,
+      by_list m.closing reservoirs follows.behind.fits.closing,
+      by_list m.returned nodes follows.behind.fits.returned,
+      by_list m.plan.out nodes follows.behind.plan.out_len,
     )
   where
     nodes : ℕ
@@ -290,7 +290,7 @@ month_balance b series before m valid follows =
 
         one : (v : ℕ) → v < reservoirs →
             slice_index m.opening v - slice_index m.evaporated v + slice_index m.evaporated v ≡ slice_index m.opening v
-        one v l = omega (arith, follows.evaporated v l, at_most v (slice_get b.reservoirs v))
+        one v l = omega (arith, follows.behind.evaporated v l, at_most v (slice_get b.reservoirs v))
 
 pub entry_at : {X : Type 0} (xs : List X) (k : ℕ) → k < length xs → (x : X) × (slice_get xs k ≡ Some x)
 entry_at [] k l = absurd (omega arith)

@@ -143,8 +143,8 @@ cuts_make_plan_greatest b month supply want delivered p plan are cuts = record {
 pub record_is_greatest : (b : Basin) (series : Inflows) (before : List MonthRecord) (m : MonthRecord) →
     Follows b series before m → IsGreatest b m.month m.supply m.want m.plan
 record_is_greatest b series before m follows =
-    cuts_make_plan_greatest b m.month m.supply m.want m.delivered m.plan follows.plan
-    (record { each = follows.delivered }) met_or_cut
+    cuts_make_plan_greatest b m.month m.supply m.want m.delivered m.plan follows.behind.plan
+    (record { each = follows.behind.delivered }) met_or_cut
   where
     met_or_cut : (r : ℕ) → r < length b.rights →
         (slice_index m.want r ≤ slice_index m.delivered r) ⊎

@@ -6,7 +6,7 @@ use Rattle.std.proofs.lemmas.List.{take-append-le}
 use Rattle.std.proofs.Math.Seq.{take-length}
 use Rattle.std.proofs.lemmas.Option.{slice_get_within}
 use Rattle.water_text.specs.Months.{IsMonth}
-use Rattle.water_model.specs.History.{IsPartialHistory, IsHistory, Follows, opening_after}
+use Rattle.water_model.specs.History.{IsPartialHistory, IsHistory, Follows, IsMonthBehind, opening_after}
 use Rattle.water_model.specs.Hydrology.{run_month, inflow_at, stored_at, want_of}
 use Rattle.water_model.specs.Valid.{IsValidRun}
 use Rattle.water_model.specs.declared.types.Basin.{Basin}
@@ -66,15 +66,18 @@ pub follows_alike : (b : Basin) (series other : Inflows) (before : List MonthRec
     ((n : ℕ) → n < length b.nodes → inflow_at b series n m.index ≡ inflow_at b other n m.index) →
     ((r used : ℕ) → r < length b.rights → want_of b series r m.index used ≡ want_of b other r m.index used) →
     Follows b series before m → Follows b other before m
-follows_alike b series other before m inflows wants f = assumption (supply, want)
+follows_alike b series other before m inflows wants f = assumption (behind)
   where
     supply : (n : ℕ) → n < length b.nodes → slice_index m.supply n
         ≡ inflow_at b other n m.index + slice_index m.returned n + stored_at b m.opening m.evaporated n
-    supply n l = f.supply n l
+    supply n l = f.behind.supply n l
         ∙ ap (λ x. x + slice_index m.returned n + stored_at b m.opening m.evaporated n) (inflows n l)
 
     want : (r : ℕ) → r < length b.rights → slice_index m.want r ≡ want_of b other r m.index (slice_index m.used r)
-    want r l = f.want r l ∙ wants r (slice_index m.used r) l
+    want r l = f.behind.want r l ∙ wants r (slice_index m.used r) l
+
+    behind : IsMonthBehind b other before m
+    behind = assumption (f.behind, supply, want)
 
 -- the closing of the last record is what the next month opens with
 pub opens_with_last : (b : Basin) (records : List MonthRecord) (m : MonthRecord) →

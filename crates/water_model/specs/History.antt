@@ -51,12 +51,13 @@ pub record FitsBasin (b : Basin) (m : MonthRecord) : Type 0 where
   pub cuts : length m.cuts.sets ≡ length b.rights
   pub cut_nodes : m.cuts.nodes ≡ length b.nodes
 
--- a record of the month that follows the records before
-pub record Follows (b : Basin) (series : Inflows) (before : List MonthRecord) (m : MonthRecord) : Type 0 where
+-- The record is of the month behind the records before, whatever it opens and closes with and whatever sets it has: its
+-- lists fit the basin, evaporation, returns, supply, use and wants are those of its opening and the records before, and
+-- it has a plan and what the plan delivers.
+pub record IsMonthBehind (b : Basin) (series : Inflows) (before : List MonthRecord) (m : MonthRecord) : Type 0 where
   pub fits : FitsBasin b m
   pub index : m.index ≡ length before
   pub month : m.month ≡ run_month b m.index
-  pub opening : m.opening ≡ opening_after b before
   pub evaporated : (v : ℕ) → v < length b.reservoirs → slice_index m.evaporated v
       ≡ of_entry b.reservoirs v
       (λ r. evaporation r.area (slice_index m.opening v) (slice_index r.rate (in_year b m.index))) 0
@@ -70,6 +71,12 @@ pub record Follows (b : Basin) (series : Inflows) (before : List MonthRecord) (m
       ≡ want_of b series r m.index (slice_index m.used r)
   pub plan : IsPlan b m.month m.supply m.want m.plan
   pub delivered : (r : ℕ) → r < length b.rights → slice_index m.delivered r ≡ delivery b m.want m.plan r
+
+-- a record of the month that follows the records before: it opens with what they leave, each short right has a tight
+-- cut and no other right a set, and it closes with what the zones took
+pub record Follows (b : Basin) (series : Inflows) (before : List MonthRecord) (m : MonthRecord) : Type 0 where
+  pub behind : IsMonthBehind b series before m
+  pub opening : m.opening ≡ opening_after b before
   pub short : (r : ℕ) → r < length b.rights → IsShort m r →
       (cut : List Bool) × (cut_of m r ≡ Some cut) × IsTight b m.month m.supply m.delivered r cut
   pub met : (r : ℕ) → r < length b.rights → slice_index m.want r ≤ slice_index m.delivered r → cut_of m r ≡ None

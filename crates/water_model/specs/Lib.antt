@@ -6,6 +6,7 @@ pub mod Basin
 pub mod Places
 pub mod Valid
 pub mod CutSets
+pub mod Blank
 pub mod CutInside
 pub mod Plans
 pub mod Cuts

@@ -5,6 +5,7 @@ use Rattle.lag_returns.specs.Lags as lag
 use Rattle.month_terms.proofs.WaterYears.{nothing_used}
 use Rattle.result_reader.specs.Telling.{nothing_told}
 use Rattle.cert_check.specs.Beginning.{IsBlank}
+use Rattle.cert_check.proofs.Beginnings.{blank_is}
 use Rattle.cert_check.specs.Keeping.{Keeps}
 use Rattle.cert_check.specs.declared.account.Account.{Account}
 use Rattle.cert_check.proofs.Fitting.{nobody, none_answered, none_settled}
@@ -28,7 +29,8 @@ returns c =
             (ap length c.in_ok-used.ensures ∙ (length-replicate c.len.result 0 ∙ c.len.ensures))
             (λ r. ap (λ (xs : List ℕ). slice_index xs r) c.in_ok-used.ensures ∙ no_numbers c.len.result r);
       };
-      month = subst (IsBlank c.args.basin.now) (sym c.into_inner.ensures) c.in_ok-month.ensures;
+      month = subst (IsBlank c.args.basin.now) (sym (c.into_inner.ensures ∙ c.in_ok-month.ensures.blank))
+          (blank_is c.args.basin.now c.requires);
       calling = nobody c.args.basin.now _;
       supply = λ e. clash e;
       closes = λ e. clash e;
