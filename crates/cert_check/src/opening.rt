@@ -12,8 +12,9 @@ ghost use Rattle.cert_check.specs.Keeping.{Keeps};
 
 use crate::account::Account;
 use lag_returns::Lags;
-use month_terms::opening::{blank_month, openings, zeros};
+use month_terms::opening::{blank_month, openings};
 use std::alloc::{AllocError, Global};
+use water_model::blank::zeros;
 use water_model::rows::Rows;
 use water_model::types::{Basin, MOST_NODES};
 

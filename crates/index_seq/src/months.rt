@@ -7,12 +7,13 @@ ghost use Rattle.senior_hold.specs.MonthNetwork.{month_pushes};
 ghost use Rattle.month_fold.specs.Runs.{run_pushes};
 
 use crate::begun::turn_series;
-use crate::sums::{add_month, empty_sums, empty_year, end_year};
+use crate::sums::{add_month, empty_sums, end_year};
 use month_fold::engine::Engine;
 use month_fold::run::Run;
 use std::alloc::{AllocError, Global};
 use std::sync::ledger::Ledger;
 use steps::Steps;
+use water_model::blank::zeros;
 use water_model::rows::Rows;
 use water_model::types::{Basin, Inflows};
 
@@ -176,7 +177,8 @@ pub fn run_traces<'b, L: Ledger>(
 {
     let count = basin.months / 12;
     let mut sums = empty_sums(alloc, basin.rights.len(), (count * count) as usize)?;
-    let mut year = empty_year(alloc, basin.rights.len())?;
+    // A year in which no right was delivered anything yet.
+    let mut year = zeros(alloc, basin.rights.len())?;
     let mut begun = series.copy(alloc)?;
     for trace in 0..count {
         engine = run_trace(

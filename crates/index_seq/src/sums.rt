@@ -7,18 +7,6 @@ use std::alloc::{AllocError, Global};
 use water_model::rows::Rows;
 use water_model::types::MonthRecord;
 
-/// A year in which no right was delivered anything yet. AllocError comes where memory is lacking.
-pub fn empty_year(alloc: Global, count: usize) -> Result<Rows<u64>, AllocError>
-    ensures count { IfOk result (λ year. length year ≡ count) }
-    ensures zeros { IfOk result (λ year. (r : ℕ) → r < count → slice_index year r ≡ 0) }
-{
-    let mut year = Vec::with_capacity(alloc, count)?;
-    for _right in 0..count {
-        year.push(0)?;
-    }
-    Ok(Rows::from_vec(year))
-}
-
 /// No amounts yet, with room for so many.
 fn empty_amounts(alloc: Global, room: usize) -> Result<Rows<u64>, AllocError>
     ensures { IfOk result (λ amounts. amounts ≡ []) }

@@ -13,7 +13,7 @@ use crate::next::{next_month, use_volumes};
 use crate::resume::{bring_behind, store_behind, use_behind};
 use lag_returns::Lags;
 use month_terms::evaporation::tables_of;
-use month_terms::opening::{blank_month, zeros};
+use month_terms::opening::blank_month;
 use reservoirs::AreaTable;
 use rights_roll::roll::Roll;
 use senior_hold::Solver;
@@ -21,6 +21,7 @@ use std::alloc::{AllocError, Global};
 use std::marker::Model;
 use std::sync::ledger::Ledger;
 use steps::Steps;
+use water_model::blank::zeros;
 use water_model::rows::Rows;
 use water_model::types::{Basin, Inflows, MonthRecord};
 

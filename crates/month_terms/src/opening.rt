@@ -1,20 +1,14 @@
 //! What a run begins with.
 ghost use Rattle.std.specs.Prelude.{◌≡◌, length, map, replicate, IfOk};
 ghost use Rattle.month_terms.specs.Terms.{FitsRecord};
-ghost use Rattle.water_model.specs.Blank.{blank_month, blank_plan};
+ghost use Rattle.water_model.specs.Blank.{blank_month};
 ghost use Rattle.water_model.specs.Valid.{IsValidBasin};
 
 use std::alloc::{AllocError, Global};
+use water_model::blank::{blank_plan, zeros};
 use water_model::cut_list::CutList;
 use water_model::rows::Rows;
-use water_model::types::{Basin, MonthRecord, Plan};
-
-/// A list of so many zeros. AllocError comes where memory is lacking.
-pub fn zeros(alloc: Global, count: usize) -> Result<Rows<u64>, AllocError>
-    ensures { IfOk result (λ rows. rows ≡ replicate count 0) }
-{
-    Ok(Rows::from_vec(vec![in alloc; 0; count]?))
-}
+use water_model::types::{Basin, MonthRecord};
 
 /// Writes what each reservoir holds when the run begins, in units of 1,000 cubic metres.
 pub fn write_openings(basin: &Basin, stored: &mut [u64])
@@ -46,16 +40,6 @@ fn three_zeros(alloc: Global, count: usize) -> Result<(Rows<u64>, Rows<u64>, Row
     let second = zeros(alloc, count)?;
     let third = zeros(alloc, count)?;
     Ok((first, second, third))
-}
-
-/// A plan of a basin in which nothing flows.
-fn blank_plan(alloc: Global, basin: &Basin) -> Result<Plan, AllocError>
-    ensures { IfOk result (λ plan. plan ≡ blank_plan basin.now) }
-{
-    let flow = zeros(alloc, basin.links.len())?;
-    let take = zeros(alloc, basin.rights.len())?;
-    let out = zeros(alloc, basin.nodes.len())?;
-    Ok(Plan { flow, take, out })
 }
 
 /// A record of the first month, with room for any month: all its numbers are 0, and no right has a set. AllocError

@@ -22,8 +22,8 @@ use std::alloc::{AllocError, Global};
 use std::marker::Model;
 use std::sync::ledger::Ledger;
 use steps::Steps;
+use water_model::blank::blank_plan;
 use water_model::cut_list::CutList;
-use water_model::rows::Rows;
 use water_model::types::{Basin, Plan};
 use water_text::month::Month;
 use word_region::Region;
@@ -89,11 +89,7 @@ fn room_of(alloc: Global, basin: &Basin, arcs: usize) -> Result<Room, AllocError
     requires { arcs ≡ arc_count (spilled basin.now) }
     ensures { IfOk result (λ room. FitsRoom basin.now room) }
 {
-    let most = Plan {
-        flow: Rows::from_vec(vec![in alloc; 0; basin.links.len()]?),
-        take: Rows::from_vec(vec![in alloc; 0; basin.rights.len()]?),
-        out: Rows::from_vec(vec![in alloc; 0; basin.nodes.len()]?),
-    };
+    let most = blank_plan(alloc, basin)?;
     Ok(Room {
         most,
         upper: vec![in alloc; 0; arcs]?,

@@ -1,11 +1,12 @@
-use Rattle.std.proofs.Common.{◌≡◌, ◌∙◌, ◌+◌, ℕ, List, arith, sym, subst}
+use Rattle.std.proofs.Common.{◌≡◌, ◌∙◌, ◌+◌, ℕ, List, ap, arith, length, slice_index, sym, subst}
+use Rattle.std.proofs.lemmas.List.{length-replicate}
 use Rattle.index_seq.specs.Sums.{HaveSums, IsEmptyYear}
 use Rattle.index_seq.specs.Traces.{years_of}
 use Rattle.index_seq.proofs.Running.{within_steps, one_step, sums_start}
 use Rattle.index_seq.proofs.Turning.{turn_of_same}
 use Rattle.index_seq.proofs.months.run_traces.Goals as goal
 use Rattle.month_fold.specs.Runs.{run_pushes}
-use Rattle.water_model.proofs.Lists.{whole_rows}
+use Rattle.water_model.proofs.Lists.{no_numbers, whole_rows}
 
 pub returns-in_err-engine-clause-pushes : goal.returns-in_err-engine-clause-pushes
 returns-in_err-engine-clause-pushes g c =
@@ -25,8 +26,8 @@ loop-trace-init g c = record {
   sums = sums_start c.args.basin.now c.args.series.now c.in_ok-sums.sums (c.in_ok-sums.ensures.count ∙ c.len.ensures)
       c.in_ok-sums.ensures.empty;
   year = record {
-    count = c.in_ok-year.ensures.count ∙ c.len-2.ensures;
-    zeros = λ r l. c.in_ok-year.ensures.zeros r (omega (arith, l, c.len-2.ensures));
+    count = ap length c.in_ok-year.ensures ∙ (length-replicate c.len-2.result 0 ∙ c.len-2.ensures);
+    zeros = λ r l. ap (λ (xs : List ℕ). slice_index xs r) c.in_ok-year.ensures ∙ no_numbers c.len-2.result r;
   };
   pushes = omega arith;
 }
