@@ -5,7 +5,7 @@ use Rattle.std.specs.Prelude.{slice_get, slice_index, unwrap_or}
 use Rattle.cut_book.specs.Book.{book_bytes}
 use Rattle.cut_book.proofs.Adding.{lines_make_bound, tight_books_sum_to_delivery}
 use Rattle.cut_cert.specs.Sets.{cut_at}
-use Rattle.month_fold.specs.Reaches.{HasReaches}
+use Rattle.water_model.specs.History.{HasReaches}
 use Rattle.month_fold.specs.Runs.{RunSeen}
 use Rattle.result_text.specs.Range.{FitsText}
 use Rattle.result_text.proofs.Whole.{FitsText-follows}

@@ -46,4 +46,5 @@ runs_are_accepted bytes s basin records is = record {
   history = is.keeps.history;
   text = refl;
   greatest = is.keeps.greatest;
+  greatest_in_parts = is.keeps.greatest_in_parts;
 }

@@ -12,6 +12,7 @@ use Rattle.water_model.specs.declared.item.Item.{Item}
 use Rattle.water_model.specs.declared.types.Basin.{Basin}
 use Rattle.water_model.specs.declared.types.Inflows.{Inflows}
 use Rattle.water_model.proofs.Greatest.{cuts_make_greatest}
+use Rattle.water_model.proofs.Parts.{whole_units_are_greatest}
 use Rattle.basin_cli.specs.declared.ending.Ending.{Ending}
 use Rattle.basin_cli.specs.declared.ending.Ending.TheVariants as ending
 use Rattle.basin_cli.specs.declared.ending.File.TheVariants as file
@@ -43,6 +44,7 @@ is_text bytes s text b series valid spelled good =
       history = found.1;
       text = found.2;
       greatest = λ i m at. cuts_make_greatest b series found.0 found.1.partial i m at;
+      greatest_in_parts = λ i m at k. (whole_units_are_greatest b series found.0 found.1.partial i m at k).0;
     }
 
 -- and those that are refuted are the text of none

@@ -7,7 +7,7 @@ use Rattle.std.proofs.lemmas.List.{take-append-drop, take-append-le}
 use Rattle.std.proofs.lemmas.Grind.{flat_map-append}
 use Rattle.std.proofs.Math.Seq.{take-append-add, take-length}
 use Rattle.std.proofs.Math.Nat.{add-mul}
-use Rattle.water_model.specs.History.{IsPartialHistory}
+use Rattle.water_model.specs.History.{HaveReaches, IsPartialHistory}
 use Rattle.water_model.specs.Spelling.{whole_line}
 use Rattle.water_model.specs.Text.{items_of_month, items_of_head, items_of_tail}
 use Rattle.water_model.specs.Valid.{IsValidBasin}
@@ -19,6 +19,7 @@ use Rattle.month_fold.proofs.Whole.{whole_history}
 use Rattle.water_model.proofs.Balance.{balanced}
 use Rattle.water_model.proofs.Returns.{covered}
 use Rattle.water_model.proofs.Greatest.{cuts_make_greatest, cuts_let_nobody_get_more}
+use Rattle.water_model.proofs.Parts.{no_fraction_helps, whole_units_are_greatest}
 use Rattle.water_model.proofs.Sheltered.{histories_leave_nothing, called_rights_get_nothing}
 use Rattle.water_model.proofs.Sheltered.{cuts_let_nothing_outside_help}
 use Rattle.month_fold.specs.Runs.{RunSeen, StandsFor, run_pushes}
@@ -30,7 +31,6 @@ use Rattle.water_edge.proofs.Puts.{PutsFront}
 use Rattle.water_edge.specs.Edge.{Puts}
 use Rattle.basin_cli.specs.Written.{IsWritten, IsWrittenRun, StopsWriting}
 use Rattle.basin_cli.specs.Headline.{KeepsPriority, deliveries_of}
-use Rattle.month_fold.specs.Reaches.{HaveReaches}
 use Rattle.std.specs.List.{flat_map}
 use Rattle.std.proofs.KnownBytes.{Appends-trans}
 use Rattle.senior_hold.specs.MonthNetwork.{month_pushes}
@@ -54,10 +54,13 @@ whole_run b series run records same fits stands done =
     record {
       history = rw (← same, ← fits) (whole_history run records stands (rw same done));
       greatest = λ i m at. cuts_make_greatest b series records partial i m at;
+      greatest_in_parts = λ i m at k. (whole_units_are_greatest b series records partial i m at k).0;
       reaches = reaches;
       no_more =
           λ i m at q plan right l serves.
           cuts_let_nobody_get_more b series records partial i m at q plan right l serves;
+      no_fraction = λ i m at k q plan right l serves.
+          no_fraction_helps b series records partial i m at k q plan right l serves;
       no_help = λ i m at right l cut is supply' want' q plan agrees serves.
           cuts_let_nothing_outside_help b series records partial i m at right l cut is supply' want' q plan agrees
           serves;

@@ -3,7 +3,7 @@ use Rattle.std.specs.Prelude.{◌≡◌, ℕ, ◌+◌, ◌*◌, ◌<◌, ◌≤�
 use Rattle.std.specs.Prelude.{slice_index, sum_by}
 use Rattle.cut_book.specs.Book.{book_bytes, terms}
 use Rattle.cut_book.specs.Entries.{balance_of, brought, kept}
-use Rattle.month_fold.specs.Reaches.{HaveReaches}
+use Rattle.water_model.specs.History.{HaveReaches}
 use Rattle.month_fold.specs.Runs.{RunSeen, StandsFor}
 use Rattle.senior_hold.specs.MonthNetwork.{month_pushes}
 use Rattle.water_model.specs.Basin.{right_name}

@@ -29,7 +29,7 @@ use Rattle.basin_cli.specs.Answer.{answered}
 use Rattle.basin_cli.specs.Command.{Command, Files, run, check, report, trial, why, compare, ensemble, edit, upgrade}
 use Rattle.basin_cli.specs.Ending.{status_of, line_of}
 use Rattle.basin_cli.specs.Explained.{Explains, HasMonth, HasRight, IsAbout, PushesUpTo}
-use Rattle.basin_cli.specs.Headline.{HasGreatestPlans}
+use Rattle.basin_cli.specs.Headline.{HasGreatestPlans, HasGreatestPlansInParts}
 use Rattle.basin_cli.specs.Bytes.{AreSpelled, IsGoodBasin, IsSeriesRefusedFor, IsTooLong, Told}
 use Rattle.basin_cli.specs.Out.{Leaves, MayWrite}
 use Rattle.basin_cli.specs.Written.{LeavesRun}
@@ -41,7 +41,8 @@ use Rattle.basin_cli.specs.Comparison.{HasComparingCause, ComparesBehind, Compar
 use Rattle.month_fold.specs.Runs.{run_pushes}
 
 -- A result's bytes are the text of a history of the basin and series that other bytes spell, whoever wrote it. So the
--- deliveries of each of its months, in order of seniority, are lexicographically greatest among all plans of the month.
+-- deliveries of each of its months, in order of seniority, are lexicographically greatest among all plans of the month,
+-- in whole units and in any parts of a unit.
 pub record IsHistoryText (bytes series_bytes result : List ℕ) : Type 0 where
   pub basin : Basin
   pub series : Inflows
@@ -50,6 +51,7 @@ pub record IsHistoryText (bytes series_bytes result : List ℕ) : Type 0 where
   pub history : IsHistory basin series records
   pub text : result ≡ text_bytes basin records
   pub greatest : HasGreatestPlans basin records
+  pub greatest_in_parts : HasGreatestPlansInParts basin records
 
 -- this is the verdict on the bytes of a result, and they are the text of no history
 pub record IsRefuted (refuted : Refuted) (bytes series_bytes result : List ℕ) : Type 0 where

@@ -1,7 +1,7 @@
 -- How far the text of a run was written.
 use Rattle.std.specs.Prelude.{◌≡◌, ◌⊎◌, ℕ, ◌+◌, ◌-◌, ◌*◌, ◌<◌, ◌≤◌, List, length, take, Option, ⊤}
 use Rattle.std.specs.Io.KnownBytes.{Appends}
-use Rattle.month_fold.specs.Reaches.{HaveReaches}
+use Rattle.water_model.specs.History.{HaveReaches}
 use Rattle.month_fold.specs.Runs.{RunSeen, StandsFor}
 use Rattle.result_text.specs.Begun.{begun_bytes}
 use Rattle.senior_hold.specs.MonthNetwork.{month_pushes}

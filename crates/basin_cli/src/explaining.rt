@@ -4,7 +4,7 @@ ghost use Rattle.std.specs.Prelude.{IfNone, IfSome, bytes_eq, position};
 ghost use Rattle.water_text.specs.Months.{IsMonth};
 ghost use Rattle.water_model.specs.Valid.{IsValidBasin, IsSeriesOf};
 ghost use Rattle.rights_roll.specs.Rolls.{IsRollOf};
-ghost use Rattle.month_fold.specs.Reaches.{HasReaches};
+ghost use Rattle.water_model.specs.History.{HasReaches};
 ghost use Rattle.month_fold.specs.Runs.{HasMonths, StandsFor};
 ghost use Rattle.result_text.specs.Range.{FitsText};
 ghost use Rattle.senior_hold.specs.MonthNetwork.{month_pushes};

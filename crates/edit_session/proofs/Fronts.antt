@@ -9,7 +9,7 @@ use Rattle.water_model.specs.History.{IsPartialHistory, Follows}
 use Rattle.water_model.specs.declared.types.Basin.{Basin}
 use Rattle.water_model.specs.declared.types.Inflows.{Inflows}
 use Rattle.water_model.specs.declared.types.MonthRecord.{MonthRecord}
-use Rattle.month_fold.specs.Reaches.{HaveReaches}
+use Rattle.water_model.specs.History.{HaveReaches}
 use Rattle.edit_session.specs.Laws.{AgreeBefore}
 
 pub front_partial : (b : Basin) (series other : Inflows) (records : List MonthRecord) (month : ℕ) →

@@ -2,7 +2,7 @@
 use Rattle.std.specs.Prelude.{List, map, Box}
 use Rattle.std.specs.Global.{Global}
 use Rattle.water_model.specs.History.{IsPartialHistory}
-use Rattle.month_fold.specs.Reaches.{HaveReaches}
+use Rattle.water_model.specs.History.{HaveReaches}
 use Rattle.water_model.specs.declared.types.Basin.{Basin}
 use Rattle.water_model.specs.declared.types.Inflows.{Inflows}
 use Rattle.water_model.specs.declared.types.MonthRecord.{MonthRecord}

@@ -2,10 +2,10 @@
 use Rattle.std.proofs.Common.{◌≡◌, ℕ, zero, suc, ◌<◌, ◌≤◌, Bool, true, false, refl, sym, ◌∙◌, ap, ap₂, arith, List, []}
 use Rattle.std.proofs.Common.{◌∷◌, length, inl, inr}
 use Rattle.std.proofs.lemmas.Bool.{cases_lt}
-use Rattle.std.specs.Prelude.{slice_get, drop, Option, Some, None, unwrap_or, option_map, All}
+use Rattle.std.specs.Prelude.{slice_get, drop, None, unwrap_or, option_map, All}
 use Rattle.water_model.specs.Lookups.{of_entry}
 use Rattle.water_model.specs.Rights.{is_lower, priority}
-use Rattle.water_model.specs.Basin.{taking_node, taking_node_of_kind, instream_link, link_of_kind, is_senior}
+use Rattle.water_model.specs.Basin.{instream_link, link_of_kind, is_senior}
 use Rattle.water_model.specs.Basin.{priority_of}
 use Rattle.water_model.specs.History.{is_zone_of, is_zone_of_kind}
 use Rattle.water_model.specs.Valid.{is_diversion, is_diversion_kind, rank_of_kind}
@@ -31,22 +31,7 @@ module _ (b : Basin) (at : ℕ) (x : Right) where
       of_entry (with_right b at x).rights at f d ≡ f x
   of_new f d l = ap (λ o. unwrap_or (option_map f o) d) (entry_at_new b.rights at x l)
 
-  -- where the rights of the first basin take, and what they are on
-  pub moved_node : (r : ℕ) → at ≤ length b.rights → taking_node (with_right b at x) (moved at r) ≡ taking_node b r
-  moved_node r l =
-      of_moved (λ y. taking_node_of_kind (with_right b at x) y.kind) None r l ∙ of_get (slice_get b.rights r)
-    where
-      of_kind : (k : RightKind) → taking_node_of_kind (with_right b at x) k ≡ taking_node_of_kind b k
-      of_kind (Diversion node) = refl
-      of_kind (Instream link) = refl
-      of_kind (Zone reservoir level) = refl
-
-      of_get : (o : Option Right) →
-          unwrap_or (option_map (λ y. taking_node_of_kind (with_right b at x) y.kind) o) None
-          ≡ unwrap_or (option_map (λ y. taking_node_of_kind b y.kind) o) None
-      of_get None = refl
-      of_get (Some y) = of_kind y.kind
-
+  -- what the rights of the first basin are on
   pub moved_link : (r : ℕ) → at ≤ length b.rights → instream_link (with_right b at x) (moved at r) ≡ instream_link b r
   moved_link r l = of_moved (λ y. link_of_kind y.kind) None r l
 
@@ -60,9 +45,6 @@ module _ (b : Basin) (at : ℕ) (x : Right) where
     junior r l =
         let entry = entry_holds (λ y. is_lower (priority y) (priority x) ≡ true) b.rights r more.most_junior l in
         ap (λ o. is_lower (unwrap_or (option_map priority o) []) (priority x)) entry.1 ∙ entry.2
-
-    pub senior_to_new : (r : ℕ) → r < length b.rights → is_senior (with_right b at x) (moved at r) at ≡ true
-    senior_to_new r l = ap₂ is_lower (of_moved priority [] r more.place) (of_new priority [] more.place) ∙ junior r l
 
     pub new_not_senior : (r : ℕ) → r < length b.rights → is_senior (with_right b at x) at (moved at r) ≡ false
     new_not_senior r l = by_test (is_senior (with_right b at x) at (moved at r)) refl

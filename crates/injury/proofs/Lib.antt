@@ -1,6 +1,7 @@
 pub mod Moves
 pub mod Joined
-pub mod Month
+pub mod Months
+pub mod Changed
 pub mod Runs
 pub mod Pairs
 pub mod Put

@@ -1,12 +1,11 @@
 -- Places behind an inserted one move on: what that does to lists and sums.
-use Rattle.std.proofs.Common.{◌≡◌, ℕ, zero, suc, ◌+◌, ◌<◌, ◌≤◌, Bool, true, false, refl, sym, ◌∙◌, ap, ap₂, arith, List}
+use Rattle.std.proofs.Common.{◌≡◌, ℕ, zero, suc, ◌+◌, ◌<◌, ◌≤◌, Bool, true, false, refl, sym, ◌∙◌, ap, arith, List}
 use Rattle.std.proofs.Common.{[], ◌∷◌, length, inl, inr}
 use Rattle.std.proofs.lemmas.Bool.{cases_lt, cases_order}
 use Rattle.std.proofs.lemmas.Bool.Decides.{nat_tests}
 use Rattle.std.proofs.lemmas.List.Edits.{length-insert}
-use Rattle.std.proofs.lemmas.Option.{unwrap_or-slice_get}
-use Rattle.std.specs.Prelude.{if◌then◌else◌, max, insert, slice_get, slice_index, unwrap_or, Some, ◌≢◌}
-use Rattle.place_sums.specs.Sums.{total, total_where, greatest_where}
+use Rattle.std.specs.Prelude.{if◌then◌else◌, insert, slice_get, Some, ◌≢◌}
+use Rattle.place_sums.specs.Sums.{total, total_where}
 use Rattle.place_sums.proofs.Totals.{total_same}
 use Rattle.injury.specs.OneMore.{moved}
 
@@ -26,12 +25,6 @@ moved_suc at r = elim (cases_lt r at) [
 
 pub moved_within : (at r n : ℕ) → r < n → moved at r < suc n
 moved_within at r n l = elim (cases_lt r at) [
-  | inl below ↦ omega (arith, moved_below at r below)
-  | inr behind ↦ omega (arith, moved_behind at r behind)
-]
-
-pub moved_apart : (at r : ℕ) → moved at r ≢ at
-moved_apart at r e = elim (cases_lt r at) [
   | inl below ↦ omega (arith, moved_below at r below)
   | inr behind ↦ omega (arith, moved_behind at r behind)
 ]
@@ -107,51 +100,3 @@ total_where_moved m n at p q f g len l none tests terms =
     term : (p q : Bool) (x y : ℕ) → q ≡ p → (p ≡ true → y ≡ x) → (if q then y else 0) ≡ (if p then x else 0)
     term true q x y e h = rw e (h refl)
     term false q x y e h = rw e refl
-
-greatest_same : (n : ℕ) (p q : ℕ → Bool) (f g : ℕ → ℕ) → ((r : ℕ) → r < n → q r ≡ p r) → ((r : ℕ) → r < n → g r ≡ f r) →
-    greatest_where n q g ≡ greatest_where n p f
-unfolding greatest_where
-greatest_same zero p q f g h i = refl
-greatest_same (suc n) p q f g h i =
-    ap₂ max (greatest_same n p q f g (λ r l. h r (omega arith)) (λ r l. i r (omega arith)))
-    (ap₂ (λ t x. if t then x else 0) (h n (omega arith)) (i n (omega arith)))
-
-greatest_moved : (n at : ℕ) (q : ℕ → Bool) (g : ℕ → ℕ) → at ≤ n → q at ≡ false →
-    greatest_where (suc n) q g ≡ greatest_where n (λ r. q (moved at r)) (λ r. g (moved at r))
-unfolding greatest_where
-greatest_moved zero at q g l none =
-    let e : q 0 ≡ false = ap q (omega arith) ∙ none in
-    let last : (if q 0 then g 0 else 0) ≡ 0 = ap (λ t. if t then g 0 else 0) e in
-    omega arith
-greatest_moved (suc n) at q g l none = elim (cases_lt n at) [
-  | inl last ↦ (let e : q (suc n) ≡ false = ap q (omega arith) ∙ none in
-      let nothing : (if q (suc n) then g (suc n) else 0) ≡ 0 = ap (λ t. if t then g (suc n) else 0) e in
-      drop_last (greatest_where (suc n) q g) (if q (suc n) then g (suc n) else 0)
-      (greatest_where (suc n) (λ r. q (moved at r)) (λ r. g (moved at r))) nothing
-      (sym (greatest_same (suc n) q (λ r. q (moved at r)) g (λ r. g (moved at r))
-      (λ r k. ap q (moved_below at r (omega arith))) (λ r k. ap g (moved_below at r (omega arith))))))
-  | inr before ↦ ap₂ max (greatest_moved n at q g before none)
-      (ap (λ s. if q s then g s else 0) (sym (moved_behind at n before)))
-]
-  where
-    drop_last : (x y z : ℕ) → y ≡ 0 → x ≡ z → max x y ≡ z
-    drop_last x y z h e = omega arith
-
-pub greatest_where_moved : (m n at : ℕ) (p q : ℕ → Bool) (f g : ℕ → ℕ) → m ≡ suc n → at ≤ n → q at ≡ false →
-    ((r : ℕ) → r < n → q (moved at r) ≡ p r) → ((r : ℕ) → r < n → g (moved at r) ≡ f r) →
-    greatest_where m q g ≡ greatest_where n p f
-greatest_where_moved m n at p q f g len l none tests terms =
-    ap (λ k. greatest_where k q g) len
-    ∙ (greatest_moved n at q g l none
-    ∙ greatest_same n p (λ r. q (moved at r)) f (λ r. g (moved at r)) tests terms)
-
--- and numbers by their places
-pub number_at_moved : (xs : List ℕ) (at x r : ℕ) → at ≤ length xs →
-    slice_index (insert xs at x) (moved at r) ≡ slice_index xs r
-number_at_moved xs at x r l =
-    sym (unwrap_or-slice_get (insert xs at x) (moved at r) 0)
-    ∙ (ap (λ o. unwrap_or o 0) (entry_at_moved xs at x r l) ∙ unwrap_or-slice_get xs r 0)
-
-pub number_at_new : (xs : List ℕ) (at x : ℕ) → at ≤ length xs → slice_index (insert xs at x) at ≡ x
-number_at_new xs at x l =
-    sym (unwrap_or-slice_get (insert xs at x) at 0) ∙ ap (λ o. unwrap_or o 0) (entry_at_new xs at x l)

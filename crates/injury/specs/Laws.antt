@@ -1,5 +1,5 @@
 -- Laws over the comparison of runs.
-use Rattle.std.specs.Prelude.{◌≡◌, ℕ, List, [], slice_get, slice_index, Some, ◌↔◌, Contains}
+use Rattle.std.specs.Prelude.{◌≡◌, ℕ, ◌<◌, Bool, List, [], slice_get, slice_index, Some, ◌↔◌, Contains}
 use Rattle.water_model.specs.History.{IsPartialHistory, IsHistory}
 use Rattle.water_model.specs.Valid.{IsValidBasin}
 use Rattle.water_model.specs.declared.types.Basin.{Basin}
@@ -10,6 +10,7 @@ use Rattle.injury.specs.Common.{HaveOneName, common_rights}
 use Rattle.injury.specs.Injuries.{IsInjury, injuries, comparison_text}
 use Rattle.injury.specs.declared.injuries.Injury.{Injury}
 use Rattle.injury.specs.OneMore.{HasOneMore, GiveSame}
+use Rattle.injury.specs.Changed.{HasChanged, IsSeniorToChange, GiveUnchanged, LeaveSame, SparesCarryover}
 
 -- Common rights are those of one name. The pairs are the rights of the first basin that the second has by name.
 abbrev pub CommonRightsHaveOneName : Type 0
@@ -50,3 +51,29 @@ JuniorLeavesNoInjury =
     IsValidBasin first → IsValidBasin second → HasOneMore first second at right → GiveSame first at series other →
     IsPartialHistory first series records → IsPartialHistory second other others →
     injuries first second records others ≡ []
+
+-- A change injures juniors alone, in the month itself. As long as the months before left the same in the reservoirs and
+-- of what comes back, a right that is senior to each changed right is delivered the same in histories of both basins.
+abbrev pub ChangeInjuresJuniorsAlone : Type 0
+ChangeInjuresJuniorsAlone =
+    (first second : Basin) (changed : ℕ → Bool) (series other : Inflows) (records others : List MonthRecord) →
+    IsValidBasin first → IsValidBasin second → HasChanged first second changed →
+    GiveUnchanged first changed series other →
+    IsPartialHistory first series records → IsPartialHistory second other others →
+    (i : ℕ) (m n : MonthRecord) → slice_get records i ≡ Some m → slice_get others i ≡ Some n →
+    ((j : ℕ) (x y : MonthRecord) → j < i → slice_get records j ≡ Some x → slice_get others j ≡ Some y →
+    LeaveSame first x y) →
+    (right : ℕ) → IsSeniorToChange first second changed right →
+    slice_index m.delivered right ≡ slice_index n.delivered right
+
+-- So a change injures no senior in any month, where each zone and each right from which water comes back is senior to
+-- it.
+abbrev pub ChangeInjuresNoSenior : Type 0
+ChangeInjuresNoSenior =
+    (first second : Basin) (changed : ℕ → Bool) (series other : Inflows) (records others : List MonthRecord) →
+    IsValidBasin first → IsValidBasin second → HasChanged first second changed →
+    GiveUnchanged first changed series other → SparesCarryover first second changed →
+    IsPartialHistory first series records → IsPartialHistory second other others →
+    (i : ℕ) (m n : MonthRecord) → slice_get records i ≡ Some m → slice_get others i ≡ Some n →
+    (right : ℕ) → IsSeniorToChange first second changed right →
+    slice_index m.delivered right ≡ slice_index n.delivered right

@@ -1,4 +1,5 @@
 pub mod Common
 pub mod OneMore
+pub mod Changed
 pub mod Injuries
 pub mod Laws

@@ -12,7 +12,7 @@ use Rattle.water_model.specs.declared.types.MonthRecord.{MonthRecord}
 use Rattle.water_model.proofs.Greatest.{reach_unique}
 use Rattle.water_model.proofs.Outcome.{one_outcome}
 use Rattle.month_fold.specs.Laws.{RunsHaveOneOutcome}
-use Rattle.month_fold.specs.Reaches.{HasReaches}
+use Rattle.water_model.specs.History.{HasReaches}
 
 -- two lists of as many rights that have the same set of each
 same_sets : (xs ys : List (Option (List Bool))) → length xs ≡ length ys →

@@ -14,7 +14,8 @@ use Rattle.water_model.specs.declared.types.Basin.{Basin}
 use Rattle.water_model.specs.declared.types.Inflows.{Inflows}
 use Rattle.water_model.specs.declared.types.MonthRecord.{MonthRecord}
 use Rattle.month_terms.specs.Terms.{HasUsed}
-use Rattle.month_fold.specs.Reaches.{HasDeliveries, HaveReaches, TellUse, TellsUse}
+use Rattle.month_fold.specs.Uses.{HasDeliveries, TellUse, TellsUse}
+use Rattle.water_model.specs.History.{HaveReaches}
 use Rattle.month_fold.specs.Runs.{EngineSeen, RunSeen, StandsFor, run_with}
 use Rattle.month_terms.proofs.Amounts.{deliveries_small as all_small}
 use Rattle.month_terms.proofs.WaterYears.{nothing_used, used_most}

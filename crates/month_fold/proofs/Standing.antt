@@ -7,7 +7,7 @@ use Rattle.lag_returns.specs.Lags as lag
 use Rattle.water_model.specs.declared.types.MonthRecord.{MonthRecord}
 use Rattle.water_model.proofs.Histories.{at_end, one_month_more, opens_with_last}
 use Rattle.month_terms.specs.Terms.{HasUsed}
-use Rattle.month_fold.specs.Reaches.{HasReaches}
+use Rattle.water_model.specs.History.{HasReaches}
 use Rattle.month_fold.specs.Runs.{RunSeen, StandsFor, IsNext}
 
 pub stands_next : (run : RunSeen) (records : List MonthRecord) (m : MonthRecord) (lags : List OnTheWay)

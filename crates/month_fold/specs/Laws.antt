@@ -6,7 +6,7 @@ use Rattle.water_model.specs.Valid.{IsValidBasin}
 use Rattle.water_model.specs.declared.types.Basin.{Basin}
 use Rattle.water_model.specs.declared.types.Inflows.{Inflows}
 use Rattle.water_model.specs.declared.types.MonthRecord.{MonthRecord}
-use Rattle.month_fold.specs.Reaches.{HaveReaches}
+use Rattle.water_model.specs.History.{HaveReaches}
 
 -- One outcome, sets included. Two partial histories of one length, each with the reaches as its sets, have one outcome
 -- month by month, and the same sets.

@@ -1,4 +1,4 @@
-pub mod Reaches
+pub mod Uses
 pub mod Runs
 pub mod RunInside
 pub mod Laws

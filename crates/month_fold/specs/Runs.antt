@@ -4,7 +4,7 @@ use Rattle.lag_returns.specs.Lags.{OnTheWay}
 use Rattle.lag_returns.specs.Lags as lag
 use Rattle.water_model.specs.History.{IsPartialHistory, Follows, opening_after}
 use Rattle.month_terms.specs.Terms.{HasUsed}
-use Rattle.month_fold.specs.Reaches.{HaveReaches, HasReaches}
+use Rattle.water_model.specs.History.{HaveReaches, HasReaches}
 use Rattle.senior_hold.specs.MonthNetwork.{month_pushes}
 use Rattle.water_model.specs.Valid.{IsValidBasin, IsSeriesOf}
 use Rattle.water_model.specs.declared.types.Basin.{Basin}

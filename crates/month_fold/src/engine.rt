@@ -6,7 +6,8 @@ ghost use Rattle.water_model.specs.History.{IsPartialHistory, opening_after};
 ghost use Rattle.water_model.specs.Valid.{IsValidBasin, IsSeriesOf};
 ghost use Rattle.water_model.specs.declared.types.Inflows.{Inflows};
 ghost use Rattle.water_model.specs.declared.types.MonthRecord.{MonthRecord};
-ghost use Rattle.month_fold.specs.Reaches.{HasDeliveries, HaveReaches, TellUse};
+ghost use Rattle.month_fold.specs.Uses.{HasDeliveries, TellUse};
+ghost use Rattle.water_model.specs.History.{HaveReaches};
 ghost use Rattle.month_fold.specs.Runs.{StandsFor, HasMonths, run_with};
 
 use crate::next::{next_month, use_volumes};

@@ -7,7 +7,7 @@ ghost use Rattle.month_terms.specs.Terms.{FitsRecord, HasUsed};
 ghost use Rattle.senior_hold.specs.MonthNetwork.{month_pushes};
 ghost use Rattle.water_model.specs.Valid.{IsValidBasin};
 ghost use Rattle.water_model.specs.declared.types.MonthRecord.{MonthRecord};
-ghost use Rattle.month_fold.specs.Reaches.{HasDeliveries};
+ghost use Rattle.month_fold.specs.Uses.{HasDeliveries};
 ghost use Rattle.month_fold.specs.Runs.{StandsFor, HasMonths, IsNext};
 
 use lag_returns::Lags;

@@ -5,7 +5,7 @@ ghost use Rattle.lag_returns.specs.Lags as lag;
 ghost use Rattle.water_model.specs.History.{opening_after};
 ghost use Rattle.water_model.specs.Valid.{IsValidBasin};
 ghost use Rattle.month_terms.specs.Terms.{HasUsed};
-ghost use Rattle.month_fold.specs.Reaches.{HasDeliveries, TellUse};
+ghost use Rattle.month_fold.specs.Uses.{HasDeliveries, TellUse};
 
 use crate::next::use_volumes;
 use lag_returns::Lags;

@@ -5,7 +5,7 @@ ghost use Rattle.senior_hold.specs.MonthNetwork.{month_pushes};
 ghost use Rattle.water_model.specs.Valid.{IsValidBasin, IsSeriesOf};
 ghost use Rattle.water_model.specs.declared.types.MonthRecord.{MonthRecord};
 ghost use Rattle.water_model.specs.History.{IsPartialHistory};
-ghost use Rattle.month_fold.specs.Reaches.{HaveReaches};
+ghost use Rattle.water_model.specs.History.{HaveReaches};
 ghost use Rattle.month_fold.specs.Runs.{StandsFor};
 
 use crate::engine::Engine;

@@ -7,7 +7,7 @@ use Rattle.std.specs.Fmt.{decimal}
 use Rattle.std.specs.List.{flat_map, list_all}
 use Rattle.std.proofs.lemmas.Bool.{cases_lt}
 use Rattle.std.proofs.lemmas.List.Sums.{sum_by-cons}
-use Rattle.month_fold.specs.Reaches.{HasReaches}
+use Rattle.water_model.specs.History.{HasReaches}
 use Rattle.water_text.specs.Months.{month_digits}
 use Rattle.water_model.specs.Balance.{whole_inflow}
 use Rattle.water_model.specs.Cuts.{IsReach}

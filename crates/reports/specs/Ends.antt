@@ -1,7 +1,7 @@
 -- How a report may end.
 use Rattle.std.specs.Prelude.{ℕ, ◌≤◌, List, length, take, ⊤, Option, Result, Ok, Err}
 use Rattle.std.specs.Io.KnownBytes.{Appends}
-use Rattle.month_fold.specs.Reaches.{HaveReaches}
+use Rattle.water_model.specs.History.{HaveReaches}
 use Rattle.water_model.specs.History.{IsHistory}
 use Rattle.water_model.specs.declared.types.Basin.{Basin}
 use Rattle.water_model.specs.declared.types.Inflows.{Inflows}

@@ -1,6 +1,6 @@
 -- Laws over the figures of a run.
 use Rattle.std.specs.Prelude.{◌≡◌, ℕ, List}
-use Rattle.month_fold.specs.Reaches.{HaveReaches}
+use Rattle.water_model.specs.History.{HaveReaches}
 use Rattle.water_model.specs.History.{IsPartialHistory, IsHistory}
 use Rattle.water_model.specs.Valid.{IsValidBasin}
 use Rattle.water_model.specs.declared.types.Basin.{Basin}

@@ -6,7 +6,7 @@ use Rattle.place_sums.specs.Sums.{total, count_where}
 use Rattle.place_sums.proofs.Totals.{total_same, total_exchange, total_at, total_le, place_counted}
 use Rattle.water_model.specs.Network.{walks, tail_in, head_in}
 use Rattle.water_model.specs.declared.types.Link.{Link}
-use Rattle.river_net.proofs.Counts.{total_ones, all_or_one, at_inside}
+use Rattle.place_sums.proofs.Counts.{total_ones, all_or_one, at_inside}
 use Rattle.river_net.proofs.Walks.{walk_by, walk_within}
 
 -- two places at which a function has one value

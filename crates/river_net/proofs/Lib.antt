@@ -1,6 +1,5 @@
 pub mod Entries
 pub mod FirstLinks
-pub mod Counts
 pub mod Places
 pub mod Entering
 pub mod Sorts

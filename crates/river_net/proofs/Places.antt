@@ -9,7 +9,7 @@ use Rattle.water_model.specs.Network.{tail_in, head_in}
 use Rattle.river_net.specs.Firsts.{IsWithin}
 use Rattle.river_net.specs.GraphSeen.{GraphSeen}
 use Rattle.river_net.specs.Sorting.{IsPlacing}
-use Rattle.river_net.proofs.Counts.{fewer, at_inside}
+use Rattle.place_sums.proofs.Counts.{fewer, at_inside}
 
 -- the places with one more
 abbrev pub with_place : (ℕ → ℕ) → ℕ → ℕ → ℕ → ℕ

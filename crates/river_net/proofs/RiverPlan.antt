@@ -22,7 +22,7 @@ use Rattle.water_model.proofs.Balance.{ends}
 use Rattle.water_model.proofs.Sets.{grouped, total_where_add}
 use Rattle.river_net.specs.Firsts.{IsWithin}
 use Rattle.river_net.specs.Laws.{RunOfRiverIsPlan}
-use Rattle.river_net.proofs.Counts.{at_inside}
+use Rattle.place_sums.proofs.Counts.{at_inside}
 use Rattle.river_net.proofs.Ranks.{forward_numbers}
 
 -- the least place that passes

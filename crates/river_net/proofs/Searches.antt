@@ -12,7 +12,7 @@ use Rattle.water_model.specs.Network.{walks, tail_in, head_in}
 use Rattle.river_net.specs.Firsts.{IsWithin, IsFirstFrom, leaves}
 use Rattle.river_net.specs.GraphSeen.{GraphSeen}
 use Rattle.river_net.specs.Search.{IsSearch, IsExpanded, IsExpanding, reaches_itself}
-use Rattle.river_net.proofs.Counts.{at_inside}
+use Rattle.place_sums.proofs.Counts.{at_inside}
 use Rattle.river_net.proofs.Releases.{first_leaves, splits}
 use Rattle.river_net.proofs.Walks.{walk_on, walk_one, walk_within, walk_stays}
 

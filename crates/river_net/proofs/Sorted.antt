@@ -11,7 +11,7 @@ use Rattle.river_net.specs.Firsts.{IsWithin}
 use Rattle.river_net.specs.GraphSeen.{GraphSeen}
 use Rattle.river_net.specs.Net.{IsRunningOrder}
 use Rattle.river_net.specs.Sorting.{IsReleased}
-use Rattle.river_net.proofs.Counts.{all_counted}
+use Rattle.place_sums.proofs.Counts.{all_counted}
 use Rattle.river_net.proofs.Walks.{walk_rises}
 use Rattle.river_net.proofs.Chains.{Chain, chain_start, chain_more, chain_turns}
 use Rattle.river_net.proofs.Releases.{order_fits}

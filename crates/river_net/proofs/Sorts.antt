@@ -12,7 +12,7 @@ use Rattle.water_model.specs.Network.{tail_in, head_in}
 use Rattle.river_net.specs.Firsts.{IsWithin}
 use Rattle.river_net.specs.GraphSeen.{GraphSeen}
 use Rattle.river_net.specs.Sorting.{AreEntering, IsPlacing, IsSorting, HasSources}
-use Rattle.river_net.proofs.Counts.{none_passes}
+use Rattle.place_sums.proofs.Counts.{none_passes}
 use Rattle.river_net.proofs.Places.{with_place, at_place, off_place, placing_start, placing_next, room}
 
 -- the count of the links to a node that are not handled

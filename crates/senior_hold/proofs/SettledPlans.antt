@@ -57,7 +57,8 @@ pub spills_most : (b : Basin) (month : Month) (supply want : List ℕ) (p : Plan
 spills_most b month supply want p valid plan =
     let n : ℕ = length b.nodes in
     let all : List Bool = replicate n true in
-    let cut = cut_balance (spilled b) month supply want p all plan (length-replicate n true ∙ sym (spilled_count b)) in
+    let cut = cut_balance (spilled b) (carry_of b month) supply want p all plan
+    (length-replicate n true ∙ sym (spilled_count b)) in
     let supplies = ap (λ k. total_where k (λ v. has all v) (λ v. slice_index supply v)) (spilled_count b)
     ∙ total_where_all n (λ v. has all v) (λ v. slice_index supply v) (has_all n) in
     let outs = ap (λ k. total_where k (λ v. has all v) (λ v. slice_index p.out v)) (spilled_count b)
@@ -79,8 +80,8 @@ both_small : (b : Basin) (month : Month) (supply want want' : List ℕ) (p q : P
     IsPlan (spilled b) month supply want p → IsPlan b month p.out want' q → (e : ℕ) → e < length b.links →
     slice_index p.flow e + slice_index q.flow e ≤ total (length b.nodes) (λ v. slice_index supply v)
 both_small b month supply want want' p q valid plan_p plan_q e l =
-    let first = cut_balance (spilled b) month supply want p cut plan_p (size ∙ sym (spilled_count b)) in
-    let second = cut_balance b month p.out want' q cut plan_q size in
+    let first = cut_balance (spilled b) (carry_of b month) supply want p cut plan_p (size ∙ sym (spilled_count b)) in
+    let second = cut_balance b (carry_of b month) p.out want' q cut plan_q size in
     let supplies = ap (λ k. total_where k (λ v. has cut v) (λ v. slice_index supply v)) (spilled_count b) in
     let outs = ap (λ k. total_where k (λ v. has cut v) (λ v. slice_index p.out v)) (spilled_count b) in
     let ins = total_where_none_pass (length b.links) (λ x. enters b cut x) (λ x. slice_index p.flow x) no_entry in
@@ -300,7 +301,7 @@ settled_delivers b month supply want g p cuts kinds plan s settled r l =
         omega (
           arith,
           got b want g r l,
-          cut_slack b month supply (deliveries_by b want g) r short.1.0 supply want p l tight.is_cut plan
+          cut_slack b (carry_of b month) supply (deliveries_by b want g) r short.1.0 supply want p l tight.is_cut plan
               (λ n m e. refl) (λ q m senior. omega (arith, got b want g q m, least q m (kinds q m))),
         )
 

@@ -19,7 +19,7 @@ use Rattle.senior_hold.specs.MonthNetwork.{plan_of}
 use Rattle.senior_hold.proofs.MonthArcs.{IsKind, on_link, at_node, AreKinds, take_arc_below, out_arc_below}
 use Rattle.senior_hold.proofs.MonthArcs.{take_arc_apart}
 use Rattle.senior_hold.proofs.Plans.{list_get, plan_is, delivery_is, right_arc_in}
-use Rattle.water_model.specs.Plans.{delivery}
+use Rattle.water_model.specs.Plans.{delivery, carry_of}
 use Rattle.rights_roll.specs.SeniorityOrder.{IsSeniorityOrder}
 use Rattle.senior_hold.specs.Solved.{IsSettled}
 use Rattle.senior_hold.proofs.Swept.{delivered_by, deliveries_by, IsSwept}
@@ -93,7 +93,8 @@ kept_below b month supply want order o k w g h cuts kinds net swept flow (suc i)
           arith,
           got b want g r l,
           delivery_is b month supply want w h r net flow l (kind r l),
-          cut_slack b month supply (deliveries_by b want g) r short.1.0 supply want (plan_of b h) l tight.is_cut
+          cut_slack b (carry_of b month) supply (deliveries_by b want g) r short.1.0 supply want (plan_of b h) l
+              tight.is_cut
               (plan_is b month supply want w h net flow) (λ n m e. refl) keeps,
         )
       where

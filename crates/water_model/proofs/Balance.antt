@@ -12,7 +12,7 @@ use Rattle.place_sums.specs.Sums.{total, total_where}
 use Rattle.water_model.specs.Lookups.{has}
 use Rattle.water_model.specs.Basin.{head_of, tail_of, is_at, taking_node, taking_node_of_kind, node_of_reservoir}
 use Rattle.water_model.specs.Basin.{instream_link, link_of_kind}
-use Rattle.water_model.specs.Plans.{IsPlan}
+use Rattle.water_model.specs.Plans.{IsPlan, carry_of}
 use Rattle.water_model.specs.Cuts.{enters, leaves, takes_within, node_within}
 use Rattle.water_model.specs.Hydrology.{inflow_at, stored_at, evaporation, in_year}
 use Rattle.water_model.specs.History.{IsPartialHistory, Follows, is_zone_of, is_zone_of_kind, opening_after}
@@ -114,7 +114,7 @@ pub plan_balance : (b : Basin) (month : Month) (supply want : List ℕ) (p : Pla
     ≡ total (length b.rights) (λ r. slice_index p.take r) + total (length b.nodes) (λ n. slice_index p.out n)
 plan_balance b month supply want p valid plan =
     let nodes : ℕ = length b.nodes in
-    let cut = cut_balance b month supply want p (all_nodes b) plan (length-replicate nodes true) in
+    let cut = cut_balance b (carry_of b month) supply want p (all_nodes b) plan (length-replicate nodes true) in
     let supplies = total_where_all nodes (λ n. has (all_nodes b) n) (λ n. slice_index supply n) (has_all nodes) in
     let outs = total_where_all nodes (λ n. has (all_nodes b) n) (λ n. slice_index p.out n) (has_all nodes) in
     let ins =

@@ -4,22 +4,21 @@ use Rattle.std.specs.Prelude.{◌==◌, slice_index}
 use Rattle.place_sums.specs.Sums.{total_where}
 use Rattle.water_model.specs.Lookups.{has}
 use Rattle.water_model.specs.Basin.{head_of, tail_of, takes_at, taking_node}
-use Rattle.water_model.specs.Plans.{IsPlan, inflow_to, outflow_from, taken_at}
+use Rattle.water_model.specs.Plans.{IsFeasible, inflow_to, outflow_from, taken_at}
 use Rattle.water_model.specs.Cuts.{enters, leaves, takes_within}
-use Rattle.water_text.specs.declared.month.Month.{Month}
 use Rattle.water_model.specs.declared.types.Basin.{Basin}
 use Rattle.water_model.specs.declared.types.Plan.{Plan}
 use Rattle.water_model.proofs.Sets.{grouped, at_place, at_some_place, total_where_add, total_where_same, total_crossing}
 use Rattle.water_model.proofs.Sets.{total_swap}
 
-pub cut_balance : (b : Basin) (month : Month) (supply want : List ℕ) (p : Plan) (cut : List Bool) →
-    IsPlan b month supply want p → length cut ≡ length b.nodes →
+pub cut_balance : (b : Basin) (carry : ℕ → ℕ) (supply want : List ℕ) (p : Plan) (cut : List Bool) →
+    IsFeasible b carry supply want p → length cut ≡ length b.nodes →
     total_where (length b.nodes) (λ n. has cut n) (λ n. slice_index supply n)
     + total_where (length b.links) (λ e. enters b cut e) (λ e. slice_index p.flow e)
     ≡ total_where (length b.links) (λ e. leaves b cut e) (λ e. slice_index p.flow e)
     + total_where (length b.rights) (λ r. takes_within b cut r) (λ r. slice_index p.take r)
     + total_where (length b.nodes) (λ n. has cut n) (λ n. slice_index p.out n)
-cut_balance b month supply want p cut plan len =
+cut_balance b carry supply want p cut plan len =
     let nodes : ℕ = length b.nodes in
     let links : ℕ = length b.links in
     let f : ℕ → ℕ = λ e. slice_index p.flow e in

@@ -8,10 +8,9 @@ use Rattle.water_model.specs.Lookups.{has}
 use Rattle.water_model.specs.Basin.{taking_node, taking_node_of_kind, instream_link, link_of_kind, is_at, is_on_link}
 use Rattle.water_model.specs.Basin.{is_senior, priority_of}
 use Rattle.water_model.specs.Rights.{is_lower}
-use Rattle.water_model.specs.Plans.{IsPlan, delivery, delivery_by_link, carry_of}
-use Rattle.water_model.specs.Cuts.{enters, leaves, takes_within, node_within, kept_on, cut_kept, cut_capacity, IsCut}
+use Rattle.water_model.specs.Plans.{IsFeasible, delivery, delivery_by_link}
+use Rattle.water_model.specs.Cuts.{enters, leaves, takes_within, node_within, kept_on, cut_kept, IsCut}
 use Rattle.water_model.specs.Cuts.{separates}
-use Rattle.water_text.specs.declared.month.Month.{Month}
 use Rattle.water_model.specs.declared.types.Basin.{Basin}
 use Rattle.water_model.specs.declared.types.Right.{Right}
 use Rattle.water_model.specs.declared.types.RightKind.{RightKind}
@@ -171,19 +170,25 @@ own_part b want q r cut l is_cut =
               (two (leaves b cut link) (is_on_link b r link) crosses.1 on_link),
         )
 
+-- the most that can come into a set under some carries
+abbrev pub capacity_within : Basin → (ℕ → ℕ) → List ℕ → List Bool → ℕ
+capacity_within b carry supply cut =
+    total_where (length b.nodes) (λ n. has cut n) (λ n. slice_index supply n)
+    + total_where (length b.links) (λ e. enters b cut e) carry
+
 -- what a cut allows: the right's delivery, what is kept for its seniors, the takes of its juniors and the outflow come
 -- in
-pub cut_slack : (b : Basin) (month : Month) (supply delivered : List ℕ) (r : ℕ) (cut : List Bool)
-    (supply' want' : List ℕ) (q : Plan) → r < length b.rights → IsCut b r cut → IsPlan b month supply' want' q →
+pub cut_slack : (b : Basin) (carry : ℕ → ℕ) (supply delivered : List ℕ) (r : ℕ) (cut : List Bool)
+    (supply' want' : List ℕ) (q : Plan) → r < length b.rights → IsCut b r cut → IsFeasible b carry supply' want' q →
     ((n : ℕ) → n < length b.nodes → has cut n ≡ true → slice_index supply' n ≡ slice_index supply n) →
     ((s : ℕ) → s < length b.rights → is_senior b s r ≡ true → slice_index delivered s ≤ delivery b want' q s) →
     delivery b want' q r + cut_kept b delivered r cut
     + total_where (length b.rights) (λ s. (takes_within b cut s && not (s == r)) && not (is_senior b s r))
     (λ s. slice_index q.take s)
     + total_where (length b.nodes) (λ n. has cut n) (λ n. slice_index q.out n)
-    ≤ cut_capacity b month supply cut
-cut_slack b month supply delivered r cut supply' want' q l is_cut plan agree keeps =
-    let balance = cut_balance b month supply' want' q cut plan is_cut.one_each in
+    ≤ capacity_within b carry supply cut
+cut_slack b carry supply delivered r cut supply' want' q l is_cut plan agree keeps =
+    let balance = cut_balance b carry supply' want' q cut plan is_cut.one_each in
     let links = links_out b want' delivered q r cut keeps in
     let takes = takes_in b want' delivered q r cut keeps in
     let own = own_part b want' q r cut l is_cut in
@@ -193,8 +198,7 @@ cut_slack b month supply delivered r cut supply' want' q l is_cut plan agree kee
     (λ n l h. (h, le_of_eq (agree n l h))) in
     let carries =
     total_where_le (length b.links) (λ e. enters b cut e) (λ e. enters b cut e) (λ e. slice_index q.flow e)
-    (λ e. carry_of b month e)
-    (λ e l h. (h, plan.carries e l)) in
+    carry (λ e l h. (h, plan.carries e l)) in
     omega (arith, balance, links, takes, own, supplies, carries)
   where
     le_of_eq : {x y : ℕ} → x ≡ y → x ≤ y

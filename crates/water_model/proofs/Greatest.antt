@@ -4,16 +4,17 @@ use Rattle.std.proofs.Common.{List, [], ◌∷◌, length, inl, inr, take}
 use Rattle.std.proofs.lemmas.Int.{ints}
 use Rattle.std.proofs.lemmas.Bool.{cases_lt, cases_eq}
 use Rattle.std.proofs.lemmas.Bool.Decides.{nat_tests}
-use Rattle.std.specs.Prelude.{◌==◌, slice_index, ◌&&◌, not, Option, Some, None, ◌⊎◌, ◌≢◌}
+use Rattle.std.specs.Prelude.{◌==◌, slice_index, ◌&&◌, not, Option, Some, None, ◌⊎◌}
 use Rattle.place_sums.specs.Sums.{total_where}
 use Rattle.water_model.specs.Lookups.{has}
 use Rattle.water_model.specs.Basin.{is_senior, instream_link}
-use Rattle.water_model.specs.Plans.{IsPlan, IsGreatest, DeliversSame, DeliversMore, delivery, delivery_by_link}
-use Rattle.water_model.specs.Cuts.{IsTight, cut_kept, cut_capacity, takes_within}
-use Rattle.water_model.specs.History.{Follows, cut_of}
-use Rattle.water_model.specs.Laws.{CutBounds, CutsMakeGreatest, CutsLetNobodyGetMore, ServesSeniors}
+use Rattle.water_model.specs.Plans.{IsPlan, IsFeasible, IsGreatest, IsLexGreatest, DeliversSame, DeliversMore, delivery}
+use Rattle.water_model.specs.Plans.{delivery_by_link, carry_of}
+use Rattle.water_model.specs.Cuts.{IsCut, cut_kept, cut_capacity, takes_within}
+use Rattle.water_model.specs.History.{Follows}
+use Rattle.water_model.specs.Laws.{CutBounds, CutsMakeGreatest, CutsLetNobodyGetMore}
 use Rattle.water_model.specs.Laws.{TightCutLeavesNothing, GreatestPlansDeliverSame, ReachIsUnique, AreDeliveries}
-use Rattle.water_model.specs.Laws.{TightMeansBound, MostJuniorInjuresNobody}
+use Rattle.water_model.specs.Laws.{TightMeansBound, IsMetOrCut}
 use Rattle.water_text.specs.declared.month.Month.{Month}
 use Rattle.water_model.specs.declared.types.Basin.{Basin}
 use Rattle.water_model.specs.declared.types.Inflows.{Inflows}
@@ -21,13 +22,14 @@ use Rattle.water_model.specs.declared.types.MonthRecord.{MonthRecord}
 use Rattle.water_model.specs.declared.types.Plan.{Plan}
 use Rattle.place_sums.proofs.Totals.{total_where_none}
 use Rattle.water_model.proofs.Sets.{has_below}
-use Rattle.water_model.proofs.Duality.{cut_slack, not_senior_to_itself}
+use Rattle.water_model.proofs.Duality.{cut_slack, capacity_within, not_senior_to_itself}
 use Rattle.water_model.proofs.Seniority.{first_where, IsFirst, senior_trans, senior_total}
 
 pub cut_bounds : CutBounds
 cut_bounds b month supply delivered r cut supply' want' q l is_cut plan agrees serves =
     let slack =
-    cut_slack b month supply delivered r cut supply' want' q l is_cut plan (λ n k h. agrees.each n h) serves.each in
+    cut_slack b (carry_of b month) supply delivered r cut supply' want' q l is_cut plan (λ n k h. agrees.each n h)
+    serves.each in
     bound (delivery b want' q r) (cut_kept b delivered r cut) (cut_capacity b month supply cut) (omega arith)
   where
     bound : (d k c : ℕ) → d + k ≤ c → pos d ≤ℤ (pos c -ℤ pos k)
@@ -47,7 +49,7 @@ tight_leaves_nothing b month supply want delivered p r cut l plan are tight = re
         (λ s. slice_index p.take s)
         + total_where (length b.nodes) (λ n. has cut n) (λ n. slice_index p.out n)
         ≤ cut_capacity b month supply cut
-    slack = cut_slack b month supply delivered r cut supply want p l tight.is_cut plan (λ n k h. refl)
+    slack = cut_slack b (carry_of b month) supply delivered r cut supply want p l tight.is_cut plan (λ n k h. refl)
         (λ s k h. le_of_eq (are.each s k))
       where
         le_of_eq : {x y : ℕ} → x ≡ y → x ≤ y
@@ -77,43 +79,66 @@ tight_leaves_nothing b month supply want delivered p r cut l plan are tight = re
     tests p q t h i j = grind (arith, nat_tests)
 
 -- a plan delivers no more than the want
-pub delivery_le_want : (b : Basin) (month : Month) (supply want : List ℕ) (q : Plan) (r : ℕ) → r < length b.rights →
-    IsPlan b month supply want q → delivery b want q r ≤ slice_index want r
-delivery_le_want b month supply want q r l plan = of_link (instream_link b r)
+pub delivery_le_want : (b : Basin) (carry : ℕ → ℕ) (supply want : List ℕ) (q : Plan) (r : ℕ) → r < length b.rights →
+    IsFeasible b carry supply want q → delivery b want q r ≤ slice_index want r
+delivery_le_want b carry supply want q r l plan = of_link (instream_link b r)
   where
     of_link : (o : Option ℕ) → delivery_by_link o (slice_index want r) q r ≤ slice_index want r
     of_link None = plan.wants r l
     of_link (Some link) = omega arith
 
--- where two plans deliver the same to a right's seniors and the right is met or has a tight cut, no other plan delivers
--- it more
-pub no_more : (b : Basin) (month : Month) (supply want delivered : List ℕ) (p q : Plan) (r : ℕ) → r < length b.rights →
-    IsPlan b month supply want q → AreDeliveries b want p delivered →
-    (slice_index want r ≤ slice_index delivered r) ⊎ ((cut : List Bool) × IsTight b month supply delivered r cut) →
+-- a cut whose bound under some carries is what its right is delivered: a tight one, where these are a month's
+pub record IsFull (b : Basin) (carry : ℕ → ℕ) (supply delivered : List ℕ) (r : ℕ) (cut : List Bool) : Type 0 where
+  pub is_cut : IsCut b r cut
+  pub full : capacity_within b carry supply cut ≡ slice_index delivered r + cut_kept b delivered r cut
+
+abbrev pub IsMetOrFull : Basin → (ℕ → ℕ) → List ℕ → List ℕ → List ℕ → ℕ → Type 0
+IsMetOrFull b carry supply want delivered r =
+    (slice_index want r ≤ slice_index delivered r) ⊎ ((cut : List Bool) × IsFull b carry supply delivered r cut)
+
+pub met_or_full : (b : Basin) (month : Month) (supply want delivered : List ℕ) (r : ℕ) →
+    IsMetOrCut b month supply want delivered r → IsMetOrFull b (carry_of b month) supply want delivered r
+met_or_full b month supply want delivered r (inl met) = inl met
+met_or_full b month supply want delivered r (inr cut) =
+    inr (cut.0, record { is_cut = cut.1.is_cut; full = cut.1.tight })
+
+-- what a right is delivered that is met or has such a cut is the most that any plan can that serves its seniors as well
+pub gives_most : (b : Basin) (carry : ℕ → ℕ) (supply want delivered : List ℕ) (q : Plan) (r : ℕ) →
+    r < length b.rights → IsFeasible b carry supply want q → IsMetOrFull b carry supply want delivered r →
+    ((s : ℕ) → s < length b.rights → is_senior b s r ≡ true → slice_index delivered s ≤ delivery b want q s) →
+    delivery b want q r ≤ slice_index delivered r
+gives_most b carry supply want delivered q r l plan (inl met) serves =
+    omega (arith, delivery_le_want b carry supply want q r l plan)
+gives_most b carry supply want delivered q r l plan (inr cut) serves =
+    omega (
+      arith,
+      cut.1.full,
+      cut_slack b carry supply delivered r cut.0 supply want q l cut.1.is_cut plan (λ n k h. refl) serves,
+    )
+
+-- and so that of any that delivers the same to these
+pub no_more : (b : Basin) (carry : ℕ → ℕ) (supply want delivered : List ℕ) (p q : Plan) (r : ℕ) →
+    r < length b.rights → IsFeasible b carry supply want q → AreDeliveries b want p delivered →
+    IsMetOrFull b carry supply want delivered r →
     ((s : ℕ) → s < length b.rights → is_senior b s r ≡ true → delivery b want p s ≡ delivery b want q s) →
     delivery b want q r ≤ delivery b want p r
-no_more b month supply want delivered p q r l plan are (inl met) same =
-    omega (arith, delivery_le_want b month supply want q r l plan, are.each r l)
-no_more b month supply want delivered p q r l plan are (inr tight) same =
+no_more b carry supply want delivered p q r l plan are full same =
     omega (
       arith,
       are.each r l,
-      tight.1.tight,
-      cut_slack b month supply delivered r tight.0 supply want q l tight.1.is_cut plan (λ n k h. refl)
-          (λ s k h. at_least s k (same s k h)),
+      gives_most b carry supply want delivered q r l plan full (λ s k h. at_least s k (same s k h)),
     )
   where
     at_least : (s : ℕ) → s < length b.rights → delivery b want p s ≡ delivery b want q s →
         slice_index delivered s ≤ delivery b want q s
     at_least s k e = omega (arith, are.each s k)
 
--- a plan in which each right is met or has a tight cut is greatest
-pub cuts_make_plan_greatest : (b : Basin) (month : Month) (supply want delivered : List ℕ) (p : Plan) →
-    IsPlan b month supply want p → AreDeliveries b want p delivered →
-    ((r : ℕ) → r < length b.rights →
-    (slice_index want r ≤ slice_index delivered r) ⊎ ((cut : List Bool) × IsTight b month supply delivered r cut)) →
-    IsGreatest b month supply want p
-cuts_make_plan_greatest b month supply want delivered p plan are cuts = record { plan = plan; greatest = compare }
+-- a plan in which each right is met or has such a cut is greatest
+pub full_make_greatest : (b : Basin) (carry : ℕ → ℕ) (supply want delivered : List ℕ) (p : Plan) →
+    IsFeasible b carry supply want p → AreDeliveries b want p delivered →
+    ((r : ℕ) → r < length b.rights → IsMetOrFull b carry supply want delivered r) →
+    IsLexGreatest b carry supply want p
+full_make_greatest b carry supply want delivered p plan are full = record { plan = plan; greatest = compare }
   where
     equal : (x y : ℕ) → not (x == y) ≡ false → x ≡ y
     equal x y h = grind (arith, nat_tests)
@@ -121,7 +146,7 @@ cuts_make_plan_greatest b month supply want delivered p plan are cuts = record {
     above : (x y : ℕ) → not (x == y) ≡ true → y ≤ x → y < x
     above x y h l = grind (arith, nat_tests)
 
-    compare : (q : Plan) → IsPlan b month supply want q → DeliversSame b want p q ⊎ DeliversMore b want p q
+    compare : (q : Plan) → IsFeasible b carry supply want q → DeliversSame b want p q ⊎ DeliversMore b want p q
     compare q other = elim (first_where b (λ r. not (delivery b want p r == delivery b want q r)) (length b.rights)) [
       | inl same ↦ inl (λ r l. equal (delivery b want p r) (delivery b want q r) (same r l))
       | inr first ↦ inr (more first.0 first.1)
@@ -133,26 +158,33 @@ cuts_make_plan_greatest b month supply want delivered p plan are cuts = record {
           right = r;
           in_range = first.below;
           more = above (delivery b want p r) (delivery b want q r) first.holds
-              (no_more b month supply want delivered p q r first.below other are (cuts r first.below) seniors);
+              (no_more b carry supply want delivered p q r first.below other are (full r first.below) seniors);
           same_to_seniors = seniors;
         }
           where
             seniors : (s : ℕ) → s < length b.rights → is_senior b s r ≡ true → delivery b want p s ≡ delivery b want q s
             seniors s k h = equal (delivery b want p s) (delivery b want q s) (first.none_senior s k h)
 
+pub cuts_make_plan_greatest : (b : Basin) (month : Month) (supply want delivered : List ℕ) (p : Plan) →
+    IsPlan b month supply want p → AreDeliveries b want p delivered →
+    ((r : ℕ) → r < length b.rights → IsMetOrCut b month supply want delivered r) → IsGreatest b month supply want p
+cuts_make_plan_greatest b month supply want delivered p plan are cuts =
+    full_make_greatest b (carry_of b month) supply want delivered p plan are
+    (λ r l. met_or_full b month supply want delivered r (cuts r l))
+
+-- in a record each right is met or has a tight cut
+pub met_or_cut : (b : Basin) (series : Inflows) (before : List MonthRecord) (m : MonthRecord) →
+    Follows b series before m → (r : ℕ) → r < length b.rights → IsMetOrCut b m.month m.supply m.want m.delivered r
+met_or_cut b series before m follows r l = elim (cases_lt (slice_index m.delivered r) (slice_index m.want r)) [
+  | inl short ↦ let cut = follows.short r l short in inr (cut.0, cut.2)
+  | inr met ↦ inl met
+]
+
 pub record_is_greatest : (b : Basin) (series : Inflows) (before : List MonthRecord) (m : MonthRecord) →
     Follows b series before m → IsGreatest b m.month m.supply m.want m.plan
 record_is_greatest b series before m follows =
     cuts_make_plan_greatest b m.month m.supply m.want m.delivered m.plan follows.behind.plan
-    (record { each = follows.behind.delivered }) met_or_cut
-  where
-    met_or_cut : (r : ℕ) → r < length b.rights →
-        (slice_index m.want r ≤ slice_index m.delivered r) ⊎
-        ((cut : List Bool) × IsTight b m.month m.supply m.delivered r cut)
-    met_or_cut r l = elim (cases_lt (slice_index m.delivered r) (slice_index m.want r)) [
-      | inl short ↦ let cut = follows.short r l short in inr (cut.0, cut.2)
-      | inr met ↦ inl met
-    ]
+    (record { each = follows.behind.delivered }) (met_or_cut b series before m follows)
 
 pub cuts_make_greatest : CutsMakeGreatest
 cuts_make_greatest b series records history i m at =
@@ -222,42 +254,8 @@ tight_bound b month supply delivered r cut = (
     from_bound : (c d k : ℕ) → (pos c -ℤ pos k) ≡ pos d → c ≡ d + k
     from_bound c d k h = omega (arith, ints)
 
-pub most_junior_injures_nobody : MostJuniorInjuresNobody
-most_junior_injures_nobody b month supply want delivered p q junior plan are cuts seniors gq =
-    by_case (gq.greatest p plan)
-  where
-    by_case : DeliversSame b want q p ⊎ DeliversMore b want q p →
-        (r : ℕ) → r < length b.rights → r ≢ junior → delivery b want p r ≡ delivery b want q r
-    by_case (inl same) r l n = sym (same r l)
-    by_case (inr more) r l n = elim (cases_eq more.right junior) [
-      | inl last ↦ sym (more.same_to_seniors r l (ap (is_senior b r) last ∙ seniors r l n))
-      | inr other ↦ absurd (let le = no_more b month supply want delivered p q more.right more.in_range gq.plan are
-          (cuts more.right more.in_range other) (λ s k h. sym (more.same_to_seniors s k h)) in let lt = more.more in
-          omega arith)
-    ]
-
--- what a record delivers to a right is the most that any plan can that serves the right's seniors as well
-pub record_gives_most : (b : Basin) (series : Inflows) (before : List MonthRecord) (m : MonthRecord) →
-    Follows b series before m →
-    (q : Plan) → IsPlan b m.month m.supply m.want q → (r : ℕ) → r < length b.rights →
-    ServesSeniors b m.delivered m.want q r →
-    delivery b m.want q r ≤ slice_index m.delivered r
-record_gives_most b series before m follows q plan r l serves =
-    elim (cases_lt (slice_index m.delivered r) (slice_index m.want r)) [
-      | inl short ↦ by_cut (follows.short r l short)
-      | inr met ↦ omega (arith, delivery_le_want b m.month m.supply m.want q r l plan)
-    ]
-  where
-    by_cut : (cut : List Bool) × (cut_of m r ≡ Some cut) × IsTight b m.month m.supply m.delivered r cut →
-        delivery b m.want q r ≤ slice_index m.delivered r
-    by_cut cut =
-        omega (
-          arith,
-          cut.2.tight,
-          cut_slack b m.month m.supply m.delivered r cut.0 m.supply m.want q l cut.2.is_cut
-              plan (λ n k h. refl) serves.each,
-        )
-
 pub cuts_let_nobody_get_more : CutsLetNobodyGetMore
-cuts_let_nobody_get_more b series records history i m at =
-    record_gives_most b series (take i records) m (history.each i m at)
+cuts_let_nobody_get_more b series records history i m at q plan r l serves =
+    gives_most b (carry_of b m.month) m.supply m.want m.delivered q r l plan
+    (met_or_full b m.month m.supply m.want m.delivered r
+    (met_or_cut b series (take i records) m (history.each i m at) r l)) serves.each

@@ -23,3 +23,5 @@ pub mod Worked
 mod Examples
 pub mod RiverRows
 pub mod Stays
+pub mod Parts
+pub mod Alike

@@ -1,13 +1,14 @@
 -- Sums over the nodes of a set.
 use Rattle.std.proofs.Common.{◌≡◌, ℕ, zero, suc, ◌+◌, ◌<◌, Bool, true, false, refl, sym, ◌∙◌, ap, arith, List, [], ◌∷◌}
-use Rattle.std.proofs.Common.{length}
+use Rattle.std.proofs.Common.{length, ◌≤◌, inl, inr}
 use Rattle.std.specs.Prelude.{if◌then◌else◌, ◌==◌, nat_lt, Option, Some, None, ◌&&◌, not}
-use Rattle.std.proofs.lemmas.Bool.Decides.{nat_tests}
+use Rattle.std.proofs.lemmas.Bool.{and_from}
+use Rattle.std.proofs.lemmas.Bool.Decides.{nat_tests, eqb_tells}
 use Rattle.place_sums.specs.Sums.{total, total_where}
 use Rattle.water_model.specs.Lookups.{has}
 use Rattle.water_model.specs.Basin.{is_at}
 use Rattle.water_model.specs.Cuts.{node_within}
-use Rattle.place_sums.proofs.Totals.{total_same, total_exchange, total_at, total_zero, total_add}
+use Rattle.place_sums.proofs.Totals.{total_same, total_exchange, total_at, total_zero, total_add, term_le_total_where}
 
 -- a place that is in the set is below its length
 pub has_below : (set : List Bool) (k : ℕ) → has set k ≡ true → k < length set
@@ -99,3 +100,73 @@ total_swap n a c f =
   where
     swap : (p q : Bool) (x : ℕ) → (if p && q then x else 0) ≡ (if q && p then x else 0)
     swap p q x = grind (arith, nat_tests)
+
+-- for each place below n that passes one below m that passes, with no less
+abbrev pub Into : (n m : ℕ) → (ℕ → Bool) → (ℕ → Bool) → (ℕ → ℕ) → (ℕ → ℕ) → Type 0
+Into n m p q f g = (k : ℕ) → k < n → p k ≡ true → (j : ℕ) × (j < m) × (q j ≡ true) × (f k ≤ g j)
+
+-- and for two places two
+abbrev pub IsOneToOne : (n m : ℕ) (p q : ℕ → Bool) (f g : ℕ → ℕ) → Into n m p q f g → Type 0
+IsOneToOne n m p q f g into =
+    (i k : ℕ) (a : i < n) (c : k < n) (h : p i ≡ true) (w : p k ≡ true) → (into i a h).0 ≡ (into k c w).0 → i ≡ k
+
+one_above : (k n : ℕ) → k < n → k < suc n
+one_above k n l = omega arith
+
+last_of : (n : ℕ) → n < suc n
+last_of n = omega arith
+
+into_more : (n m : ℕ) (p q : ℕ → Bool) (f g : ℕ → ℕ) (into : Into (suc n) m p q f g) →
+    IsOneToOne (suc n) m p q f g into →
+    ((r : ℕ → Bool) (front : Into n m p r f g) → IsOneToOne n m p r f g front →
+    total_where n p f ≤ total_where m r g) →
+    total_where n p f + (if p n then f n else 0) ≤ total_where m q g
+into_more n m p q f g into one rest = by_last (p n) refl
+  where
+    passes : (t : Bool) (j y : ℕ) → t ≡ true → (j ≡ y → ⊥) → t && not (j == y) ≡ true
+    passes t j y h n = elim (eqb_tells j y) [
+      | inl same ↦ absurd (n same.1)
+      | inr apart ↦ and_from t (not (j == y)) h (ap not apart.0)
+    ]
+
+    itself : (j : ℕ) → j == j ≡ true
+    itself j = grind (arith, nat_tests)
+
+    with_last : (x : (j : ℕ) × (j < m) × (q j ≡ true) × (f n ≤ g j)) →
+        ((k : ℕ) (l : k < n) (h : p k ≡ true) → (into k (one_above k n l) h).0 ≡ x.0 → k ≡ n) →
+        total_where n p f + f n ≤ total_where m q g
+    with_last x apart = omega (
+      arith,
+      x.3,
+      total_crossing m q (λ j. j == x.0) g,
+      term_le_total_where m (λ j. q j && j == x.0) g x.0 x.1 (and_from (q x.0) (x.0 == x.0) x.2 (itself x.0)),
+      rest (λ j. q j && not (j == x.0))
+          (λ k l h. (
+            (into k (one_above k n l) h).0,
+            (into k (one_above k n l) h).1,
+            passes (q (into k (one_above k n l) h).0) (into k (one_above k n l) h).0 x.0
+                (into k (one_above k n l) h).2 (λ same. below k l (apart k l h same)),
+            (into k (one_above k n l) h).3,
+          ))
+          (λ i k a c h w same. one i k (one_above i n a) (one_above k n c) h w same),
+    )
+      where
+        below : (k : ℕ) → k < n → k ≡ n → ⊥
+        below k l e = omega arith
+
+    by_last : (t : Bool) → p n ≡ t → total_where n p f + (if t then f n else 0) ≤ total_where m q g
+    by_last true e =
+        with_last (into n (last_of n) e) (λ k l h same. one k n (one_above k n l) (last_of n) h e same)
+    by_last false e = omega (
+      arith,
+      rest q (λ k l h. into k (one_above k n l) h)
+          (λ i k a c h w same. one i k (one_above i n a) (one_above k n c) h w same),
+    )
+
+-- so the sum over the one is at most that over the other
+pub total_where_into : (n m : ℕ) (p q : ℕ → Bool) (f g : ℕ → ℕ) (into : Into n m p q f g) →
+    IsOneToOne n m p q f g into → total_where n p f ≤ total_where m q g
+unfolding total
+total_where_into zero m p q f g into one = omega arith
+total_where_into (suc n) m p q f g into one =
+    into_more n m p q f g into one (λ r front each. total_where_into n m p r f g front each)

@@ -5,6 +5,7 @@ use Rattle.std.proofs.lemmas.Bool.{cases_lt}
 use Rattle.std.specs.Prelude.{slice_index, Option, Some, None, ◌&&◌, nat_lt}
 use Rattle.std.specs.Option.{option_map_or}
 use Rattle.water_model.specs.Basin.{is_senior}
+use Rattle.water_model.specs.Plans.{carry_of}
 use Rattle.water_model.specs.Cuts.{IsTight, takes_within}
 use Rattle.water_model.specs.History.{Follows, calls, cut_of}
 use Rattle.water_model.specs.Laws.{LeavesNothing, HistoriesLeaveNothing, CalledRightsGetNothing}
@@ -85,6 +86,6 @@ cuts_let_nothing_outside_help b series records history i m at r l cut is supply'
     omega (
       arith,
       tight.tight,
-      cut_slack b m.month m.supply m.delivered r cut supply' want' q l tight.is_cut plan (λ n k h. agrees.each n h)
-          serves.each,
+      cut_slack b (carry_of b m.month) m.supply m.delivered r cut supply' want' q l tight.is_cut plan
+          (λ n k h. agrees.each n h) serves.each,
     )

@@ -7,7 +7,7 @@ use Rattle.water_model.specs.Lookups.{of_entry}
 use Rattle.water_model.specs.Basin.{is_senior, is_at}
 use Rattle.water_model.specs.Plans.{IsPlan, delivery}
 use Rattle.water_model.specs.CutSets.{set_of}
-use Rattle.water_model.specs.Cuts.{IsTight, takes_within}
+use Rattle.water_model.specs.Cuts.{IsTight, IsReach, takes_within}
 use Rattle.water_model.specs.Hydrology.{run_month, in_year, inflow_at, evaporation, returned_at, stored_at, used_of}
 use Rattle.water_model.specs.Hydrology.{want_of}
 use Rattle.water_model.specs.declared.types.Basin.{Basin}
@@ -91,6 +91,16 @@ pub record IsPartialHistory (b : Basin) (series : Inflows) (records : List Month
 pub record IsHistory (b : Basin) (series : Inflows) (records : List MonthRecord) : Type 0 where
   pub partial : IsPartialHistory b series records
   pub whole : length records ≡ b.months
+
+-- the set of each short right is its reach, and no other right has a set
+pub record HasReaches (b : Basin) (m : MonthRecord) : Type 0 where
+  pub short : (r : ℕ) → r < length b.rights → IsShort m r →
+      (cut : List Bool) × (cut_of m r ≡ Some cut) × IsReach b m.month m.supply m.delivered r cut
+  pub met : (r : ℕ) → r < length b.rights → slice_index m.want r ≤ slice_index m.delivered r → cut_of m r ≡ None
+
+-- each record of a list has the reaches of its month
+abbrev pub HaveReaches : Basin → List MonthRecord → Type 0
+HaveReaches b records = (i : ℕ) (m : MonthRecord) → slice_get records i ≡ Some m → HasReaches b m
 
 -- whether a right answers to another that calls: the caller is short and senior, and its set holds the right's node
 unfoldable pub calls : Basin → MonthRecord → ℕ → ℕ → Bool

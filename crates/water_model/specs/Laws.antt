@@ -1,9 +1,11 @@
 -- Laws over the definitions.
-use Rattle.std.specs.Prelude.{◌≡◌, ℕ, pos, ◌≤ℤ◌, ◌<◌, ◌≤◌, Bool, List, length, slice_index, slice_get, Some, IsTrue}
-use Rattle.std.specs.Prelude.{sum, ◌↔◌, ◌⊎◌, ◌≢◌}
+use Rattle.std.specs.Prelude.{◌≡◌, ℕ, pos, ◌≤ℤ◌, ◌<◌, ◌≤◌, ◌*◌, Bool, List, length, slice_index, slice_get, Some}
+use Rattle.std.specs.Prelude.{IsTrue}
+use Rattle.std.specs.Prelude.{sum, ◌↔◌, ◌⊎◌}
 use Rattle.water_model.specs.Lookups.{has}
 use Rattle.water_model.specs.Basin.{is_senior, HasStrictPriority}
 use Rattle.water_model.specs.Plans.{IsPlan, IsGreatest, DeliversSame, delivery}
+use Rattle.water_model.specs.Parts.{times, in_parts, IsPlanInParts, IsGreatestInParts}
 use Rattle.water_model.specs.Cuts.{IsCut, IsTight, IsReach, cut_bound, takes_within}
 use Rattle.water_model.specs.History.{IsPartialHistory, calls, cut_of}
 use Rattle.water_model.specs.Valid.{IsValidBasin}
@@ -50,6 +52,31 @@ CutsLetNobodyGetMore =
     (i : ℕ) (m : MonthRecord) → slice_get records i ≡ Some m → (q : Plan) → IsPlan b m.month m.supply m.want q →
     (right : ℕ) → right < length b.rights → ServesSeniors b m.delivered m.want q right →
     delivery b m.want q right ≤ slice_index m.delivered right
+
+-- No fraction of a unit helps. In any plan of a month in k-th parts of a unit that delivers at least k times as much
+-- to each right senior to a right, the right gets at most k times what it got.
+abbrev pub NoFractionHelps : Type 0
+NoFractionHelps =
+    (b : Basin) (series : Inflows) (records : List MonthRecord) → IsPartialHistory b series records →
+    (i : ℕ) (m : MonthRecord) → slice_get records i ≡ Some m → (k : ℕ) (q : Plan) →
+    IsPlanInParts b k m.month m.supply m.want q → (right : ℕ) → right < length b.rights →
+    ServesSeniors b (times k m.delivered) (times k m.want) q right →
+    delivery b (times k m.want) q right ≤ k * slice_index m.delivered right
+
+-- Whole units cost nobody anything. In k-th parts of a unit, too, each month's plan is greatest, and it delivers k
+-- times what the record has.
+abbrev pub WholeUnitsAreGreatest : Type 0
+WholeUnitsAreGreatest =
+    (b : Basin) (series : Inflows) (records : List MonthRecord) → IsPartialHistory b series records →
+    (i : ℕ) (m : MonthRecord) → slice_get records i ≡ Some m → (k : ℕ) →
+    IsGreatestInParts b k m.month m.supply m.want (in_parts k m.plan)
+    × AreDeliveries b (times k m.want) (in_parts k m.plan) (times k m.delivered)
+
+-- A plan in parts of one to a unit is a plan.
+abbrev pub OnePartIsUnit : Type 0
+OnePartIsUnit =
+    (b : Basin) (month : Month) (supply want : List ℕ) (p : Plan) →
+    IsPlanInParts b 1 month supply want p ↔ IsPlan b month supply want p
 
 -- in a set, no diversion or zone that is junior to a right takes, and no outlet has outflow
 pub record LeavesNothing (b : Basin) (p : Plan) (right : ℕ) (cut : List Bool) : Type 0 where
@@ -143,14 +170,3 @@ abbrev pub IsMetOrCut : Basin → Month → List ℕ → List ℕ → List ℕ �
 IsMetOrCut b month supply want delivered right =
     (slice_index want right ≤ slice_index delivered right)
     ⊎ ((cut : List Bool) × IsTight b month supply delivered right cut)
-
--- The most junior right changes nothing for the others. A plan in which each other right is met or has a tight cut
--- delivers to each of them what a greatest plan does.
-abbrev pub MostJuniorInjuresNobody : Type 0
-MostJuniorInjuresNobody =
-    (b : Basin) (month : Month) (supply want delivered : List ℕ) (p q : Plan) (junior : ℕ) →
-    IsPlan b month supply want p → AreDeliveries b want p delivered →
-    ((r : ℕ) → r < length b.rights → r ≢ junior → IsMetOrCut b month supply want delivered r) →
-    ((r : ℕ) → r < length b.rights → r ≢ junior → IsTrue (is_senior b r junior)) →
-    IsGreatest b month supply want q →
-    (r : ℕ) → r < length b.rights → r ≢ junior → delivery b want p r ≡ delivery b want q r

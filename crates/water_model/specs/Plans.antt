@@ -31,18 +31,22 @@ outflow_from b flow node = total_where (length b.links) (λ e. tail_of b e == no
 abbrev pub taken_at : Basin → List ℕ → ℕ → ℕ
 taken_at b take node = total_where (length b.rights) (λ r. takes_at b r node) (λ r. slice_index take r)
 
--- a plan of the month: a flow in the network that keeps the carries and the wants
-pub record IsPlan (b : Basin) (month : Month) (supply want : List ℕ) (p : Plan) : Type 0 where
+-- a flow in the network that keeps these carries and wants
+pub record IsFeasible (b : Basin) (carry : ℕ → ℕ) (supply want : List ℕ) (p : Plan) : Type 0 where
   pub flow_len : length p.flow ≡ length b.links
   pub take_len : length p.take ≡ length b.rights
   pub out_len : length p.out ≡ length b.nodes
-  pub carries : (e : ℕ) → e < length b.links → slice_index p.flow e ≤ carry_of b month e
+  pub carries : (e : ℕ) → e < length b.links → slice_index p.flow e ≤ carry e
   pub wants : (r : ℕ) → r < length b.rights → slice_index p.take r ≤ slice_index want r
   pub instream : (r : ℕ) → r < length b.rights → taking_node b r ≡ None → slice_index p.take r ≡ 0
   pub outlets : (n : ℕ) → n < length b.nodes → is_outlet b n ≡ false → slice_index p.out n ≡ 0
   pub balance : (n : ℕ) → n < length b.nodes →
       slice_index supply n + inflow_to b p.flow n
       ≡ outflow_from b p.flow n + taken_at b p.take n + slice_index p.out n
+
+-- a plan of the month: one that keeps the month's carries
+abbrev pub IsPlan : Basin → Month → List ℕ → List ℕ → Plan → Type 0
+IsPlan b month supply want p = IsFeasible b (carry_of b month) supply want p
 
 -- what a plan delivers to a right: its take, or of an instream right the flow that is wanted
 abbrev pub delivery_by_link : Option ℕ → ℕ → Plan → ℕ → ℕ
@@ -63,8 +67,12 @@ pub record DeliversMore (b : Basin) (want : List ℕ) (p q : Plan) : Type 0 wher
 abbrev pub DeliversSame : Basin → List ℕ → Plan → Plan → Type 0
 DeliversSame b want p q = (r : ℕ) → r < length b.rights → delivery b want p r ≡ delivery b want q r
 
--- a plan whose deliveries, in order of seniority, are lexicographically greatest
-pub record IsGreatest (b : Basin) (month : Month) (supply want : List ℕ) (p : Plan) : Type 0 where
-  pub plan : IsPlan b month supply want p
-  pub greatest : (q : Plan) → IsPlan b month supply want q →
+-- a feasible plan whose deliveries, in order of seniority, are lexicographically greatest among the feasible ones
+pub record IsLexGreatest (b : Basin) (carry : ℕ → ℕ) (supply want : List ℕ) (p : Plan) : Type 0 where
+  pub plan : IsFeasible b carry supply want p
+  pub greatest : (q : Plan) → IsFeasible b carry supply want q →
       DeliversSame b want p q ⊎ DeliversMore b want p q
+
+-- the same among the plans of the month
+abbrev pub IsGreatest : Basin → Month → List ℕ → List ℕ → Plan → Type 0
+IsGreatest b month supply want p = IsLexGreatest b (carry_of b month) supply want p

@@ -5,7 +5,7 @@ use Rattle.month_terms.specs.Terms.{FitsRecord}
 use Rattle.month_terms.proofs.BlankRecords.{fits_with_closing}
 use Rattle.water_model.specs.History.{opening_after}
 use Rattle.water_model.specs.declared.types.MonthRecord.{MonthRecord}
-use Rattle.month_fold.specs.Reaches.{HasDeliveries, TellUse}
+use Rattle.month_fold.specs.Uses.{HasDeliveries, TellUse}
 use Rattle.month_fold.specs.Runs.{EngineSeen}
 use Rattle.month_fold.proofs.Resuming.{stands_behind}
 use Rattle.month_fold.proofs.engine.Engine.go_behind.Goals as goal

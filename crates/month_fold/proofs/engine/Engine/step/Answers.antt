@@ -5,7 +5,7 @@ use Rattle.month_terms.specs.Terms.{HasUsed}
 use Rattle.water_model.specs.declared.types.MonthRecord.{MonthRecord}
 use Rattle.month_fold.specs.RunInside.{engine_of}
 use Rattle.month_fold.specs.Runs.{EngineSeen, StandsFor, run_with}
-use Rattle.month_fold.specs.Reaches.{HasDeliveries}
+use Rattle.month_fold.specs.Uses.{HasDeliveries}
 use Rattle.month_fold.proofs.Resuming.{used_little}
 use Rattle.month_fold.proofs.Standing.{stands_next}
 use Rattle.month_fold.proofs.engine.Engine.step.Goals as goal

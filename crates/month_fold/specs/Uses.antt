@@ -1,21 +1,8 @@
--- Months whose sets are the reaches of short rights.
-use Rattle.std.specs.Prelude.{◌≡◌, ℕ, ◌<◌, ◌≤◌, ◌^◌, All, Bool, List, length, map, take, slice_index, slice_get, Some}
-use Rattle.std.specs.Prelude.{None}
-use Rattle.water_model.specs.Cuts.{IsReach}
-use Rattle.water_model.specs.History.{IsShort, cut_of}
+-- What records say of use: what each right was delivered, and what had been used of its volume before.
+use Rattle.std.specs.Prelude.{◌≡◌, ℕ, ◌<◌, ◌≤◌, ◌^◌, All, List, length, map, take, slice_index, slice_get, Some}
 use Rattle.month_terms.specs.Terms.{HasUsed}
 use Rattle.water_model.specs.declared.types.Basin.{Basin}
 use Rattle.water_model.specs.declared.types.MonthRecord.{MonthRecord}
-
--- the set of each short right is its reach, and no other right has a set
-pub record HasReaches (b : Basin) (m : MonthRecord) : Type 0 where
-  pub short : (r : ℕ) → r < length b.rights → IsShort m r →
-      (cut : List Bool) × (cut_of m r ≡ Some cut) × IsReach b m.month m.supply m.delivered r cut
-  pub met : (r : ℕ) → r < length b.rights → slice_index m.want r ≤ slice_index m.delivered r → cut_of m r ≡ None
-
--- each record of a list has the reaches of its month
-abbrev pub HaveReaches : Basin → List MonthRecord → Type 0
-HaveReaches b records = (i : ℕ) (m : MonthRecord) → slice_get records i ≡ Some m → HasReaches b m
 
 -- a record says what each right was delivered, at most 10^9
 pub record HasDeliveries (b : Basin) (m : MonthRecord) : Type 0 where
