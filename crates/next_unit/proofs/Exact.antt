@@ -1,0 +1,60 @@
+-- Where one more unit helps, exactly; and that each right has a core.
+use Rattle.std.proofs.Common.{◌≡◌, ℕ, ◌+◌, ◌<◌, ◌≤◌, Bool, true, refl, arith}
+use Rattle.std.proofs.Common.{List, length, false}
+use Rattle.std.proofs.lemmas.Bool.{both_ways, and_parts, not-true, true_from_ne_false}
+use Rattle.std.specs.Prelude.{◌↔◌, not}
+use Rattle.water_model.specs.Lookups.{has}
+use Rattle.water_model.specs.Basin.{head_of, tail_of}
+use Rattle.water_model.specs.Cuts.{enters, IsTight}
+use Rattle.water_model.specs.declared.types.Basin.{Basin}
+use Rattle.water_model.specs.declared.types.MonthRecord.{MonthRecord}
+use Rattle.next_unit.specs.Laws.{SupplyHelpsExactlyInCore, CarryHelpsExactlyIntoCore, RightsHaveCores, CarryHelpsRight}
+use Rattle.next_unit.proofs.Least.{core_is_least_tight_cut, nothing_outside_tight_cuts_helps}
+use Rattle.next_unit.proofs.Carries.{no_carry_past_tight_cuts_helps}
+use Rattle.next_unit.proofs.Helps.{supply_in_core_helps}
+use Rattle.next_unit.proofs.Raises.{carry_into_core_helps}
+use Rattle.plan_residual.proofs.Cores.{core_of}
+
+more_than : (x d : ℕ) → x ≡ d + 1 → x ≤ d → ⊥
+more_than x d e l = omega (arith, e, l)
+
+pub supply_helps_exactly_in_core : SupplyHelpsExactlyInCore
+supply_helps_exactly_in_core b m r core cut node given l short tight room is_core = (
+  λ h. true_from_ne_false (has core node) (λ out.
+      more_than _ _ h.more
+      (nothing_outside_tight_cuts_helps b m.month m.supply m.delivered r core node m.want h.plan l
+      (core_is_least_tight_cut b m r core cut given l short tight is_core).is_tight out h.is_plan h.serves)),
+  λ here. supply_in_core_helps b m r core cut node given l short tight room is_core here,
+)
+
+-- with more carry a link that helps enters each tight cut
+must_enter : (b : Basin) (m : MonthRecord) (r link : ℕ) (cut : List Bool) → r < length b.rights →
+    IsTight b m.month m.supply m.delivered r cut → CarryHelpsRight b m link r → enters b cut link ≡ true
+must_enter b m r link cut l tight h = true_from_ne_false (enters b cut link) (λ past.
+    more_than _ _ h.more
+    (no_carry_past_tight_cuts_helps b m.month m.supply m.delivered r cut link m.want h.plan l tight past h.is_plan
+    h.serves))
+
+pub carry_helps_exactly_into_core : CarryHelpsExactlyIntoCore
+carry_helps_exactly_into_core b m r core reach link given l short is_reach room is_core below = (
+  λ h. (
+    not-true (has reach (tail_of b link)) (and_parts (has reach (head_of b link)) (not (has reach (tail_of b link)))
+        (must_enter b m r link reach l is_reach.is_tight h)).1,
+    (and_parts (has core (head_of b link)) (not (has core (tail_of b link)))
+        (must_enter b m r link core l
+        (core_is_least_tight_cut b m r core reach given l short is_reach.is_tight is_core).is_tight h)).0,
+  ),
+  λ both. carry_into_core_helps b m r core reach link given l short is_reach room is_core below both.0 both.1,
+)
+
+pub rights_have_cores : RightsHaveCores
+rights_have_cores = core_of
+
+-- two tests that decide it
+pub decided_no : {C D : Type 0} (t : Bool) → C ↔ ((t ≡ false) × D) → t ≡ true →
+    (false ≡ true → C) × (C → false ≡ true)
+decided_no t both h = (λ i. absurd (both_ways false refl i), λ i. absurd (both_ways t (both.0 i).0 h))
+
+pub decided_by : {C : Type 0} (t u : Bool) → C ↔ ((t ≡ false) × (u ≡ true)) → t ≡ false →
+    (u ≡ true → C) × (C → u ≡ true)
+decided_by t u both h = (λ i. both.1 (h, i), λ i. (both.0 i).1)

@@ -1,0 +1,120 @@
+-- In a plan no link carries more than the whole supply, so rivers have room; and so has the link of a short instream
+-- right that wants no more than the link carries.
+use Rattle.std.proofs.Common.{◌≡◌, ℕ, ◌<◌, ◌≤◌, ◌^◌, min, Bool, true, false, refl, sym, ◌∙◌, ap, arith, List, length}
+use Rattle.std.proofs.Common.{map}
+use Rattle.std.proofs.lemmas.Bool.{and_from, and_parts, both_ways, lt-ltb, leb-true, le-leb, not-true}
+use Rattle.std.proofs.lemmas.Bool.{false_from_ne_true}
+use Rattle.std.proofs.lemmas.Bool.{not_from_false}
+use Rattle.std.proofs.lemmas.List.FromFn.{length-map-range_with_len, get_or-map-range_with_len}
+use Rattle.std.specs.List.{range_with_len}
+use Rattle.std.specs.Prelude.{not, nat_le, if◌then◌else◌, slice_index, option_map, unwrap_or}
+use Rattle.place_sums.specs.Sums.{total}
+use Rattle.place_sums.proofs.Totals.{total_le, term_le_total_where}
+use Rattle.water_model.specs.Lookups.{has}
+use Rattle.water_model.specs.Network.{is_river_kind}
+use Rattle.water_model.specs.Basin.{head_of, tail_of, is_river}
+use Rattle.water_model.specs.Plans.{carry_of, carry_of_kind, delivery_by_link}
+use Rattle.water_model.specs.Cuts.{enters, leaves}
+use Rattle.water_model.specs.Valid.{IsValidBasin, IsValidLink}
+use Rattle.water_text.specs.declared.month.Month.{Month}
+use Rattle.water_model.specs.declared.types.Basin.{Basin}
+use Rattle.water_model.specs.declared.types.Carry.{Carry}
+use Rattle.water_model.specs.declared.types.Carry.TheVariants.{River, Canal}
+use Rattle.water_model.specs.declared.types.MonthRecord.{MonthRecord}
+use Rattle.water_model.proofs.Balance.{ends, entry_holds, total_where_none_pass}
+use Rattle.water_model.proofs.CutBalance.{cut_balance}
+use Rattle.plan_residual.specs.Residual.{HasPlan}
+use Rattle.next_unit.specs.Laws.{SmallSupplyLeavesRoom}
+use Rattle.next_unit.proofs.Helps.{HasNumbers, numbers_of}
+use Rattle.next_unit.proofs.Down.{RiversCanRise}
+
+-- a river carries as much as there may be
+river_carry : (b : Basin) (month : Month) (e : ℕ) → IsValidBasin b → e < length b.links → is_river b e ≡ true →
+    carry_of b month e ≡ 10 ^ 15
+river_carry b month e valid l h =
+    let entry = entry_holds (λ l. IsValidLink b l) b.links e valid.links l in
+    let river : is_river_kind entry.0.carry ≡ true =
+    ap (λ o. unwrap_or (option_map (λ x. is_river_kind x.carry) o) false) (sym entry.1) ∙ h in
+    ap (λ o. unwrap_or (option_map (λ x. carry_of_kind x.carry month) o) 0) entry.1 ∙ of_kind entry.0.carry river
+  where
+    of_kind : (c : Carry) → is_river_kind c ≡ true → carry_of_kind c month ≡ 10 ^ 15
+    of_kind River h = refl
+    of_kind (Canal per_day shut) h = cc
+
+-- the nodes that are not behind a node
+up_to : (n : ℕ) → (ℕ → ℕ) → ℕ → List Bool
+up_to n number at = map (λ v. nat_le (number v) at) (range_with_len 0 n)
+
+length-up_to : (n : ℕ) (number : ℕ → ℕ) (at : ℕ) → length (up_to n number at) ≡ n
+unfolding up_to
+length-up_to n number at = length-map-range_with_len (λ v. nat_le (number v) at) 0 n
+
+has_up_to : (n : ℕ) (number : ℕ → ℕ) (at v : ℕ) → v < n → has (up_to n number at) v ≡ nat_le (number v) at
+unfolding up_to
+has_up_to n number at v l = get_or-map-range_with_len (λ v. nat_le (number v) at) 0 n v v false l (omega arith)
+
+-- no link carries more than the whole supply, as what comes to the nodes up to its tail is supply alone
+flow_by_numbers : (b : Basin) (m : MonthRecord) (e : ℕ) (numbers : HasNumbers b) (set : List Bool) → HasPlan b m →
+    e < length b.links → length set ≡ length b.nodes →
+    ((v : ℕ) → v < length b.nodes → has set v ≡ nat_le (numbers.number v) (numbers.number (tail_of b e))) →
+    slice_index m.plan.flow e ≤ total (length b.nodes) (λ n. slice_index m.supply n)
+flow_by_numbers b m e numbers set given l len is =
+    omega (
+      arith,
+      cut_balance b (λ e. carry_of b m.month e) m.supply m.want m.plan set given.plan len,
+      total_where_none_pass (length b.links) (λ k. enters b set k) (λ k. slice_index m.plan.flow k) none_enters,
+      term_le_total_where (length b.links) (λ k. leaves b set k) (λ k. slice_index m.plan.flow k) e l here,
+      total_le (length b.nodes) (λ n. if has set n then slice_index m.supply n else 0) (λ n. slice_index m.supply n)
+          (λ n k. at_most (has set n) (slice_index m.supply n)),
+    )
+  where
+    at_most : (t : Bool) (x : ℕ) → (if t then x else 0) ≤ x
+    at_most true x = omega arith
+    at_most false x = omega arith
+
+    none_enters : (k : ℕ) → k < length b.links → enters b set k ≡ false
+    none_enters k c = false_from_ne_true (enters b set k) (λ h.
+        let parts = and_parts (has set (head_of b k)) (not (has set (tail_of b k))) h in
+        let inside = ends b given.valid k c in
+        let head_low = leb-true (numbers.number (head_of b k)) (numbers.number (tail_of b e))
+        (sym (is (head_of b k) inside.1) ∙ parts.0) in
+        let tail_low : nat_le (numbers.number (tail_of b k)) (numbers.number (tail_of b e)) ≡ true =
+        le-leb (numbers.number (tail_of b k)) (numbers.number (tail_of b e))
+        (omega (arith, head_low, numbers.runs.runs k c)) in
+        both_ways (has set (tail_of b k)) (not-true (has set (tail_of b k)) parts.1)
+        (is (tail_of b k) inside.0 ∙ tail_low))
+
+    here : leaves b set e ≡ true
+    here =
+        let inside = ends b given.valid e l in
+        and_from (has set (tail_of b e)) (not (has set (head_of b e)))
+        (is (tail_of b e) inside.0 ∙ le-leb (numbers.number (tail_of b e)) (numbers.number (tail_of b e)) (omega arith))
+        (not_from_false (has set (head_of b e)) (false_from_ne_true (has set (head_of b e)) (λ h.
+        let low = leb-true (numbers.number (head_of b e)) (numbers.number (tail_of b e))
+        (sym (is (head_of b e) inside.1) ∙ h) in
+        absurd (omega (arith, low, numbers.runs.runs e l)))))
+
+flow_le_supply : (b : Basin) (m : MonthRecord) (e : ℕ) → HasPlan b m → e < length b.links →
+    slice_index m.plan.flow e ≤ total (length b.nodes) (λ n. slice_index m.supply n)
+flow_le_supply b m e given l =
+    let numbers = numbers_of b given.valid in
+    flow_by_numbers b m e numbers (up_to (length b.nodes) numbers.number (numbers.number (tail_of b e))) given l
+    (length-up_to (length b.nodes) numbers.number (numbers.number (tail_of b e)))
+    (λ v k. has_up_to (length b.nodes) numbers.number (numbers.number (tail_of b e)) v k)
+
+pub rivers_can_rise : (b : Basin) (m : MonthRecord) → HasPlan b m →
+    total (length b.nodes) (λ n. slice_index m.supply n) < 10 ^ 15 → RiversCanRise b m
+rivers_can_rise b m given small e k river = lt-ltb (slice_index m.plan.flow e) (carry_of b m.month e)
+    (omega (arith, flow_le_supply b m e given k, small, river_carry b m.month e given.valid k river))
+
+pub small_supply_leaves_room : SmallSupplyLeavesRoom
+small_supply_leaves_room b m r given l short small fits = record {
+  rivers = rivers_can_rise b m given small;
+  own = λ e is. lt-ltb (slice_index m.plan.flow e) (carry_of b m.month e)
+      (by_min (slice_index m.want r) (slice_index m.plan.flow e) (slice_index m.delivered r) (carry_of b m.month e)
+      short
+      (given.delivered.each r l ∙ ap (λ o. delivery_by_link o (slice_index m.want r) m.plan r) is) (fits e is));
+}
+  where
+    by_min : (w f d c : ℕ) → d < w → d ≡ min w f → w ≤ c → f < c
+    by_min w f d c s h i = omega arith

@@ -1,0 +1,46 @@
+-- Which right one more unit of carry on a link would help.
+use Rattle.std.specs.Prelude.{◌≡◌, ℕ, ◌+◌, ◌<◌, ◌≤◌, List, length, Option, Some, None, IsTrue, slice_index_or}
+use Rattle.water_model.specs.Basin.{is_senior}
+use Rattle.water_model.specs.History.{IsShort}
+use Rattle.water_model.specs.declared.types.Basin.{Basin}
+use Rattle.water_model.specs.declared.types.MonthRecord.{MonthRecord}
+use Rattle.plan_residual.specs.Sweep.{right_at}
+use Rattle.next_unit.specs.Core.{HasRoomDown}
+use Rattle.next_unit.specs.Laws.{CarryHelpsRight}
+
+-- the most senior right that it would help
+pub record IsFirstHelped (b : Basin) (m : MonthRecord) (link right : ℕ) : Type 0 where
+  pub in_range : right < length b.rights
+  pub helps : CarryHelpsRight b m link right
+  pub first : (s : ℕ) → s < length b.rights → IsTrue (is_senior b s right) → CarryHelpsRight b m link s → ⊥
+
+-- that right, or none where it would help nobody
+abbrev pub IsHelped : Basin → MonthRecord → ℕ → Option ℕ → Type 0
+IsHelped b m link None = (s : ℕ) → s < length b.rights → CarryHelpsRight b m link s → ⊥
+IsHelped b m link (Some right) = IsFirstHelped b m link right
+
+-- and so for each link
+pub record AreHelped (b : Basin) (m : MonthRecord) (helped : List (Option ℕ)) : Type 0 where
+  pub count : length helped ≡ length b.links
+  pub each : (e : ℕ) → e < length b.links → IsHelped b m e (slice_index_or helped e None)
+
+-- the same of the rights at the first places of the order
+abbrev pub IsHelpedTo : Basin → MonthRecord → ℕ → ℕ → Option ℕ → Type 0
+IsHelpedTo b m places link None = (i : ℕ) → i < places → CarryHelpsRight b m link (right_at b i) → ⊥
+IsHelpedTo b m places link (Some right) =
+    (k : ℕ) × (k < places) × (right_at b k ≡ right) × CarryHelpsRight b m link right
+    × ((i : ℕ) → i < k → CarryHelpsRight b m link (right_at b i) → ⊥)
+
+pub record AreHelpedTo (b : Basin) (m : MonthRecord) (places : ℕ) (helped : List (Option ℕ)) : Type 0 where
+  pub count : length helped ≡ length b.links
+  pub each : (e : ℕ) → e < length b.links → IsHelpedTo b m places e (slice_index_or helped e None)
+
+-- the first links are told of one right more than the others
+pub record AreBeingHelped (b : Basin) (m : MonthRecord) (place : ℕ) (helped : List (Option ℕ)) (links : ℕ) : Type 0 where
+  pub count : length helped ≡ length b.links
+  pub told : (e : ℕ) → e < links → IsHelpedTo b m (place + 1) e (slice_index_or helped e None)
+  pub rest : (e : ℕ) → links ≤ e → e < length b.links → IsHelpedTo b m place e (slice_index_or helped e None)
+
+-- for each short right there is room for one unit more down the rivers
+pub record HasRoomForAll (b : Basin) (m : MonthRecord) : Type 0 where
+  pub each : (r : ℕ) → r < length b.rights → IsShort m r → HasRoomDown b m r

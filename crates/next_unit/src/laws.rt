@@ -1,0 +1,104 @@
+//! Laws over the definitions. Each is the contract of a function that does nothing.
+ghost use Rattle.next_unit.specs.Laws.{CoreIsLeastTightCut, NothingOutsideTightCutsHelps, SupplyInCoreHelps};
+ghost use Rattle.next_unit.specs.Laws.{NoCarryPastTightCutsHelps, CarryIntoCoreHelps};
+ghost use Rattle.next_unit.specs.Laws.{SupplyHelpsExactlyInCore, CarryHelpsExactlyIntoCore};
+ghost use Rattle.next_unit.specs.Laws.{RightsHaveCores, SmallSupplyLeavesRoom};
+ghost use Rattle.next_unit.specs.Laws.{HistoriesShowWhereSupplyHelps, HistoriesShowWhereCarryHelps};
+ghost use Rattle.next_unit.specs.Laws.{NextUnitIsDecided, NextUnitGoesToOne, NextUnitGoesToNobody};
+ghost use Rattle.next_unit.specs.Laws.{FirstChangedIsNext, StandingBackGetsNothing, StandingBackIsCalled};
+ghost use Rattle.next_unit.specs.Laws.{NextUnitShowsInHistories, ShortTakersStandBackOrAreNext};
+
+/// The core of a short right is the least tight cut.
+pub fn core_is_least_tight_cut()
+    ensures { CoreIsLeastTightCut }
+{}
+
+/// One more unit of supply outside a tight cut does not help.
+pub fn nothing_outside_tight_cuts_helps()
+    ensures { NothingOutsideTightCutsHelps }
+{}
+
+/// One more unit of supply in the core helps.
+pub fn supply_in_core_helps()
+    ensures { SupplyInCoreHelps }
+{}
+
+/// One more unit of carry on a link that does not enter a tight cut does not help.
+pub fn no_carry_past_tight_cuts_helps()
+    ensures { NoCarryPastTightCutsHelps }
+{}
+
+/// One more unit of carry on a link that leads from outside the reach into the core helps.
+pub fn carry_into_core_helps()
+    ensures { CarryIntoCoreHelps }
+{}
+
+/// One more unit of supply at a node helps exactly in the core.
+pub fn supply_helps_exactly_in_core()
+    ensures { SupplyHelpsExactlyInCore }
+{}
+
+/// One more unit of carry on a link helps exactly where it leads from outside the reach into the core.
+pub fn carry_helps_exactly_into_core()
+    ensures { CarryHelpsExactlyIntoCore }
+{}
+
+/// Each right has a core.
+pub fn rights_have_cores()
+    ensures { RightsHaveCores }
+{}
+
+/// Rivers and the link of a short instream right have room where the whole supply is small.
+pub fn small_supply_leaves_room()
+    ensures { SmallSupplyLeavesRoom }
+{}
+
+/// In a month of a history, one more unit of supply at a node helps exactly in the core.
+pub fn histories_show_where_supply_helps()
+    ensures { HistoriesShowWhereSupplyHelps }
+{}
+
+/// In a month of a history, one more unit of carry on a link helps exactly from outside the reach into the core.
+pub fn histories_show_where_carry_helps()
+    ensures { HistoriesShowWhereCarryHelps }
+{}
+
+/// One more unit at a node could be used by no right, or it goes to one.
+pub fn next_unit_is_decided()
+    ensures { NextUnitIsDecided }
+{}
+
+/// One more unit of supply at a node goes to the most senior short right whose core holds it, and costs no senior.
+pub fn next_unit_goes_to_one()
+    ensures { NextUnitGoesToOne }
+{}
+
+/// Where no core of a short right holds the node, every right gets what it got.
+pub fn next_unit_goes_to_nobody()
+    ensures { NextUnitGoesToNobody }
+{}
+
+/// That right is exactly the most senior one to which a greatest plan with the unit delivers otherwise.
+pub fn first_changed_is_next()
+    ensures { FirstChangedIsNext }
+{}
+
+/// In two histories, one more unit of supply in a month shows in the records.
+pub fn next_unit_shows_in_histories()
+    ensures { NextUnitShowsInHistories }
+{}
+
+/// A right that must stand back for a senior got nothing.
+pub fn standing_back_gets_nothing()
+    ensures { StandingBackGetsNothing }
+{}
+
+/// The right for which another must stand back calls it.
+pub fn standing_back_is_called()
+    ensures { StandingBackIsCalled }
+{}
+
+/// A short diversion or zone must stand back for a senior, or the next unit at its node is its own.
+pub fn short_takers_stand_back_or_are_next()
+    ensures { ShortTakersStandBackOrAreNext }
+{}

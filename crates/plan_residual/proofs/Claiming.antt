@@ -1,0 +1,253 @@
+-- A right more claims the nodes of its core.
+use Rattle.std.proofs.Common.{◌≡◌, ◌≢◌, ℕ, zero, suc, ◌+◌, ◌<◌, ◌≤◌, Bool, true, false, refl, sym, ◌∙◌, ap, subst}
+use Rattle.std.proofs.Common.{arith, List, [], ◌∷◌, length, replicate, inl, inr}
+use Rattle.std.proofs.lemmas.Bool.{both_ways, cases_Bool, cases_eq, cases_lt, ltb-true}
+use Rattle.std.proofs.lemmas.List.{get_or-set_same, get_or-set_other, length-replicate, length-set}
+use Rattle.std.specs.Prelude.{◌||◌, ◌⊎◌, slice_index, slice_index_or, slice_set, Option, Some, None}
+use Rattle.water_model.specs.Lookups.{has}
+use Rattle.water_model.specs.History.{IsShort}
+use Rattle.water_model.specs.Places.{seniors_first}
+use Rattle.water_model.specs.declared.types.Basin.{Basin}
+use Rattle.water_model.specs.declared.types.MonthRecord.{MonthRecord}
+use Rattle.water_model.proofs.Sets.{has_below}
+use Rattle.rights_roll.specs.SeniorityOrder.{IsSeniorityOrder}
+use Rattle.plan_residual.specs.declared.steps.Direction.TheVariants.{ToRight}
+use Rattle.plan_residual.specs.Residual.{HasPlan}
+use Rattle.plan_residual.specs.Core.{node_of, IsCore}
+use Rattle.plan_residual.specs.Search.{HasGrown, IsClosedAlong, IsVisit}
+use Rattle.plan_residual.specs.Sweep.{IsShortRight, right_at}
+use Rattle.plan_residual.specs.Next.{CouldUseAt, IsNextAt, IsNextOrFree, AreNext}
+use Rattle.plan_residual.specs.Claims.{AreClaimed, AreMarked, IsClaim}
+use Rattle.plan_residual.proofs.Along.{along_from_backward, backward_from_along}
+use Rattle.plan_residual.proofs.Cores.{core_of}
+use Rattle.plan_residual.proofs.Queues.{extends_then, nowhere, queue_none}
+use Rattle.plan_residual.proofs.Sweeping.{along_for_junior, senior_at}
+
+-- the nodes of two sets
+together : List Bool → List Bool → List Bool
+together [] other = other
+together (x ∷ set) [] = x ∷ set
+together (x ∷ set) (y ∷ other) = (x || y) ∷ together set other
+
+in_first : (set other : List Bool) (n : ℕ) → has set n ≡ true → has (together set other) n ≡ true
+unfolding together
+in_first [] other n h = absurd (both_ways false refl h)
+in_first (x ∷ set) [] n h = h
+in_first (x ∷ set) (y ∷ other) zero h = ap (λ t. t || y) h
+in_first (x ∷ set) (y ∷ other) (suc n) h = in_first set other n h
+
+in_second : (set other : List Bool) (n : ℕ) → has other n ≡ true → has (together set other) n ≡ true
+unfolding together
+in_second [] other n h = h
+in_second (x ∷ set) [] n h = absurd (both_ways false refl h)
+in_second (x ∷ set) (y ∷ other) zero h = or_second x y h
+  where
+    or_second : (x y : Bool) → y ≡ true → x || y ≡ true
+    or_second true y h = refl
+    or_second false y h = h
+in_second (x ∷ set) (y ∷ other) (suc n) h = in_second set other n h
+
+in_either : (set other : List Bool) (n : ℕ) → has (together set other) n ≡ true →
+    (has set n ≡ true) ⊎ (has other n ≡ true)
+unfolding together
+in_either [] other n h = inr h
+in_either (x ∷ set) [] n h = inl h
+in_either (x ∷ set) (y ∷ other) zero h = or_either x y h
+  where
+    or_either : (x y : Bool) → x || y ≡ true → (x ≡ true) ⊎ (y ≡ true)
+    or_either true y h = inl refl
+    or_either false y h = inr h
+in_either (x ∷ set) (y ∷ other) (suc n) h = in_either set other n h
+
+-- no search goes on from two sets, if none goes on from either
+along_together : (b : Basin) (m : MonthRecord) (r : ℕ) (set other : List Bool) → IsClosedAlong b m r ToRight set →
+    IsClosedAlong b m r ToRight other → IsClosedAlong b m r ToRight (together set other)
+along_together b m r set other one two = record {
+  steps = λ s l from room. elim (in_either set other _ from) [
+    | inl first ↦ in_first set other _ (one.steps s l first room)
+    | inr second ↦ in_second set other _ (two.steps s l second room)
+  ];
+}
+
+-- a right's node and what a search goes on to from it and from what was claimed
+pub claim_made : (b : Basin) (m : MonthRecord) (r node : ℕ) (seen one seen' : List Bool) (queue q1 queue' : List ℕ)
+    (size s1 size' : ℕ) → node_of b r ≡ Some node → IsClosedAlong b m r ToRight seen →
+    IsVisit seen one queue q1 size s1 node → HasGrown b m r ToRight one seen' q1 queue' s1 size' →
+    IsClosedAlong b m r ToRight seen' → IsClaim b m r seen seen' queue queue' size size'
+claim_made b m r node seen one seen' queue q1 queue' size s1 size' at closed visit grown along = record {
+  in_queue = grown.in_queue;
+  count = grown.count ∙ visit.count;
+  extends = extends_then visit.extends grown.extends;
+  closed = along;
+  holds = λ core is n h. is.upstream.least seen' (backward_from_along b m r seen' along)
+      (ap (has seen') (itself core is) ∙ grown.extends.kept node visit.on) n h;
+  only = λ core is n h. in_either seen core n
+      (grown.least (together seen core)
+      (along_together b m r seen core closed (along_from_backward b m r core is.upstream.closed))
+      (λ v saw. elim (visit.only v saw) [
+        | inl same ↦ in_second seen core v (ap (has core) (same ∙ sym (itself core is)) ∙ is.upstream.holds)
+        | inr old ↦ in_first seen core v old
+      ]) n h);
+}
+  where
+    itself : (core : List Bool) (is : IsCore b m r core) → is.node ≡ node
+    itself core is = let same : Some is.node ≡ Some node = sym is.at ∙ at in cc
+
+-- one place more is marked
+pub marked_more : (queue : List ℕ) (from place right : ℕ) (next next' : List (Option ℕ)) → from ≤ place →
+    slice_index queue place < length next → AreMarked queue from place right next next' →
+    AreMarked queue from (place + 1) right next (slice_set next' (slice_index queue place) (Some right))
+marked_more queue from place right next next' above below now = record {
+  count = length-set next' (slice_index queue place) (Some right) ∙ now.count;
+  marked = λ j a l. elim (cases_eq (slice_index queue j) (slice_index queue place)) [
+    | inl same ↦ ap (λ (v : ℕ). slice_index_or (slice_set next' (slice_index queue place) (Some right)) v None) same
+        ∙ get_or-set_same next' (slice_index queue place) (Some right) None (let c = now.count in omega arith)
+    | inr other ↦ get_or-set_other next' (slice_index queue place) (slice_index queue j) (Some right) None other
+        ∙ now.marked j a (earlier j l other)
+  ];
+  kept = λ v apart. get_or-set_other next' (slice_index queue place) v (Some right) None
+      (λ same. apart place above (omega arith) (sym same))
+      ∙ now.kept v (λ j a l. apart j a (omega arith));
+}
+  where
+    earlier : (j : ℕ) → j < place + 1 → slice_index queue j ≢ slice_index queue place → j < place
+    earlier j l other = elim (cases_lt j place) [
+      | inl less ↦ less
+      | inr last ↦ absurd (other (ap (slice_index queue) (let at : j ≡ place = omega arith in at)))
+    ]
+
+-- at the start nothing was claimed
+abbrev no_marks : ℕ → List (Option ℕ)
+no_marks n = replicate n None
+
+pub none_claimed : (b : Basin) (m : MonthRecord) (seen : List Bool) (queue : List ℕ) (next : List (Option ℕ)) →
+    seen ≡ replicate (length b.nodes) false → next ≡ no_marks (length b.nodes) →
+    length queue ≡ length b.nodes → length b.nodes ≤ 2000 → AreClaimed b m 0 seen queue 0 next
+none_claimed b m seen queue next is none room few = record {
+  in_queue = queue_none (length b.nodes) seen queue is room few;
+  count = ap (λ (xs : List Bool). length xs) is ∙ length-replicate (length b.nodes) false;
+  one_each = ap (λ (xs : List (Option ℕ)). length xs) none ∙ length-replicate {A = Option ℕ} (length b.nodes) None;
+  closed = λ i a l short. record { steps = λ s l from room. absurd (both_ways _ (off _) from) };
+  claimed = λ n h. absurd (both_ways _ (off n) h);
+  free = λ n l out. (
+    ap (λ (xs : List (Option ℕ)). slice_index_or xs n None) none ∙ nothing (length b.nodes) n,
+    λ i a could. absurd (omega arith),
+  );
+}
+  where
+    off : (n : ℕ) → has seen n ≡ false
+    off n = ap (λ (xs : List Bool). has xs n) is ∙ nowhere (length b.nodes) n
+
+    nothing : (k n : ℕ) → slice_index_or (no_marks k) n None ≡ None
+    nothing zero n = refl
+    nothing (suc k) zero = refl
+    nothing (suc k) (suc n) = nothing k n
+
+-- a right that is not short claims nothing
+pub passed_over : (b : Basin) (m : MonthRecord) (place : ℕ) (seen : List Bool) (queue : List ℕ) (size : ℕ)
+    (next : List (Option ℕ)) → slice_index m.want (right_at b place) ≤ slice_index m.delivered (right_at b place) →
+    AreClaimed b m place seen queue size next → AreClaimed b m (place + 1) seen queue size next
+passed_over b m place seen queue size next met now = record {
+  in_queue = now.in_queue;
+  count = now.count;
+  one_each = now.one_each;
+  closed = λ i a l short. now.closed i (omega arith) l short;
+  claimed = now.claimed;
+  free = λ n l out. (
+    (now.free n l out).0,
+    λ i a could. elim (cases_eq i place) [
+      | inl same ↦ (let short = subst (λ (k : ℕ). IsShort m (right_at b k)) same could.short in absurd (omega arith))
+      | inr other ↦ (now.free n l out).1 i (omega arith) could
+    ],
+  );
+}
+
+-- a short one claims the nodes of its core that no senior claimed
+pub claimed_more : (b : Basin) (m : MonthRecord) (place : ℕ) (seen seen' : List Bool) (queue queue' : List ℕ)
+    (size size' : ℕ) (next next' : List (Option ℕ)) → HasPlan b m → IsSeniorityOrder b.rights (seniors_first b) →
+    place < length b.rights → IsShortRight b m (right_at b place) → AreClaimed b m place seen queue size next →
+    IsClaim b m (right_at b place) seen seen' queue queue' size size' →
+    AreMarked queue' size size' (right_at b place) next next' → AreClaimed b m (place + 1) seen' queue' size' next'
+claimed_more b m place seen seen' queue queue' size size' next next' given o below short now claim mark = record {
+  in_queue = claim.in_queue;
+  count = claim.count ∙ now.count;
+  one_each = mark.count ∙ now.one_each;
+  closed = λ i a l short_i. along_for_junior b m r (right_at b i) ToRight seen' given short
+      (senior_at b place i o l (omega arith)) claim.closed;
+  claimed = λ n h. elim (cases_Bool (has seen n)) [
+    | inl old ↦ (let was = now.claimed n old in (was.0, kept n old ∙ was.1, was.2))
+    | inr fresh ↦ (r, added n h fresh, owned n h fresh)
+  ];
+  free = λ n l out. (
+    mark.kept n (λ j a k same. both_ways (has seen' n) out (ap (has seen') (sym same) ∙ claim.in_queue.queued j k))
+        ∙ (now.free n l (apart n out)).0,
+    λ i a could. elim (cases_eq i place) [
+      | inl same ↦ (let takes = subst (λ (k : ℕ). CouldUseAt b m n (right_at b k)) same could in
+          both_ways (has seen' n) out (claim.holds takes.core takes.is_core n takes.here))
+      | inr other ↦ (now.free n l (apart n out)).1 i (omega arith) could
+    ],
+  );
+}
+  where
+    r : ℕ
+    r = right_at b place
+
+    apart : (n : ℕ) → has seen' n ≡ false → has seen n ≡ false
+    apart n out = elim (cases_Bool (has seen n)) [
+      | inl old ↦ absurd (both_ways (has seen' n) out (claim.extends.kept n old))
+      | inr fresh ↦ fresh
+    ]
+
+    -- a node that was there keeps its mark
+    kept : (n : ℕ) → has seen n ≡ true → slice_index_or next' n None ≡ slice_index_or next n None
+    kept n old =
+        let q = now.in_queue.each n old in
+        let inside = q.1 in
+        mark.kept n (λ j a k same. claim.in_queue.once q.0 j (omega arith) k
+        (claim.extends.front q.0 q.1 ∙ (q.2 ∙ sym same)))
+
+    added : (n : ℕ) → has seen' n ≡ true → has seen n ≡ false → slice_index_or next' n None ≡ Some r
+    added n h fresh =
+        let q = claim.in_queue.each n h in
+        ap (λ (v : ℕ). slice_index_or next' v None) (sym q.2) ∙ mark.marked q.0 (elim (cases_lt q.0 size) [
+          | inl before ↦ absurd (both_ways (has seen n) fresh
+              (ap (has seen) (sym q.2 ∙ claim.extends.front q.0 before) ∙ now.in_queue.queued q.0 before))
+          | inr behind ↦ behind
+        ]) q.1
+
+    owned : (n : ℕ) → has seen' n ≡ true → has seen n ≡ false → IsNextAt b m n r
+    owned n h fresh =
+        let core = core_of b m r given short.in_range in
+        record {
+          uses = record {
+            in_range = short.in_range;
+            short = short.short;
+            core = core.0;
+            is_core = core.1;
+            here = elim (claim.only core.0 core.1 n h) [
+              | inl old ↦ absurd (both_ways (has seen n) fresh old)
+              | inr held ↦ held
+            ];
+          };
+          first = λ s senior could.
+              let at = o.placed place below in
+              let before = ltb-true (o.place s) (o.place r)
+              (sym (o.senior s r could.in_range short.in_range) ∙ senior) in
+              (now.free n (let k = has_below seen' n h in let c = claim.count in let d = now.count in omega arith)
+              fresh).1 (o.place s) (omega arith)
+              (subst (λ (t : ℕ). CouldUseAt b m n t) (sym (o.each s could.in_range)) could);
+        }
+
+-- all rights had their turn
+pub all_served : (b : Basin) (m : MonthRecord) (place : ℕ) (seen : List Bool) (queue : List ℕ) (size : ℕ)
+    (next : List (Option ℕ)) → IsSeniorityOrder b.rights (seniors_first b) → length b.rights ≤ place →
+    AreClaimed b m place seen queue size next → AreNext b m next
+all_served b m place seen queue size next o all now = record {
+  one_each = now.one_each;
+  each = λ n l. elim (cases_Bool (has seen n)) [
+    | inl held ↦ (let was = now.claimed n held in subst (IsNextOrFree b m n) (sym was.1) was.2)
+    | inr out ↦ subst (IsNextOrFree b m n) (sym (now.free n l out).0) (λ s could.
+        (now.free n l out).1 (o.place s) (let p = o.in_range s could.in_range in omega arith)
+        (subst (λ (t : ℕ). CouldUseAt b m n t) (sym (o.each s could.in_range)) could))
+  ];
+}

@@ -1,0 +1,17 @@
+pub mod Terms
+pub mod Slack
+pub mod Closed
+pub mod Overs
+pub mod Along
+pub mod RowLists
+pub mod Queues
+pub mod Reaching
+pub mod Spreading
+pub mod Backward
+pub mod Decides
+pub mod Firsts
+pub mod Sweeping
+pub mod Sweeps
+pub mod Upstream
+pub mod Cores
+pub mod Claiming

@@ -1,0 +1,69 @@
+-- A sweep from the most junior right to the most senior.
+use Rattle.std.proofs.Common.{◌≡◌, ℕ, ◌+◌, ◌<◌, Bool, true, false, sym, ◌∙◌, ap, subst, arith, List, length, inl, inr}
+use Rattle.std.proofs.lemmas.Bool.{cases_eq, ltb-true}
+use Rattle.std.specs.Bool.{OnTrue, OnFalse}
+use Rattle.std.specs.Prelude.{Option, Some, None, if◌then◌else◌}
+use Rattle.water_model.specs.History.{IsShort}
+use Rattle.water_model.specs.Places.{seniors_first}
+use Rattle.water_model.specs.declared.types.Basin.{Basin}
+use Rattle.water_model.specs.declared.types.MonthRecord.{MonthRecord}
+use Rattle.rights_roll.specs.SeniorityOrder.{IsSeniorityOrder}
+use Rattle.plan_residual.specs.Reaches.{HasReach, IsFirstOther}
+use Rattle.plan_residual.specs.Sweep.{IsAt, IsFirstFrom, right_at}
+
+-- what is known from a place on is known from a later one on
+pub at_lower : (b : Basin) (m : MonthRecord) (seen : List Bool) (queue : List ℕ) (place : ℕ) (before : Option ℕ)
+    (size : ℕ) →
+    IsAt b m seen queue (place + 1) before size → IsAt b m seen queue place before size
+at_lower b m seen queue place None size now = now
+at_lower b m seen queue place (Some before) size now = (let l = now.0 in omega arith, now.1, now.2, now.3, now.4)
+
+-- one right more was judged
+pub judged_more : (b : Basin) (m : MonthRecord) (place right : ℕ) (other : Bool) (answer : Option ℕ) →
+    place < length b.rights → right_at b place ≡ right →
+    OnTrue other (IsShort m (right_at b place) × (HasReach b m (right_at b place) → ⊥)) →
+    OnFalse other (IsShort m (right_at b place) → HasReach b m (right_at b place)) →
+    IsFirstFrom b m (place + 1) answer → IsFirstFrom b m place (if other then Some right else answer)
+judged_more b m place right true answer l at told fine now = (
+  place,
+  omega arith,
+  l,
+  at,
+  subst (λ (r : ℕ). IsShort m r) at told.0,
+  subst (λ (r : ℕ). HasReach b m r → ⊥) at told.1,
+  λ i a c. absurd (omega arith),
+)
+judged_more b m place right false None l at told fine now = λ i a c. elim (cases_eq i place) [
+  | inl same ↦ subst (λ k. IsShort m (right_at b k) → HasReach b m (right_at b k)) (sym same) fine
+  | inr other ↦ now i (omega arith) c
+]
+judged_more b m place right false (Some r) l at told fine now = (
+  now.0,
+  (let a = now.1 in omega arith),
+  now.2,
+  now.3,
+  now.4,
+  now.5,
+  λ i a c. elim (cases_eq i place) [
+    | inl same ↦ subst (λ k. IsShort m (right_at b k) → HasReach b m (right_at b k)) (sym same) fine
+    | inr other ↦ now.6 i (omega arith) c
+  ],
+)
+
+-- all rights were judged
+pub judged_all : (b : Basin) (m : MonthRecord) (answer : Option ℕ) → IsSeniorityOrder b.rights (seniors_first b) →
+    IsFirstFrom b m 0 answer → IsFirstOther b m answer
+judged_all b m None o now = λ r l short.
+    subst (λ s. IsShort m s → HasReach b m s) (o.each r l) (now (o.place r) (omega arith) (o.in_range r l)) short
+judged_all b m (Some r) o now = (
+  in_range,
+  now.4,
+  now.5,
+  λ s l senior short.
+      let before : o.place s < o.place r = ltb-true (o.place s) (o.place r) (sym (o.senior s r l in_range) ∙ senior) in
+      let at : o.place r ≡ now.0 = ap o.place (sym now.3) ∙ o.placed now.0 now.2 in
+      subst (λ q. IsShort m q → HasReach b m q) (o.each s l) (now.6 (o.place s) (omega arith) (omega arith)) short,
+)
+  where
+    in_range : r < length b.rights
+    in_range = subst (λ (q : ℕ). q < length b.rights) now.3 (o.below now.0 now.2)

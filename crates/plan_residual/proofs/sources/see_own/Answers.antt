@@ -1,0 +1,29 @@
+use Rattle.std.proofs.Common.{rules, ◌≡◌, ap, sym, ◌∙◌, inl, inr, ℕ}
+use Rattle.std.proofs.lemmas.Option.{slice_get_within}
+use Rattle.std.specs.Prelude.{Some}
+use Rattle.water_model.specs.Basin.{head_of, instream_link}
+use Rattle.water_model.specs.Lookups.{has}
+use Rattle.plan_residual.proofs.sources.see_own.Goals as goal
+
+pub returns-in-Instream : goal.returns-in-Instream
+returns-in-Instream c =
+    let on : instream_link c.args.basin.now c.args.right ≡ Some c.in-Instream.link = search rules in
+    let to : c.index-in-Instream.result.now.to ≡ head_of c.args.basin.now c.in-Instream.link = search rules in
+    record {
+      in_queue = c.visit.ensures.in_queue;
+      count = c.visit.ensures.count;
+      extends = c.visit.ensures.extends;
+      own = λ e l is.
+          let same : c.in-Instream.link ≡ e = cc in
+          ap (λ (n : ℕ). has c.visit.new.seen n) (sym (to ∙ ap (head_of c.args.basin.now) same)) ∙ c.visit.ensures.on;
+      only = λ v h. elim (c.visit.ensures.only v h) [
+        | inl same ↦ inl (
+          c.in-Instream.link,
+          slice_get_within c.args.basin.now.links c.in-Instream.link c.index-in-Instream.result.now
+              c.index-in-Instream.ensures,
+          on,
+          sym to ∙ sym same,
+        )
+        | inr old ↦ inr old
+      ];
+    }

@@ -1,0 +1,43 @@
+-- Seniors first, each short right claims the nodes of its core that no senior claimed.
+use Rattle.std.specs.Prelude.{◌≡◌, ◌≢◌, ℕ, ◌<◌, ◌≤◌, ◌⊎◌, Bool, true, false, List, length, slice_index, slice_index_or}
+use Rattle.std.specs.Prelude.{Option, Some, None}
+use Rattle.water_model.specs.Lookups.{has}
+use Rattle.water_model.specs.History.{IsShort}
+use Rattle.water_model.specs.declared.types.Basin.{Basin}
+use Rattle.water_model.specs.declared.types.MonthRecord.{MonthRecord}
+use Rattle.plan_residual.specs.declared.steps.Direction.TheVariants.{ToRight}
+use Rattle.plan_residual.specs.Core.{IsCore}
+use Rattle.plan_residual.specs.Next.{CouldUseAt, IsNextAt}
+use Rattle.plan_residual.specs.Search.{Extends, IsClosedAlong, IsQueue}
+use Rattle.plan_residual.specs.Sweep.{right_at}
+
+-- the nodes of a right's core were added, or were there, and no others
+pub record IsClaim (b : Basin) (m : MonthRecord) (right : ℕ) (seen seen' : List Bool) (queue queue' : List ℕ)
+    (size size' : ℕ) : Type 0 where
+  pub in_queue : IsQueue seen' queue' size'
+  pub count : length seen' ≡ length seen
+  pub extends : Extends seen seen' queue queue' size size'
+  pub closed : IsClosedAlong b m right ToRight seen'
+  pub holds : (core : List Bool) → IsCore b m right core → (n : ℕ) → has core n ≡ true → has seen' n ≡ true
+  pub only : (core : List Bool) → IsCore b m right core → (n : ℕ) → has seen' n ≡ true →
+      (has seen n ≡ true) ⊎ (has core n ≡ true)
+
+-- the nodes at some places of the queue were marked as a right's, and no others
+pub record AreMarked (queue : List ℕ) (from to right : ℕ) (next next' : List (Option ℕ)) : Type 0 where
+  pub count : length next' ≡ length next
+  pub marked : (j : ℕ) → from ≤ j → j < to → slice_index_or next' (slice_index queue j) None ≡ Some right
+  pub kept : (v : ℕ) → ((j : ℕ) → from ≤ j → j < to → slice_index queue j ≢ v) →
+      slice_index_or next' v None ≡ slice_index_or next v None
+
+-- The nodes in the queue are those at which a short right before a place of the order could use one more unit, each
+-- marked as the most senior one's. As seen from the short rights behind, no step with room leads to them.
+pub record AreClaimed (b : Basin) (m : MonthRecord) (place : ℕ) (seen : List Bool) (queue : List ℕ) (size : ℕ)
+    (next : List (Option ℕ)) : Type 0 where
+  pub in_queue : IsQueue seen queue size
+  pub count : length seen ≡ length b.nodes
+  pub one_each : length next ≡ length b.nodes
+  pub closed : (i : ℕ) → place ≤ i → i < length b.rights → IsShort m (right_at b i) →
+      IsClosedAlong b m (right_at b i) ToRight seen
+  pub claimed : (n : ℕ) → has seen n ≡ true → (r : ℕ) × (slice_index_or next n None ≡ Some r) × IsNextAt b m n r
+  pub free : (n : ℕ) → n < length b.nodes → has seen n ≡ false → (slice_index_or next n None ≡ None)
+      × ((i : ℕ) → i < place → CouldUseAt b m n (right_at b i) → ⊥)

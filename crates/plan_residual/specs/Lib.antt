@@ -1,0 +1,10 @@
+pub mod Residual
+pub mod Slack
+pub mod Laws
+pub mod Rows
+pub mod Search
+pub mod Reaches
+pub mod Sweep
+pub mod Core
+pub mod Next
+pub mod Claims
