@@ -15,6 +15,7 @@ use Rattle.water_model.specs.declared.types.Basin.{Basin}
 use Rattle.water_model.specs.declared.types.Inflows.{Inflows}
 use Rattle.result_reader.specs.Standing as reader
 use Rattle.result_reader.specs.Telling.{nothing_told}
+use Rattle.cert_check.specs.Auditing.{IsAuditIfAny}
 use Rattle.cert_check.specs.Beginning.{IsBlank}
 use Rattle.cert_check.specs.Keeping.{Keeps}
 use Rattle.cert_check.specs.Standing.{IsBookOf}
@@ -67,12 +68,14 @@ blank_is b valid = record {
 -- a book of no line
 pub first_book : (b : Basin) (series : Inflows) (k : Book) → k.reader.basin ≡ b → reader.StandsFor k.reader [] →
     Keeps b series k.account.value (nothing_told b) →
-    k.read ≡ 0 → k.last_other ≡ 0 → k.ended ≡ false → IsBookOf b series k []
-first_book b series k basin stands account read last ended = record {
+    k.read ≡ 0 → k.last_other ≡ 0 → k.ended ≡ false → IsAuditIfAny b (nothing_told b) [] k.audit →
+    IsBookOf b series k []
+first_book b series k basin stands account read last ended audit = record {
   items = [];
   verdict = refl;
   basin = basin;
   reader = stands;
   account = account;
   counts = record { read = read; last_other = last; ended = ended };
+  audit = audit;
 }

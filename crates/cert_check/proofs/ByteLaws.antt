@@ -54,6 +54,12 @@ joined b (i ∷ j ∷ items) =
     ap (λ bytes. line_of b i ++ 10 ∷ bytes) (joined b (j ∷ items))
     ∙ sym (append_assoc (line_of b i) (10 ∷ []) (flat_map (whole_line b) (j ∷ items)))
 
+-- bytes are the text of the lines that they are cut to
+pub spelled_text : (b : Basin) (bytes : List ℕ) (items : List Item) →
+    pieces_of bytes ≡ map (line_of b) items ++ [] ∷ [] → bytes ≡ flat_map (whole_line b) items
+spelled_text b bytes items pieces =
+    sym (join_with_byte-slice_split 10 bytes) ∙ (ap (join_with_byte 10) pieces ∙ joined b items)
+
 -- the last line of a text is short
 last_short : (b : Basin) (records : List MonthRecord) → IsValidBasin b →
     length (behind_last (map (line_of b) (items_of b records))) ≤ 128
@@ -70,7 +76,7 @@ last_short b records valid =
     map-append [] i = refl
     map-append (x ∷ xs) i = ap (λ ls. line_of b x ∷ ls) (map-append xs i)
 
-ok_of : (r : Result (List Item) Refuted) → IsOk r → (items : List Item) × (r ≡ Ok items)
+pub ok_of : (r : Result (List Item) Refuted) → IsOk r → (items : List Item) × (r ≡ Ok items)
 ok_of (Ok items) h = (items, refl)
 ok_of (Err e) h = cc
 
@@ -114,8 +120,7 @@ of_history b series bytes valid h =
           ∙ ap (λ rest. map (line_of b) (items_of b said.0) ++ rest ∷ []) said.3) in (
             said.0,
             said.1,
-            sym (join_with_byte-slice_split 10 bytes)
-                ∙ (ap (join_with_byte 10) pieces ∙ joined b (items_of b said.0)),
+            spelled_text b bytes (items_of b said.0) pieces,
           )
     ]
       where

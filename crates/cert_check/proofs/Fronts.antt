@@ -181,16 +181,16 @@ amid_is_within line.End h = refl
 amid_is_within (line.Done months) h = h
 
 -- where a line of a month stands
-record IsAmid (b : Basin) (s : Sheet) (xs : List Item) (item : Item) : Type 0 where
-  amid : list_all is_amid xs ≡ true
-  within : is_within item ≡ true
-  front : is_before_called item ≡ true → list_all is_before_called xs ≡ true
-  once : (r : ℕ) → item ≡ line.Call r → list_all (no_call r) xs ≡ true
+pub record IsAmid (b : Basin) (s : Sheet) (xs : List Item) (item : Item) : Type 0 where
+  pub amid : list_all is_amid xs ≡ true
+  pub within : is_within item ≡ true
+  pub front : is_before_called item ≡ true → list_all is_before_called xs ≡ true
+  pub once : (r : ℕ) → item ≡ line.Call r → list_all (no_call r) xs ≡ true
 
 clash : {X : Type 0} → false ≡ true → X
 clash e = cc
 
-stands_amid : (b : Basin) → IsValidBasin b →
+pub stands_amid : (b : Basin) → IsValidBasin b →
     (s : Sheet) (dues : List (ℕ × ℕ)) (xs : List Item) (item : Item) (ys : List Item) →
     sheet_lines b s dues ≡ xs ++ item ∷ ys → IsAmid b s xs item
 stands_amid b valid s dues xs item ys e =
@@ -267,6 +267,15 @@ stands_amid b valid s dues xs item ys e =
           front = λ h. clash (sym not_before ∙ h);
           once = λ r eq. no_call_is r not_before eq;
         }
+
+-- the last line of a month, and no other, is its `end`
+pub last_amid : (b : Basin) → IsValidBasin b → (s : Sheet) (dues : List (ℕ × ℕ)) →
+    (front : List Item) × (sheet_lines b s dues ≡ front ++ line.End ∷ []) × (list_all is_amid front ≡ true)
+last_amid b valid s dues =
+    let front = (amounts b s ++ calls b s) ++ behind_calls b s dues in
+    let are : sheet_lines b s dues ≡ front ++ line.End ∷ [] =
+    regroup b s dues ∙ sym (append_assoc (amounts b s ++ calls b s) (behind_calls b s dues) (line.End ∷ [])) in
+    (front, are, (stands_amid b valid s dues front line.End [] are).amid)
 
 -- what is told when a line of a month may come
 within_month : (b : Basin) → IsValidBasin b → (series : Inflows) → IsSeriesOf b series →

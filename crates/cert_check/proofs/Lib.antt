@@ -39,3 +39,8 @@ pub mod FirstRows
 pub mod Standings
 pub mod ByteLaws
 pub mod Beginnings
+pub mod Audits
+pub mod AuditAnswers
+pub mod CallLines
+pub mod AuditLaws
+pub mod AuditKinds

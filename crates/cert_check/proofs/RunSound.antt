@@ -253,6 +253,16 @@ head_of b items h =
       rest = run.rest;
     }
 
+-- the last line of a whole text is `done`
+pub ends_with_done : (b : Basin) → IsValidBasin b → Inflows → (items : List Item) → Fills b (due b) items →
+    (front : List Item) × (items ≡ front ++ line.Done b.months ∷ [])
+ends_with_done b valid series items h =
+    let head = head_of b items h in
+    let ends = months_end b valid series b.months 0 head.others head.rest in (
+      line.Title ∷ head.first ∷ ends.front,
+      head.are ∙ ap (λ ys. line.Title ∷ head.first ∷ ys) ends.are,
+    )
+
 -- lines that begin a whole text, and have its last line, are one
 whole_fills : (b : Basin) → IsValidBasin b → Inflows → (items : List Item) → is_whole items ≡ true → IsFront b items →
     Fills b (due b) items

@@ -1,24 +1,28 @@
 -- A book with one line more.
 use Rattle.std.proofs.Common.{◌≡◌, ℕ, ◌+◌, ◌*◌, ◌^◌, ◌<◌, ◌≤◌, true, false, refl, sym, ap, subst, ◌∙◌, arith, List, []}
-use Rattle.std.proofs.Common.{◌∷◌, ◌++◌, length}
+use Rattle.std.proofs.Common.{◌∷◌, ◌++◌, length, append_assoc, append-nil}
 use Rattle.std.specs.Prelude.{Option, Some, None, Result, Ok, Err}
 use Rattle.std.specs.Option.{option_and_then}
 use Rattle.std.proofs.Math.Nat.{mul-le-mul}
+use Rattle.water_model.specs.History.{IsPartialHistory}
 use Rattle.water_model.specs.Valid.{IsValidBasin, IsSeriesOf}
 use Rattle.water_model.specs.declared.item.Item.{Item}
+use Rattle.water_model.specs.declared.item.Item.TheVariants as line
+use Rattle.water_model.proofs.Histories.{last_follows}
 use Rattle.water_model.specs.declared.types.Basin.{Basin}
 use Rattle.water_model.specs.declared.types.Inflows.{Inflows}
 use Rattle.result_reader.specs.Due.{Due, all_due, due_after, is_call, step}
-use Rattle.result_reader.specs.Form.{due_in_month}
+use Rattle.result_reader.specs.Form.{due, due_in_month, Fills, IsFront}
 use Rattle.result_reader.specs.Reading.{read_line}
 use Rattle.result_reader.specs.Standing.{most_lines}
 use Rattle.result_reader.specs.Standing as reader
-use Rattle.result_reader.specs.Telling.{told_by}
+use Rattle.result_reader.specs.Telling.{Told, nothing_told, tell, told_by, with_supply}
 use Rattle.result_reader.specs.declared.bad_line.BadLine.{BadLine}
 use Rattle.result_reader.specs.declared.shape.Shape.{Shape}
 use Rattle.result_reader.proofs.Accepting.{fronts_are_accepted}
 use Rattle.result_reader.proofs.LinesLeft.{step-fewer, most_of_run, few_due}
-use Rattle.cert_check.specs.Checking.{first_row, is_whole, judge, judge_row, ok_then, verdict_from}
+use Rattle.cert_check.specs.Auditing.{MonthFollows}
+use Rattle.cert_check.specs.Checking.{first_row, is_whole, judge, judge_row, ok_then, rows, verdict_from}
 use Rattle.cert_check.specs.Coming.{MayCome}
 use Rattle.cert_check.specs.Standing.{CheckerSeen, IsBookOf, Stands, StandsFor}
 use Rattle.cert_check.specs.Taking.{TakesItem, TakesLine}
@@ -26,7 +30,9 @@ use Rattle.cert_check.specs.declared.book.Book.{Book}
 use Rattle.cert_check.specs.declared.refuted.Refuted.{Refuted}
 use Rattle.cert_check.specs.declared.refuted.RefutedKind.TheVariants as kind
 use Rattle.cert_check.proofs.Fronts.{may_come}
-use Rattle.cert_check.proofs.Verdicts.{verdict_says}
+use Rattle.cert_check.proofs.Rows.{AreGood, NoneHolds, good_both, good_row}
+use Rattle.cert_check.proofs.RunSound.{ends_with_done}
+use Rattle.cert_check.proofs.Verdicts.{AreJudged, told_more, verdict_says}
 
 -- A text has fewer lines than fit 64 bits.
 
@@ -129,6 +135,55 @@ line_comes b series lines bytes items item valid fits h read =
     let front = ((fronts_are_accepted b items bytes item valid).0 read).2 in
     may_come b valid series fits items item (rw said.are said.good) front
 
+last_same : (xs ys : List Item) (i j : Item) → xs ++ i ∷ [] ≡ ys ++ j ∷ [] → i ≡ j
+last_same [] [] i j e = cc
+last_same [] (y ∷ []) i j e = cc
+last_same [] (y ∷ z ∷ ys) i j e = cc
+last_same (x ∷ []) [] i j e = cc
+last_same (x ∷ z ∷ xs) [] i j e = cc
+last_same (x ∷ xs) (y ∷ ys) i j e = let tail : xs ++ i ∷ [] ≡ ys ++ j ∷ [] = cc in last_same xs ys i j tail
+
+-- the month that a good `end` line ends follows those before it
+pub line_ends : (b : Basin) (series : Inflows) (lines : List (List ℕ)) (bytes : List ℕ) (items : List Item)
+    (item : Item) → IsValidBasin b → IsSeriesOf b series →
+    verdict_from b series [] lines ≡ Ok items → read_line b items bytes ≡ Ok item →
+    item ≡ line.End → first_row b series (told_by b series items) item ≡ None →
+    MonthFollows b series (told_by b series items)
+line_ends b series lines bytes items item valid fits h read is none =
+    last_follows b series (told_by b series items).months
+    (with_supply b series (told_by b series items).now)
+    (subst (λ (t : Told). IsPartialHistory b series t.months) more (by_rest front.rest front.whole))
+  where
+    front : IsFront b (items ++ line.End ∷ [])
+    front = subst (λ (i : Item). IsFront b (items ++ i ∷ [])) is ((fronts_are_accepted b items bytes item valid).0 read).2
+
+    said : AreJudged b series [] items lines
+    said = verdict_says b valid series [] items lines h
+
+    good : AreGood b series (nothing_told b) (items ++ line.End ∷ [])
+    good = good_both b series (nothing_told b) items (line.End ∷ []) (rw said.are said.good) (
+      subst (λ (i : Item). NoneHolds (rows b series (told_by b series items) i)) is
+          (good_row b series (told_by b series items) item none),
+      tt,
+    )
+
+    more : told_by b series (items ++ line.End ∷ []) ≡ tell b series (told_by b series items) line.End
+    more = told_more b series items line.End
+
+    by_rest : (rest : List Item) → Fills b (due b) ((items ++ line.End ∷ []) ++ rest) →
+        IsPartialHistory b series (told_by b series (items ++ line.End ∷ [])).months
+    by_rest [] whole =
+        let ends = ends_with_done b valid series (items ++ line.End ∷ [])
+        (subst (λ (xs : List Item). Fills b (due b) xs) (append-nil (items ++ line.End ∷ [])) whole) in
+        let never : line.End ≡ line.Done b.months = last_same items ends.0 line.End (line.Done b.months) ends.1 in
+        cc
+    by_rest (next ∷ rest) whole =
+        (may_come b valid series fits (items ++ line.End ∷ []) next good (record {
+          rest = rest;
+          whole = subst (λ (xs : List Item). Fills b (due b) xs)
+              (sym (append_assoc (items ++ line.End ∷ []) (next ∷ []) rest)) whole;
+        })).partial
+
 -- a line that is taken, or refused by a row
 pub took : (b : Basin) (series : Inflows) (k : Book) (lines : List (List ℕ)) (bytes : List ℕ) (items : List Item)
     (item : Item) (result : Result (Unit {0}) Refuted) →
@@ -136,13 +191,14 @@ pub took : (b : Basin) (series : Inflows) (k : Book) (lines : List (List ℕ)) (
     judge b series items bytes ≡ judge_row items item (first_row b series (told_by b series items) item) →
     k.reader.basin ≡ b → reader.StandsFor k.reader (items ++ item ∷ []) → TakesItem b series k items item result →
     TakesLine b series k (lines ++ bytes ∷ []) result
-took b series k lines bytes items item (Ok done) good judged basin stands (none, keeps, counts) = record {
+took b series k lines bytes items item (Ok done) good judged basin stands (none, keeps, counts, audit) = record {
   items = items ++ item ∷ [];
   verdict = line_judged b series lines bytes items (Ok item) good (judged ∙ ap (judge_row items item) none);
   basin = basin;
   reader = stands;
   account = keeps;
   counts = counts;
+  audit = audit;
 }
 took b series k lines bytes items item (Err e) good judged basin stands refuted =
     line_judged b series lines bytes items (Err e) good (judged ∙ refuted)

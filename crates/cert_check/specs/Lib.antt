@@ -1,3 +1,5 @@
+pub mod Audit
+pub mod Auditing
 pub mod Beginning
 pub mod CheckerInside
 pub mod Checking

@@ -1,5 +1,5 @@
 -- What a checker stands for that is given a text in pieces.
-use Rattle.std.specs.Prelude.{◌≡◌, ℕ, ◌+◌, ◌-◌, ◌*◌, ◌≤◌, false, List, [], ◌∷◌, ◌++◌, length, Option, None}
+use Rattle.std.specs.Prelude.{◌≡◌, ℕ, ◌+◌, ◌-◌, ◌*◌, ◌≤◌, false, List, [], ◌∷◌, ◌++◌, length, Option, None, IsSome}
 use Rattle.water_text.specs.LinesIn.{LineHeld}
 use Rattle.water_model.specs.declared.types.Basin.{Basin}
 use Rattle.water_model.specs.declared.types.Inflows.{Inflows}
@@ -45,3 +45,7 @@ StandsForText c text = AreGiven (checker_of c) c.line text
 
 abbrev pub bytes_left : PiecesSeen → ℕ
 bytes_left c = room_left (checker_of c) c.line
+
+-- an audit was asked for
+abbrev pub IsAudit : PiecesSeen → Type 0
+IsAudit c = IsSome c.book.audit

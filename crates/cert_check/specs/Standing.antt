@@ -1,10 +1,12 @@
 -- What a checker stands for, and what its answers say.
 use Rattle.std.specs.Prelude.{◌≡◌, ℕ, ◌-◌, List, [], length, reverse, Option, Some, None, Result, Ok, Err, IsOk}
+use Rattle.std.specs.Prelude.{IsSome}
 use Rattle.water_model.specs.declared.item.Item.{Item}
 use Rattle.water_model.specs.declared.types.Basin.{Basin}
 use Rattle.water_model.specs.declared.types.Inflows.{Inflows}
 use Rattle.result_reader.specs.Standing as reader
 use Rattle.result_reader.specs.Telling.{told_by}
+use Rattle.cert_check.specs.Auditing.{IsAuditIfAny}
 use Rattle.cert_check.specs.Checking.{verdict_from, members_first, is_whole}
 use Rattle.cert_check.specs.Keeping.{Keeps}
 use Rattle.cert_check.specs.declared.book.Book.{Book}
@@ -17,7 +19,8 @@ pub record Counts (k : Book) (items : List Item) : Type 0 where
   pub last_other : k.last_other ≡ length items - members_first (reverse items)
   pub ended : k.ended ≡ is_whole items
 
--- no line is at fault so far. The reader accepted what the lines say, and the account keeps what they tell
+-- no line is at fault so far. The reader accepted what the lines say, the account keeps what they tell, and an audit
+-- found the first set that isn't a reach
 pub record IsBookOf (b : Basin) (series : Inflows) (k : Book) (lines : List (List ℕ)) : Type 0 where
   pub items : List Item
   pub verdict : verdict_from b series [] lines ≡ Ok items
@@ -25,6 +28,7 @@ pub record IsBookOf (b : Basin) (series : Inflows) (k : Book) (lines : List (Lis
   pub reader : reader.StandsFor k.reader items
   pub account : Keeps b series k.account.value (told_by b series items)
   pub counts : Counts k items
+  pub audit : IsAuditIfAny b (told_by b series items) items k.audit
 
 -- the value that contracts see of a checker: its basin and series, what it keeps of good lines, and the refusal if a
 -- line was at fault
@@ -33,6 +37,10 @@ pub record CheckerSeen : Type 0 where
   pub series : Inflows
   pub book : Book
   pub refused : Option Refuted
+
+-- an audit was asked for
+abbrev pub IsAudit : CheckerSeen → Type 0
+IsAudit c = IsSome c.book.audit
 
 -- how many lines may still be accepted, at most
 abbrev pub lines_left : CheckerSeen → ℕ

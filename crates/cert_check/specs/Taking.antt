@@ -1,9 +1,11 @@
 -- What taking a line does.
 use Rattle.std.specs.Prelude.{◌≡◌, ℕ, List, [], ◌∷◌, ◌++◌, None, Result, Ok, Err}
 use Rattle.water_model.specs.declared.item.Item.{Item}
+use Rattle.water_model.specs.declared.item.Item.TheVariants as line
 use Rattle.water_model.specs.declared.types.Basin.{Basin}
 use Rattle.water_model.specs.declared.types.Inflows.{Inflows}
 use Rattle.result_reader.specs.Telling.{told_by}
+use Rattle.cert_check.specs.Auditing.{IsAuditIfAny, MonthFollows}
 use Rattle.cert_check.specs.Checking.{verdict_from, first_row, judge_row}
 use Rattle.cert_check.specs.Coming.{MayCome}
 use Rattle.cert_check.specs.Keeping.{Keeps}
@@ -26,6 +28,9 @@ pub record IsTold (b : Basin) (series : Inflows) (k : Book) (items : List Item) 
   pub account : Keeps b series k.account.value (told_by b series items)
   pub counts : Counts k items
   pub comes : MayCome b series (told_by b series items) item
+  pub ends : item ≡ line.End → first_row b series (told_by b series items) item ≡ None →
+      MonthFollows b series (told_by b series items)
+  pub audit : IsAuditIfAny b (told_by b series items) items k.audit
 
 pub record HasItems (b : Basin) (series : Inflows) (k : Book) (item : Item) : Type 0 where
   pub items : List Item
@@ -35,6 +40,7 @@ pub record HasItems (b : Basin) (series : Inflows) (k : Book) (item : Item) : Ty
 abbrev pub TakesItem : Basin → Inflows → Book → List Item → Item → Result (Unit {0}) Refuted → Type 0
 TakesItem b series k items item (Ok _) =
     (first_row b series (told_by b series items) item ≡ None) ×
-    Keeps b series k.account.value (told_by b series (items ++ item ∷ [])) × Counts k (items ++ item ∷ [])
+    Keeps b series k.account.value (told_by b series (items ++ item ∷ [])) × Counts k (items ++ item ∷ []) ×
+    IsAuditIfAny b (told_by b series (items ++ item ∷ [])) (items ++ item ∷ []) k.audit
 TakesItem b series k items item (Err e) =
     judge_row items item (first_row b series (told_by b series items) item) ≡ Err e

@@ -1,11 +1,16 @@
 //! A checker of result texts, line by line.
 ghost use Rattle.std.specs.Prelude.{ℕ, List, [], ◌≡◌, ◌+◌, ◌*◌, ◌^◌, ◌≤◌, ◌++◌, ◌∷◌, length, Some, None, Err, IfOk};
 ghost use Rattle.std.specs.Prelude.{IfErr, IfSome, OnOk};
+ghost use Rattle.result_reader.specs.Telling.{nothing_told};
+ghost use Rattle.cert_check.specs.Audit.{IsAuditAnswer};
+ghost use Rattle.cert_check.specs.Auditing.{IsAuditIfAny};
 ghost use Rattle.cert_check.specs.Checking.{verdict, verdict_from};
-ghost use Rattle.cert_check.specs.Standing.{IsAnswer, IsLineAnswer, StandsFor, lines_left};
+ghost use Rattle.cert_check.specs.Standing.{IsAnswer, IsAudit, IsLineAnswer, StandsFor, lines_left};
+ghost use Rattle.cert_check.specs.Whole.{pieces_of};
 ghost use Rattle.water_model.specs.Valid.{IsValidBasin, IsSeriesOf};
 
 use crate::account::Means;
+use crate::audit::{Audit, answer};
 use crate::book::{Book, take_line};
 use crate::opening::{blank_account, last_outlet};
 use crate::refuted::{Refuted, RefutedKind};
@@ -40,19 +45,22 @@ impl<'b> Model for Checker<'b> {
 }
 
 impl<'b> Checker<'b> {
-    /// A checker that was given no line. AllocError comes where memory is lacking; no other call takes memory.
-    pub fn open(
+    /// A checker that was given no line, with this audit of no line if one is asked for.
+    fn open_with(
         alloc: Global,
         basin: &'b Basin,
         series: &'b Inflows,
+        audit: Option<Audit>,
     ) -> Result<Checker<'b>, AllocError>
         requires basin { IsValidBasin basin.now }
         requires series { IsSeriesOf basin.now series.now }
+        requires audit { IsAuditIfAny basin.now (nothing_told basin.now) [] audit }
         ensures basin { IfOk result (λ checker. checker.basin ≡ basin.now) }
         ensures series { IfOk result (λ checker. checker.series ≡ series.now) }
         ensures none { IfOk result (λ checker. StandsFor checker []) }
         ensures good { IfOk result (λ checker. checker.refused ≡ None) }
         ensures few { IfOk result (λ checker. lines_left checker ≤ 5 * 10 ^ 9) }
+        ensures audit { IfOk result (λ checker. checker.book.audit ≡ audit) }
     {
         let roll = Roll::of_basin(alloc, basin)?;
         let tables = tables_of(alloc, basin)?;
@@ -73,9 +81,47 @@ impl<'b> Checker<'b> {
                 read: 0,
                 last_other: 0,
                 ended: false,
+                audit,
             },
             refused: None,
         })
+    }
+
+    /// A checker that was given no line. AllocError comes where memory is lacking; no other call takes memory.
+    pub fn open(
+        alloc: Global,
+        basin: &'b Basin,
+        series: &'b Inflows,
+    ) -> Result<Checker<'b>, AllocError>
+        requires basin { IsValidBasin basin.now }
+        requires series { IsSeriesOf basin.now series.now }
+        ensures basin { IfOk result (λ checker. checker.basin ≡ basin.now) }
+        ensures series { IfOk result (λ checker. checker.series ≡ series.now) }
+        ensures none { IfOk result (λ checker. StandsFor checker []) }
+        ensures good { IfOk result (λ checker. checker.refused ≡ None) }
+        ensures few { IfOk result (λ checker. lines_left checker ≤ 5 * 10 ^ 9) }
+    {
+        Checker::open_with(alloc, basin, series, None)
+    }
+
+    /// A checker that was given no line, and audits. AllocError comes where memory is lacking; no other call takes
+    /// memory.
+    pub fn open_audit(
+        alloc: Global,
+        basin: &'b Basin,
+        series: &'b Inflows,
+    ) -> Result<Checker<'b>, AllocError>
+        requires basin { IsValidBasin basin.now }
+        requires series { IsSeriesOf basin.now series.now }
+        ensures basin { IfOk result (λ checker. checker.basin ≡ basin.now) }
+        ensures series { IfOk result (λ checker. checker.series ≡ series.now) }
+        ensures none { IfOk result (λ checker. StandsFor checker []) }
+        ensures good { IfOk result (λ checker. checker.refused ≡ None) }
+        ensures few { IfOk result (λ checker. lines_left checker ≤ 5 * 10 ^ 9) }
+        ensures audit { IfOk result IsAudit }
+    {
+        let audit = Audit::open(alloc, basin)?;
+        Checker::open_with(alloc, basin, series, Some(audit))
     }
 
     /// Takes the next line, without its line feed. It is refused where it, or a line before it, is at fault: then with
@@ -91,6 +137,7 @@ impl<'b> Checker<'b> {
         ensures left { OnOk result (lines_left self.new + 1 ≡ lines_left self.old) }
         ensures refused { IfErr result (λ e. self.new.refused ≡ Some e) }
         ensures stays { IfSome self.old.refused (λ e. (result ≡ Err e) × (self.new ≡ self.old)) }
+        ensures audit { IsAudit self.old → IsAudit self.new }
     {
         match self.refused {
             Some(refused) => return Err(refused),
@@ -131,5 +178,23 @@ impl<'b> Checker<'b> {
             });
         }
         Ok(self.means.basin.months)
+    }
+
+    /// What an audit of the lines so far answers, with this rest behind the last line feed, as a whole text: what
+    /// `finish` answers; but where that is a yes and a set isn't a reach, a refusal for the first such `call` line. It
+    /// changes nothing.
+    pub fn finish_audit(&self, rest: &[u8]) -> Result<u32, Refuted>
+        requires rest { length rest.now ≤ 128 }
+        requires audit { IsAudit self.now }
+        ensures answer { (lines : List (List ℕ)) (text : List ℕ) → StandsFor self.now lines →
+            pieces_of text ≡ lines ++ rest.now ∷ [] →
+            IsAuditAnswer self.now.basin self.now.series text result }
+        ensures stays { IfSome self.now.refused (λ e. result ≡ Err e) }
+    {
+        let months = self.finish(rest)?;
+        match &self.book.audit {
+            Some(audit) => answer(audit, months),
+            None => Ok(months),
+        }
     }
 }

@@ -6,6 +6,7 @@
 
 mod account;
 mod answering;
+mod audit;
 mod balancing;
 mod book;
 pub mod checker;
@@ -25,4 +26,4 @@ pub mod whole;
 pub use checker::Checker;
 pub use pieces::PieceChecker;
 pub use refuted::{Refuted, RefutedKind};
-pub use whole::check_text;
+pub use whole::{audit_text, check_text};

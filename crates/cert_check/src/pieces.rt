@@ -4,7 +4,9 @@ ghost use Rattle.std.specs.Prelude.{IfOk, IfErr, OnOk};
 ghost use Rattle.water_model.specs.Valid.{IsValidBasin, IsSeriesOf};
 ghost use Rattle.water_text.specs.LinesIn.{nothing_held};
 ghost use Rattle.cert_check.specs.Checking.{verdict_from};
-ghost use Rattle.cert_check.specs.Pieces.{AreGiven, IsUnderWay, StandsForText, bytes_left, room_left};
+ghost use Rattle.cert_check.specs.Audit.{IsAuditAnswer};
+ghost use Rattle.cert_check.specs.Pieces.{AreGiven, IsAudit, IsUnderWay, StandsForText, bytes_left, room_left};
+ghost use Rattle.cert_check.specs.Standing as lines;
 ghost use Rattle.cert_check.specs.Standing.{IsAnswer, IsLineAnswer, StandsFor, lines_left};
 ghost use Rattle.cert_check.specs.Whole.{text_verdict};
 
@@ -26,6 +28,7 @@ fn end_line(checker: &mut Checker, line: &mut LineIn) -> Result<(), Refuted>
     ensures cleared { line.new ≡ nothing_held }
     ensures basin { checker.new.basin ≡ checker.old.basin }
     ensures series { checker.new.series ≡ checker.old.series }
+    ensures audit { lines.IsAudit checker.old → lines.IsAudit checker.new }
 {
     let answer = checker.line(line.bytes());
     line.clear();
@@ -48,6 +51,7 @@ fn give_front(checker: &mut Checker, line: &mut LineIn, rest: &[u8]) -> Result<u
     ensures line { IsUnderWay line.new }
     ensures basin { checker.new.basin ≡ checker.old.basin }
     ensures series { checker.new.series ≡ checker.old.series }
+    ensures audit { lines.IsAudit checker.old → lines.IsAudit checker.new }
 {
     let fed = line.feed(rest);
     if !fed.whole {
@@ -70,6 +74,7 @@ pub(crate) fn give(checker: &mut Checker, line: &mut LineIn, piece: &[u8]) -> Re
     ensures line { IsUnderWay line.new }
     ensures basin { checker.new.basin ≡ checker.old.basin }
     ensures series { checker.new.series ≡ checker.old.series }
+    ensures audit { lines.IsAudit checker.old → lines.IsAudit checker.new }
 {
     let mut at = 0;
     while at < piece.len() {
@@ -126,6 +131,28 @@ impl<'b> PieceChecker<'b> {
         })
     }
 
+    /// A checker that was given no byte, and audits. AllocError comes where memory is lacking; no other call takes
+    /// memory.
+    pub fn open_audit(
+        alloc: Global,
+        basin: &'b Basin,
+        series: &'b Inflows,
+    ) -> Result<PieceChecker<'b>, AllocError>
+        requires basin { IsValidBasin basin.now }
+        requires series { IsSeriesOf basin.now series.now }
+        ensures basin { IfOk result (λ checker. checker.basin ≡ basin.now) }
+        ensures series { IfOk result (λ checker. checker.series ≡ series.now) }
+        ensures none { IfOk result (λ checker. StandsForText checker []) }
+        ensures room { IfOk result (λ checker. bytes_left checker < 2 ^ 64) }
+        ensures audit { IfOk result IsAudit }
+    {
+        let checker = Checker::open_audit(alloc, basin, series)?;
+        Ok(PieceChecker {
+            checker,
+            line: LineIn::new(),
+        })
+    }
+
     /// Takes the next piece of the text. It is refused where a line that it ends is at fault, with the first such line
     /// and the first kind that holds of it, and as soon as a line has more than 128 bytes. That is the verdict on the
     /// text, whatever may follow. After a refusal nothing more may be fed.
@@ -141,6 +168,7 @@ impl<'b> PieceChecker<'b> {
         ensures left { OnOk result (bytes_left self.new + length piece.now ≤ bytes_left self.old) }
         ensures basin { self.new.basin ≡ self.old.basin }
         ensures series { self.new.series ≡ self.old.series }
+        ensures audit { IsAudit self.old → IsAudit self.new }
     {
         give(&mut self.checker, &mut self.line, piece)
     }
@@ -152,5 +180,16 @@ impl<'b> PieceChecker<'b> {
             IsAnswer self.now.basin result (text_verdict self.now.basin self.now.series text) }
     {
         self.checker.finish(self.line.bytes())
+    }
+
+    /// What an audit of the bytes so far, as a whole text, answers: what `finish` answers; but where that is a yes and
+    /// a set isn't a reach, a refusal for the first such `call` line, by month and then by seniority. After a refusal
+    /// the answer says nothing. It changes nothing, and takes no memory.
+    pub fn finish_audit(&self) -> Result<u32, Refuted>
+        requires { IsAudit self.now }
+        ensures { (text : List ℕ) → StandsForText self.now text →
+            IsAuditAnswer self.now.basin self.now.series text result }
+    {
+        self.checker.finish_audit(self.line.bytes())
     }
 }

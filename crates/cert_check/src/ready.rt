@@ -19,7 +19,7 @@ use water_model::item::Item;
 use water_model::quantity::Quantity;
 
 /// Makes the supply that is told, unless the record has it.
-fn know_supply(means: &Means, account: &mut Account)
+pub fn know_supply(means: &Means, account: &mut Account)
     requires means { AreMeans means.now }
     requires month { HasMonth means.now.basin.now means.now.series.now account.old }
     ensures rest { account.new ≡ record account.old {

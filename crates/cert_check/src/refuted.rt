@@ -38,6 +38,9 @@ pub enum RefutedKind {
     Closing,
     /// The text ends before its `done` line. The line behind the last one is named.
     EarlyEnd,
+    /// The text is that of a history, but the set of a right isn't its reach. The first such `call` line is named, by
+    /// month and then by seniority. Only an audit refutes a text for it.
+    NotReach,
 }
 
 impl RefutedKind {
@@ -64,6 +67,7 @@ impl RefutedKind {
             RefutedKind::Balance => "Balance",
             RefutedKind::Closing => "Closing",
             RefutedKind::EarlyEnd => "EarlyEnd",
+            RefutedKind::NotReach => "NotReach",
         }
     }
 }

@@ -1,6 +1,7 @@
 //! The verdict on the bytes of a whole text.
 ghost use Rattle.std.specs.Prelude.{[]};
-ghost use Rattle.cert_check.specs.Standing.{IsAnswer, StandsFor};
+ghost use Rattle.cert_check.specs.Audit.{IsAuditAnswer};
+ghost use Rattle.cert_check.specs.Standing.{IsAnswer, IsAudit, StandsFor};
 ghost use Rattle.cert_check.specs.Whole.{text_verdict};
 
 use crate::checker::Checker;
@@ -20,4 +21,17 @@ pub fn check_text(checker: &mut Checker, text: &[u8]) -> Result<u32, Refuted>
     let mut line = LineIn::new();
     give(checker, &mut line, text)?;
     checker.finish(line.bytes())
+}
+
+/// Audits a whole text: answers the number of its months where it is the text of a history whose sets are the reaches,
+/// the first line at fault and why where it is the text of no history, and else the first `call` line, by month and
+/// then by seniority, whose right's set isn't its reach. The checker audits, and was given no line before.
+pub fn audit_text(checker: &mut Checker, text: &[u8]) -> Result<u32, Refuted>
+    requires none { StandsFor checker.old [] }
+    requires audit { IsAudit checker.old }
+    ensures { IsAuditAnswer checker.old.basin checker.old.series text.now result }
+{
+    let mut line = LineIn::new();
+    give(checker, &mut line, text)?;
+    checker.finish_audit(line.bytes())
 }

@@ -1,7 +1,8 @@
 use Rattle.std.proofs.Common.{◌≡◌, sym, ap, ◌∙◌, arith}
 use Rattle.std.specs.Prelude.{Ok}
 use Rattle.result_reader.specs.Reading.{read_line}
-use Rattle.cert_check.proofs.Standings.{few_lines, line_judged, judged_ended, judged_bad, judged_item, line_comes, took}
+use Rattle.cert_check.proofs.Standings.{few_lines, line_judged, judged_ended, judged_bad, judged_item, line_comes}
+use Rattle.cert_check.proofs.Standings.{line_ends, took}
 use Rattle.cert_check.proofs.book.take_line.Goals as goal
 
 pub overflow_add-next : goal.overflow_add-next
@@ -22,15 +23,18 @@ returns-then-book-clause-takes c = λ lines s.
 pub take_item-requires-clause-told : goal.take_item-requires-clause-told
 take_item-requires-clause-told c =
     let s = c.requires.lines.stands in
+    let read : read_line c.args.means.now.basin.now s.items c.args.text.now ≡ Ok c.in-Ok.item =
+    ap (λ x. read_line x s.items c.args.text.now) (sym s.basin) ∙ sym (c.in-Ok.ensures.answer s.items s.reader) in
     record {
       items = s.items;
       told = record {
         account = s.account;
         counts = record { read = s.counts.read; last_other = s.counts.last_other; ended = s.counts.ended };
         comes = line_comes c.args.means.now.basin.now c.args.means.now.series.now c.requires.lines.lines c.args.text.now
-            s.items c.in-Ok.item c.requires.means.valid c.requires.means.series s.verdict
-            (ap (λ x. read_line x s.items c.args.text.now) (sym s.basin)
-            ∙ sym (c.in-Ok.ensures.answer s.items s.reader));
+            s.items c.in-Ok.item c.requires.means.valid c.requires.means.series s.verdict read;
+        ends = line_ends c.args.means.now.basin.now c.args.means.now.series.now c.requires.lines.lines c.args.text.now
+            s.items c.in-Ok.item c.requires.means.valid c.requires.means.series s.verdict read;
+        audit = s.audit;
       };
     }
 
@@ -54,6 +58,9 @@ returns-in-Ok-clause-takes c = λ lines s.
       counts = record { read = s.counts.read; last_other = s.counts.last_other; ended = s.counts.ended };
       comes = line_comes c.args.means.now.basin.now c.args.means.now.series.now lines c.args.text.now s.items
           c.in-Ok.item c.requires.means.valid c.requires.means.series s.verdict read;
+      ends = line_ends c.args.means.now.basin.now c.args.means.now.series.now lines c.args.text.now s.items
+          c.in-Ok.item c.requires.means.valid c.requires.means.series s.verdict read;
+      audit = s.audit;
     }))
 
 pub returns-in-Err-clause-takes : goal.returns-in-Err-clause-takes

@@ -26,4 +26,5 @@ loop-at-preserved c =
       line = e.line;
       basin = e.basin ∙ i.basin;
       series = e.series ∙ i.series;
+      audit = λ audits. e.audit (i.audit audits);
     }

@@ -1,6 +1,7 @@
 use Rattle.std.proofs.Common.{◌≡◌, ℕ, ◌+◌, ◌-◌, ◌≤◌, ◌++◌, List, length, take}
 use Rattle.std.specs.Prelude.{None}
 use Rattle.cert_check.specs.Pieces.{AreGiven, IsUnderWay, room_left}
+use Rattle.cert_check.specs.Standing.{IsAudit}
 use Rattle.cert_check.proofs.pieces.give.Given as goal
 
 abbrev pub invariant-loop-at : goal.invariant-loop-at
@@ -13,6 +14,7 @@ invariant-loop-at l = record {
   line : IsUnderWay l.line;
   basin : l.checker.basin ≡ l.fn.checker.basin;
   series : l.checker.series ≡ l.fn.checker.series;
+  audit : IsAudit l.fn.checker → IsAudit l.checker;
 }
 
 abbrev pub decreases-loop-at : goal.decreases-loop-at

@@ -1,0 +1,155 @@
+-- An audit says yes exactly for reaches, and has one answer.
+use Rattle.std.proofs.Common.{◌≡◌, ℕ, ◌<◌, Bool, true, false, refl, sym, ap, subst, ◌∙◌, arith, inl, inr, List, [], ◌∷◌, take}
+use Rattle.std.proofs.Common.{zero, suc}
+use Rattle.std.specs.Prelude.{Option, Some, Ok, Err, IsOk, is_ok, slice_get, unwrap_or}
+use Rattle.std.proofs.lemmas.Bool.{cases_eq, cases_lt}
+use Rattle.water_model.specs.Cuts.{IsReach}
+use Rattle.water_model.specs.History.{IsHistory, HasReaches, HaveReaches}
+use Rattle.water_model.specs.Text.{items_of, text_bytes}
+use Rattle.water_model.specs.Valid.{IsValidBasin, IsSeriesOf}
+use Rattle.water_model.specs.declared.types.Basin.{Basin}
+use Rattle.water_model.specs.declared.types.Inflows.{Inflows}
+use Rattle.water_model.specs.declared.types.MonthRecord.{MonthRecord}
+use Rattle.water_model.proofs.Seniority.{senior_total}
+use Rattle.plan_residual.specs.Reaches.{IsFirstOther}
+use Rattle.result_reader.proofs.OneReading.{texts_have_one_reading}
+use Rattle.cert_check.specs.Audit.{IsAuditedText, IsCallLine, IsFirstOtherLine, IsOtherText}
+use Rattle.cert_check.specs.Laws.{AuditedExactlyForReaches, AuditsHaveOneAnswer}
+use Rattle.cert_check.specs.Whole.{text_verdict}
+use Rattle.cert_check.specs.declared.refuted.Refuted.{Refuted}
+use Rattle.cert_check.proofs.Amounts.{history_texts}
+use Rattle.cert_check.proofs.ByteLaws.{yes_exactly_for_histories}
+use Rattle.cert_check.proofs.CallLines.{one_call_line}
+
+clash : {X : Type 0} → false ≡ true → X
+clash e = cc
+
+never_ok : {X : Type 0} (e : Refuted) → IsOk {T = ℕ} {E = Refuted} (Err e) → X
+never_ok e h = clash h
+
+-- the records of one text are the same
+one_history : (b : Basin) (series : Inflows) (bytes : List ℕ) (records others : List MonthRecord) → IsValidBasin b →
+    IsSeriesOf b series → IsHistory b series records → IsHistory b series others → bytes ≡ text_bytes b records →
+    bytes ≡ text_bytes b others → records ≡ others
+one_history b series bytes records others valid fits h k e f =
+    texts_have_one_reading b series records others valid (history_texts b series records valid fits h.partial)
+    (history_texts b series others valid fits k.partial) (sym e ∙ f)
+
+-- a month with another set than a reach has no reaches
+not_reaches : {X : Type 0} (b : Basin) (m : MonthRecord) (r : ℕ) → IsFirstOther b m (Some r) → HasReaches b m → X
+not_reaches b m r first reaches =
+    let cut = reaches.short r first.0 first.1 in
+    absurd (first.2 (subst (λ (set : List Bool). IsReach b m.month m.supply m.delivered r set)
+    (sym (ap (λ (o : Option (List Bool)). unwrap_or o []) cut.1)) cut.2))
+
+-- a text of a history is not refuted by the verdict
+never_refuted : {X : Type 0} (b : Basin) (series : Inflows) (bytes : List ℕ) (records : List MonthRecord) (e : Refuted) →
+    IsValidBasin b → IsSeriesOf b series → IsHistory b series records → bytes ≡ text_bytes b records →
+    text_verdict b series bytes ≡ Err e → X
+never_refuted b series bytes records e valid fits h text refuted =
+    let accepts : IsOk (text_verdict b series bytes) =
+    (yes_exactly_for_histories b series bytes valid fits).1 (records, h, text) in
+    clash (sym (ap is_ok refuted) ∙ accepts)
+
+other_unaudited : {X : Type 0} (b : Basin) (series : Inflows) (bytes : List ℕ) (e : Refuted) → IsValidBasin b →
+    IsSeriesOf b series → IsOtherText b series bytes e → IsAuditedText b series bytes → X
+other_unaudited b series bytes e valid fits o a =
+    let same = one_history b series bytes a.records o.records valid fits a.history o.history a.text o.text in
+    let reaches : HaveReaches b o.records = subst (HaveReaches b) same a.reaches in
+    not_reaches b o.first.outcome o.first.right o.first.other (reaches o.first.month o.first.outcome o.first.is)
+
+pub audited_exactly_for_reaches : AuditedExactlyForReaches
+audited_exactly_for_reaches b series bytes (Ok months) valid fits h = (λ accepts. h.0, λ a. refl)
+audited_exactly_for_reaches b series bytes (Err e) valid fits (inl refuted) = (
+  λ accepts. never_ok e accepts,
+  λ a. never_refuted b series bytes a.records e valid fits a.history a.text refuted,
+)
+audited_exactly_for_reaches b series bytes (Err e) valid fits (inr other) = (
+  λ accepts. never_ok e accepts,
+  λ a. other_unaudited b series bytes e valid fits other a,
+)
+
+-- The first set that isn't a reach.
+
+-- a month before another has reaches
+reaches_before : (b : Basin) (records : List MonthRecord) (i k : ℕ) (m : MonthRecord) → HaveReaches b (take k records) →
+    i < k → slice_get records i ≡ Some m → HasReaches b m
+reaches_before b records i k m h l e = h i m (get_taken records i k m l e)
+  where
+    get_taken : (records : List MonthRecord) (i k : ℕ) (m : MonthRecord) → i < k → slice_get records i ≡ Some m →
+        slice_get (take k records) i ≡ Some m
+    get_taken [] i k m l e = cc
+    get_taken (x ∷ records) i zero m l e = absurd (omega arith)
+    get_taken (x ∷ records) zero (suc k) m l e = e
+    get_taken (x ∷ records) (suc i) (suc k) m l e = get_taken records i k m (omega arith) e
+
+same_month : (b : Basin) (records : List MonthRecord) (f g : ℕ) (m n : MonthRecord) (r s : ℕ) →
+    slice_get records f ≡ Some m → slice_get records g ≡ Some n → IsFirstOther b m (Some r) →
+    IsFirstOther b n (Some s) → HaveReaches b (take f records) → HaveReaches b (take g records) → f ≡ g
+same_month b records f g m n r s at also one other before behind = elim (cases_lt f g) [
+  | inl less ↦ not_reaches b m r one (reaches_before b records f g m behind less at)
+  | inr more ↦ elim (cases_lt g f) [
+    | inl less ↦ not_reaches b n s other (reaches_before b records g f n before less also)
+    | inr same ↦ omega arith
+  ]
+]
+
+same_right : (b : Basin) → IsValidBasin b → (m : MonthRecord) (r s : ℕ) → IsFirstOther b m (Some r) →
+    IsFirstOther b m (Some s) → r ≡ s
+same_right b valid m r s one other = elim (cases_eq r s) [
+  | inl same ↦ same
+  | inr apart ↦ elim (senior_total b.rights valid.roll.strict r s one.0 other.0 apart) [
+    | inl senior ↦ absurd (one.2 (other.3 r one.0 senior one.1))
+    | inr senior ↦ absurd (other.2 (one.3 s other.0 senior other.1))
+  ]
+]
+
+same_line : (b : Basin) → IsValidBasin b → (records : List MonthRecord) (one other : ℕ) →
+    IsFirstOtherLine b records (items_of b records) one → IsFirstOtherLine b records (items_of b records) other →
+    one ≡ other
+same_line b valid records one other f g =
+    one_call_line b valid records g.month g.right one other
+    (subst (λ (r : ℕ). IsCallLine (items_of b records) g.month r one) right
+    (subst (λ (i : ℕ). IsCallLine (items_of b records) i f.right one) month f.call)) g.call
+  where
+    month : f.month ≡ g.month
+    month = same_month b records f.month g.month f.outcome g.outcome f.right g.right f.is g.is f.other g.other f.before
+        g.before
+
+    outcome : f.outcome ≡ g.outcome
+    outcome =
+        let both : Some f.outcome ≡ Some g.outcome = sym f.is ∙ (ap (slice_get records) month ∙ g.is) in
+        cc
+
+    right : f.right ≡ g.right
+    right = same_right b valid g.outcome f.right g.right
+        (subst (λ (m : MonthRecord). IsFirstOther b m (Some f.right)) outcome f.other) g.other
+
+same_refusal : (e f : Refuted) → e.line ≡ f.line → e.kind ≡ f.kind → e ≡ f
+same_refusal e f line kind = rw (← line, ← kind) refl
+
+-- Two answers.
+
+one_error : (b : Basin) (series : Inflows) (bytes : List ℕ) (e f : Refuted) → text_verdict b series bytes ≡ Err e →
+    text_verdict b series bytes ≡ Err f → e ≡ f
+one_error b series bytes e f one other = cc
+
+pub audits_have_one_answer : AuditsHaveOneAnswer
+audits_have_one_answer b series bytes (Ok months) (Ok others) valid fits h k = ap (λ (n : ℕ). Ok n) (h.1 ∙ sym k.1)
+audits_have_one_answer b series bytes (Ok months) (Err e) valid fits h k =
+    never_ok e ((audited_exactly_for_reaches b series bytes (Err e) valid fits k).1 h.0)
+audits_have_one_answer b series bytes (Err e) (Ok months) valid fits h k =
+    never_ok e ((audited_exactly_for_reaches b series bytes (Err e) valid fits h).1 k.0)
+audits_have_one_answer b series bytes (Err e) (Err f) valid fits (inl one) (inl other) =
+    ap (λ (x : Refuted). Err x) (one_error b series bytes e f one other)
+audits_have_one_answer b series bytes (Err e) (Err f) valid fits (inl one) (inr other) =
+    never_refuted b series bytes other.records e valid fits other.history other.text one
+audits_have_one_answer b series bytes (Err e) (Err f) valid fits (inr one) (inl other) =
+    never_refuted b series bytes one.records f valid fits one.history one.text other
+audits_have_one_answer b series bytes (Err e) (Err f) valid fits (inr one) (inr other) =
+    ap (λ (x : Refuted). Err x)
+    (same_refusal e f
+    (same_line b valid other.records e.line f.line
+    (subst (λ (records : List MonthRecord). IsFirstOtherLine b records (items_of b records) e.line)
+    (one_history b series bytes one.records other.records valid fits one.history other.history one.text other.text)
+    one.first) other.first) (one.kind ∙ sym other.kind))

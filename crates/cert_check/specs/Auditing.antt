@@ -1,0 +1,84 @@
+-- What an audit keeps of good lines.
+use Rattle.std.specs.Prelude.{◌≡◌, ℕ, List, length, slice_index, slice_set, Option, Some, None, IsSome}
+use Rattle.std.specs.Prelude.{option_map, Result, Ok, Err}
+use Rattle.water_model.specs.History.{Follows, HaveReaches, IsPartialHistory, cut_of}
+use Rattle.water_model.specs.declared.item.Item.{Item}
+use Rattle.water_model.specs.declared.item.Item.TheVariants as line
+use Rattle.water_model.specs.declared.types.Basin.{Basin}
+use Rattle.water_model.specs.declared.types.Inflows.{Inflows}
+use Rattle.water_model.specs.declared.types.MonthRecord.{MonthRecord}
+use Rattle.plan_residual.specs.Reaches.{IsFirstOther}
+use Rattle.plan_residual.specs.Rows.{IsSearchOf}
+use Rattle.result_reader.specs.Telling.{Told, with_supply}
+use Rattle.cert_check.specs.Audit.{ended_months, IsCallLine, IsFirstOtherLine}
+use Rattle.cert_check.specs.Coming.{IsUnderWay}
+use Rattle.cert_check.specs.Keeping.{Keeps}
+use Rattle.cert_check.specs.declared.account.Account.{Account}
+use Rattle.cert_check.specs.declared.audit.Audit.{Audit}
+use Rattle.cert_check.specs.declared.refuted.Refuted.{Refuted}
+use Rattle.cert_check.specs.declared.refuted.RefutedKind.TheVariants as kind
+
+-- each right that has a set in the month under way has the line of its `call`
+abbrev pub HasCallLines : Told → List Item → List ℕ → Type 0
+HasCallLines t items lines =
+    t.now.index ≡ length t.months → (r : ℕ) → IsSome (cut_of t.now r) →
+    IsCallLine items (length t.months) r (slice_index lines r)
+
+-- all sets of the months that ended are reaches, or this line is the first `call` of another
+abbrev pub IsFound : Basin → List MonthRecord → List Item → Option ℕ → Type 0
+IsFound b months items None = HaveReaches b months
+IsFound b months items (Some number) = IsFirstOtherLine b months items number
+
+-- an audit has memory for a basin
+pub record HasMemory (b : Basin) (a : Audit) : Type 0 where
+  pub search : IsSearchOf b a.search
+  pub lines : length a.call_lines ≡ length b.rights
+
+-- an audit of these lines, by what they tell
+pub record IsAuditOf (b : Basin) (t : Told) (items : List Item) (a : Audit) : Type 0 where
+  pub memory : HasMemory b a
+  pub months : ended_months items ≡ length t.months
+  pub lines : HasCallLines t items a.call_lines
+  pub found : IsFound b t.months items a.other
+
+-- so is what a checker keeps, where an audit was asked for
+abbrev pub IsAuditIfAny : Basin → Told → List Item → Option Audit → Type 0
+IsAuditIfAny b t items None = Unit {0}
+IsAuditIfAny b t items (Some a) = IsAuditOf b t items a
+
+-- the month that is told is one of a history
+abbrev pub MonthFollows : Basin → Inflows → Told → Type 0
+MonthFollows b series t = Follows b series t.months (with_supply b series t.now)
+
+-- an account keeps what some lines tell, and the month that is told may end
+pub record MonthEnds (b : Basin) (series : Inflows) (a : Account) : Type 0 where
+  pub told : Told
+  pub keeps : Keeps b series a told
+  pub partial : IsPartialHistory b series told.months
+  pub under_way : IsUnderWay b series told
+  pub follows : MonthFollows b series told
+
+-- what was found stays; where nothing was, the month is asked
+abbrev pub IsAsked : Basin → MonthRecord → List ℕ → Option ℕ → Option ℕ → Type 0
+IsAsked b m lines (Some number) other = other ≡ Some number
+IsAsked b m lines None other =
+    (right : Option ℕ) × IsFirstOther b m right × (other ≡ option_map (λ r. slice_index lines r) right)
+
+-- a month was asked
+pub record AsksMonth (b : Basin) (m : MonthRecord) (old new : Audit) : Type 0 where
+  pub search : new.search ≡ old.search
+  pub lines : new.call_lines ≡ old.call_lines
+  pub other : IsAsked b m old.call_lines old.other new.other
+
+-- a `call` line is kept, and at an `end` line the month is asked
+abbrev pub TakesAudit : Basin → Inflows → Told → Item → ℕ → Audit → Audit → Type 0
+TakesAudit b series t (line.Call r) number old new =
+    new ≡ record old { call_lines = slice_set old.call_lines r number }
+TakesAudit b series t line.End number old new =
+    MonthFollows b series t → AsksMonth b (with_supply b series t.now) old new
+TakesAudit b series t item number old new = new ≡ old
+
+-- the answer where a check accepts
+abbrev pub audit_answer : Option ℕ → ℕ → Result ℕ Refuted
+audit_answer None months = Ok months
+audit_answer (Some number) months = Err (record { line = number; kind = kind.NotReach })

@@ -1,0 +1,112 @@
+//! An audit: whether the set of each short right is its reach.
+ghost use Rattle.std.specs.Prelude.{◌≡◌, ◌<◌, length, None, slice_set, IfOk};
+ghost use Rattle.plan_residual.specs.Reaches.{HaveTightSets};
+ghost use Rattle.plan_residual.specs.Residual.{HasPlan};
+ghost use Rattle.result_reader.specs.Telling.{Told};
+ghost use Rattle.rights_roll.specs.Rolls.{IsRollOf};
+ghost use Rattle.water_model.specs.OfBasin.{IsOfBasin};
+ghost use Rattle.water_model.specs.Valid.{IsValidBasin};
+ghost use Rattle.cert_check.specs.Auditing.{AsksMonth, HasMemory, MonthEnds, TakesAudit, audit_answer};
+ghost use Rattle.cert_check.specs.Keeping.{Keeps};
+ghost use Rattle.cert_check.specs.Means.{AreMeans};
+
+use crate::account::{Account, Means};
+use crate::ready::know_supply;
+use crate::refuted::{Refuted, RefutedKind};
+use plan_residual::ResidualSearch;
+use rights_roll::roll::Roll;
+use std::alloc::{AllocError, Global};
+use water_model::blank::zeros;
+use water_model::item::Item;
+use water_model::rows::Rows;
+use water_model::types::{Basin, MonthRecord};
+
+/// What an audit keeps of good lines, with the memory for its searches.
+#[derive(Drop)]
+pub struct Audit {
+    /// The search through a month's residual network.
+    pub search: ResidualSearch,
+    /// For each right the number of its last `call` line.
+    pub call_lines: Rows<u64>,
+    /// The number of the first `call` line, by month and then by seniority, whose right's set isn't its reach.
+    pub other: Option<u64>,
+}
+
+impl Audit {
+    /// An audit of no line.
+    pub fn open(alloc: Global, basin: &Basin) -> Result<Audit, AllocError>
+        requires { IsValidBasin basin.now }
+        ensures memory { IfOk result (HasMemory basin.now) }
+        ensures none { IfOk result (λ audit. audit.other ≡ None) }
+    {
+        let search = ResidualSearch::open(alloc, basin)?;
+        let call_lines = zeros(alloc, basin.rights.len())?;
+        Ok(Audit {
+            search,
+            call_lines,
+            other: None,
+        })
+    }
+}
+
+/// Keeps the number of a right's `call` line.
+fn keep_call(audit: &mut Audit, right: u32, number: u64)
+    requires { right < length audit.old.call_lines }
+    ensures { audit.new ≡ record audit.old { call_lines = slice_set audit.old.call_lines right number } }
+{
+    audit.call_lines.as_mut_slice()[right as usize] = number;
+}
+
+/// Asks for the most senior short right of a month whose set isn't its reach, unless one was found before.
+fn ask_month(basin: &Basin, roll: &Roll, month: &MonthRecord, audit: &mut Audit)
+    requires memory { HasMemory basin.now audit.old }
+    requires plan { HasPlan basin.now month.now }
+    requires roll { IsRollOf basin.now.rights roll.now }
+    requires sets { HaveTightSets basin.now month.now }
+    ensures { AsksMonth basin.now month.now audit.old audit.new }
+{
+    match audit.other {
+        Some(_) => return,
+        None => {}
+    }
+    match audit.search.first_other(basin, roll, month) {
+        Some(right) => audit.other = Some(audit.call_lines[right as usize]),
+        None => {}
+    }
+}
+
+/// Takes a good line of this number, before it is entered: a `call` line is kept, and of the month that an `end` line
+/// ends is asked.
+pub fn audit_item(means: &Means, audit: &mut Audit, account: &mut Account, item: &Item, number: u64)
+    requires means { AreMeans means.now }
+    requires item { IsOfBasin means.now.basin.now item.now }
+    requires memory { HasMemory means.now.basin.now audit.old }
+    requires ends { item.now ≡ Item.End → MonthEnds means.now.basin.now means.now.series.now account.old }
+    ensures takes { (t : Told) → Keeps means.now.basin.now means.now.series.now account.old t →
+        TakesAudit means.now.basin.now means.now.series.now t item.now number audit.old audit.new }
+    ensures callers { account.new.has_callers ≡ account.old.has_callers }
+    ensures keeps { (t : Told) → Keeps means.now.basin.now means.now.series.now account.old t →
+        Keeps means.now.basin.now means.now.series.now account.new t }
+{
+    match *item {
+        Item::Call { right } => keep_call(audit, right, number),
+        Item::End => {
+            know_supply(means, account);
+            ask_month(means.basin, &means.roll, &account.month, audit);
+        }
+        _ => {}
+    }
+}
+
+/// The answer where a check accepts: the number of months, or the first set that isn't a reach.
+pub fn answer(audit: &Audit, months: u32) -> Result<u32, Refuted>
+    ensures { result ≡ audit_answer audit.now.other months }
+{
+    match audit.other {
+        Some(line) => Err(Refuted {
+            line,
+            kind: RefutedKind::NotReach,
+        }),
+        None => Ok(months),
+    }
+}
