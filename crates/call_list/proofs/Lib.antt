@@ -1,0 +1,2 @@
+pub mod Curtailed
+pub mod Pieces

@@ -1,0 +1,146 @@
+//! A month with what was found of it, and the lines of its list.
+ghost use Rattle.std.specs.Prelude.{◌≡◌, ◌<◌, length, IfSome};
+ghost use Rattle.std.specs.Option.{option_to_list};
+ghost use Rattle.water_model.specs.Places.{seniors_first};
+ghost use Rattle.call_list.specs.Entries.{IsOfBasin};
+ghost use Rattle.call_list.specs.Found.{curtailed_for};
+ghost use Rattle.call_list.specs.Lists.{count_in};
+ghost use Rattle.call_list.specs.MonthsCalls.{lines_of};
+
+use crate::entry::Entry;
+use crate::part::Part;
+use cut_cert::is_senior_to;
+use rights_roll::roll::Roll;
+use std::marker::Model;
+use water_model::calls::taking_node;
+use water_model::types::{Basin, MonthRecord};
+
+/// A month's record with the basin's roll, the right to which one more unit at each node would go (by node), and the
+/// most senior right that one more unit of carry on each link would help (by link).
+#[derive(Drop)]
+pub struct MonthCalls<'b> {
+    pub basin: &'b Basin,
+    pub roll: &'b Roll,
+    pub month: &'b MonthRecord,
+    pub next: &'b [Option<u32>],
+    pub helped: &'b [Option<u32>],
+}
+
+impl<'b> Model for MonthCalls<'b> {
+    ghost use Rattle.call_list.specs.Found.{Found};
+    ghost use Rattle.call_list.specs.MonthsCalls.{CallsSeen, AreMonthCalls, calls_seen};
+
+    ghost Value = { CallsSeen };
+
+    ghost view = { λ c. calls_seen c.basin.now c.roll.now c.month.now c.next.now c.helped.now };
+
+    ghost invariant = { λ c. AreMonthCalls (calls_seen c.basin.now c.roll.now c.month.now c.next.now c.helped.now) };
+}
+
+impl<'b> MonthCalls<'b> {
+    /// How many places a part goes over.
+    pub(crate) fn count_in(&self, part: Part) -> u32
+        ensures { result ≡ count_in part self.now.basin }
+    {
+        match part {
+            Part::Nexts => self.basin.nodes.len() as u32,
+            Part::Links => self.basin.links.len() as u32,
+            Part::Shorts | Part::Curtailed => self.basin.rights.len() as u32,
+        }
+    }
+
+    /// The rights of the basin, seniors first.
+    pub(crate) fn by_seniority(&self) -> &[u32]
+        ensures { result.now ≡ seniors_first self.now.basin }
+    {
+        self.roll.by_seniority()
+    }
+
+    /// The line of a right, if it is short.
+    fn short_at(&self, right: u32) -> Option<Entry>
+        requires { right < length self.now.basin.rights }
+        ensures lines { option_to_list result ≡ lines_of self.now Part.Shorts right }
+        ensures named { IfSome result (IsOfBasin self.now.basin) }
+    {
+        let amount = self.month.delivered[right as usize];
+        let want = self.month.want[right as usize];
+        if amount < want {
+            Some(Entry::Short {
+                right,
+                amount,
+                want,
+            })
+        } else {
+            None
+        }
+    }
+
+    /// The line of a node, if one more unit there would be a right's.
+    fn next_at(&self, node: u32) -> Option<Entry>
+        requires { node < length self.now.basin.nodes }
+        ensures lines { option_to_list result ≡ lines_of self.now Part.Nexts node }
+        ensures named { IfSome result (IsOfBasin self.now.basin) }
+    {
+        match self.next[node as usize] {
+            Some(right) => Some(Entry::Next { node, right }),
+            None => None,
+        }
+    }
+
+    /// The line of a link, if one more unit of carry on it would help a right.
+    fn link_at(&self, link: u32) -> Option<Entry>
+        requires { link < length self.now.basin.links }
+        ensures lines { option_to_list result ≡ lines_of self.now Part.Links link }
+        ensures named { IfSome result (IsOfBasin self.now.basin) }
+    {
+        match self.helped[link as usize] {
+            Some(right) => Some(Entry::Link { link, right }),
+            None => None,
+        }
+    }
+
+    /// The right for which another is curtailed, or none.
+    #[tactic(auto, unfolding(crate::specs::Found::curtailed_for))]
+    fn caller_of(&self, right: u32) -> Option<u32>
+        requires { right < length self.now.basin.rights }
+        ensures value { result ≡ curtailed_for self.now.basin self.now.month self.now.found.next right }
+        ensures within { IfSome result (λ caller. caller < length self.now.basin.rights) }
+    {
+        if self.month.want[right as usize] == 0 {
+            return None;
+        }
+        let node = taking_node(self.basin, right)?;
+        let caller = self.next[node as usize]?;
+        if is_senior_to(self.basin, caller, right) {
+            Some(caller)
+        } else {
+            None
+        }
+    }
+
+    /// The line of a right, if it is curtailed.
+    fn curtailed_at(&self, right: u32) -> Option<Entry>
+        requires { right < length self.now.basin.rights }
+        ensures lines { option_to_list result ≡ lines_of self.now Part.Curtailed right }
+        ensures named { IfSome result (IsOfBasin self.now.basin) }
+    {
+        match self.caller_of(right) {
+            Some(caller) => Some(Entry::Curtailed { right, caller }),
+            None => None,
+        }
+    }
+
+    /// The line of a place of a part, if it has one.
+    pub(crate) fn line_at(&self, part: Part, place: u32) -> Option<Entry>
+        requires { place < count_in part self.now.basin }
+        ensures lines { option_to_list result ≡ lines_of self.now part place }
+        ensures named { IfSome result (IsOfBasin self.now.basin) }
+    {
+        match part {
+            Part::Shorts => self.short_at(place),
+            Part::Nexts => self.next_at(place),
+            Part::Links => self.link_at(place),
+            Part::Curtailed => self.curtailed_at(place),
+        }
+    }
+}

@@ -1,0 +1,61 @@
+//! How a line of a list of calls is spelled.
+ghost use Rattle.std.specs.Prelude.{◌≡◌};
+ghost use Rattle.water_model.specs.Valid.{IsValidBasin};
+ghost use Rattle.call_list.specs.Entries.{IsOfBasin, whole_line};
+
+use crate::entry::Entry;
+use water_model::space::{Space, name_in};
+use water_model::types::Basin;
+use water_text::line::Line;
+
+/// Makes the line of an entry, with its line feed.
+#[tactic(auto, unfolding(crate::specs::Entries::whole_line, crate::specs::Entries::fields_of))]
+pub fn spell(line: &mut Line, basin: &Basin, entry: &Entry)
+    requires basin { IsValidBasin basin.now }
+    requires entry { IsOfBasin basin.now entry.now }
+    ensures { line.new ≡ whole_line basin.now entry.now }
+{
+    line.clear();
+    match *entry {
+        Entry::Calls { first, months } => {
+            line.word(b"calls");
+            line.add_month(first);
+            line.add_number(u64::from(months));
+        }
+        Entry::Month { month } => {
+            line.word(b"month");
+            line.add_month(month);
+        }
+        Entry::Short {
+            right,
+            amount,
+            want,
+        } => {
+            line.word(b"short");
+            line.add_name(name_in(Space::Rights, basin, right));
+            line.add_number(amount);
+            line.add_number(want);
+        }
+        Entry::Next { node, right } => {
+            line.word(b"next");
+            line.add_name(name_in(Space::Nodes, basin, node));
+            line.add_name(name_in(Space::Rights, basin, right));
+        }
+        Entry::Link { link, right } => {
+            line.word(b"link");
+            line.add_name(name_in(Space::Links, basin, link));
+            line.add_name(name_in(Space::Rights, basin, right));
+        }
+        Entry::Curtailed { right, caller } => {
+            line.word(b"curtailed");
+            line.add_name(name_in(Space::Rights, basin, right));
+            line.add_name(name_in(Space::Rights, basin, caller));
+        }
+        Entry::End => line.word(b"end"),
+        Entry::Done { months } => {
+            line.word(b"done");
+            line.add_number(u64::from(months));
+        }
+    }
+    line.word(b"\n");
+}
