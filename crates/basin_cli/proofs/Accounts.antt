@@ -10,6 +10,7 @@ use Rattle.water_model.specs.Valid.{IsValidBasin, IsSeriesOf}
 use Rattle.water_model.specs.declared.types.Basin.{Basin}
 use Rattle.water_model.specs.declared.types.Inflows.{Inflows}
 use Rattle.water_model.specs.declared.types.MonthRecord.{MonthRecord}
+use Rattle.basin_cli.specs.declared.explaining.Account.{Account}
 use Rattle.basin_cli.specs.declared.ending.Ending.{Ending}
 use Rattle.basin_cli.specs.declared.ending.Ending.TheVariants as ending
 use Rattle.basin_cli.specs.Actions.{EndsAsking, IsAnswered}
@@ -139,17 +140,18 @@ asking_cause told files month name b series ending.OutOfMemory read write valid 
 asking_cause told files month name b series other read write valid fits loaded ends = absurd ends
 
 -- what is left on out
-pub asking_writes : (told : Told) (files : Files) (month : Month) (name : List ℕ) (b : Basin) (series : Inflows)
+pub asking_writes : (asked : Account) (told : Told) (files : Files) (month : Month) (name : List ℕ) (b : Basin) (series : Inflows)
     (how : Ending) (old new : Option (List ℕ)) →
     IsSeriesOf b series → AreLoaded told files b series →
-    (MayWrite (status_of how) → IsAnswered b series month name how old new) →
-    OfBoth told files (λ bytes s. MayWrite (status_of how) → WritesAccount (status_of how) month name bytes s old new)
-asking_writes told files month name b series how old new fits loaded answers =
+    (MayWrite (status_of how) → IsAnswered asked b series month name how old new) →
+    OfBoth told files
+    (λ bytes s. MayWrite (status_of how) → WritesAccount asked (status_of how) month name bytes s old new)
+asking_writes asked told files month name b series how old new fits loaded answers =
     of_both (told files.basin) (series_told told files.series) loaded.from_basin loaded.from_series
   where
     of_both : (t o : Option (List ℕ)) → IfSome t (IsBasinText b) → IfSome o (IsSeriesText b series) →
         IfSome t (λ bytes. IfSome o (λ s. MayWrite (status_of how) →
-        WritesAccount (status_of how) month name bytes s old new))
+        WritesAccount asked (status_of how) month name bytes s old new))
     of_both None o from_basin from_series = tt
     of_both (Some bytes) None from_basin from_series = tt
     of_both (Some bytes) (Some s) from_basin from_series = λ may.

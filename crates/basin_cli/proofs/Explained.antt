@@ -5,6 +5,8 @@ use Rattle.std.specs.Prelude.{slice_get, slice_index, unwrap_or}
 use Rattle.cut_book.specs.Book.{book_bytes}
 use Rattle.cut_book.proofs.Adding.{lines_make_bound, tight_books_sum_to_delivery}
 use Rattle.cut_cert.specs.Sets.{cut_at}
+use Rattle.call_list.proofs.Months.{last_can_be_found}
+use Rattle.plan_residual.specs.Residual.{HasPlan}
 use Rattle.water_model.specs.History.{HasReaches}
 use Rattle.month_fold.specs.Runs.{RunSeen}
 use Rattle.result_text.specs.Range.{FitsText}
@@ -16,12 +18,14 @@ use Rattle.water_model.specs.Cuts.{IsReach}
 use Rattle.water_model.specs.History.{Follows, IsPartialHistory, IsShort}
 use Rattle.water_model.specs.Hydrology.{run_month}
 use Rattle.water_model.specs.Laws.{HaveSameOutcome}
-use Rattle.water_model.specs.Valid.{IsValidBasin}
+use Rattle.water_model.specs.Valid.{IsSeriesOf, IsValidBasin}
 use Rattle.water_model.specs.declared.types.Basin.{Basin}
 use Rattle.water_model.specs.declared.types.Inflows.{Inflows}
 use Rattle.water_model.specs.declared.types.MonthRecord.{MonthRecord}
 use Rattle.water_model.proofs.Outcome.{one_outcome}
-use Rattle.basin_cli.specs.Explained.{Explains, HasLast, IsAbout, IsRecordOf}
+use Rattle.basin_cli.specs.Explained.{Explains, HasLast, IsAbout, IsRecordOf, TellsShort}
+use Rattle.basin_cli.specs.declared.explaining.Account.{Account}
+use Rattle.basin_cli.specs.declared.explaining.Account.TheVariants as account
 use Rattle.basin_cli.proofs.Asked.{one_index, one_right}
 
 -- the last record of a run is one of the month with its index
@@ -54,6 +58,12 @@ record_fits b series month m valid is =
     FitsText-follows b series is.before m valid (last_follows b series is.before m is.partial)
     (omega (arith, is.partial.within, length-append is.before (m ∷ [])))
 
+-- and a plan
+pub record_plan : (b : Basin) (series : Inflows) (month : Month) (m : MonthRecord) → IsValidBasin b →
+    IsSeriesOf b series → IsRecordOf b series month m → HasPlan b m
+record_plan b series month m valid fits is =
+    (last_can_be_found b series is.before m valid fits is.partial is.reaches).plan
+
 -- The account of a short right.
 
 reach_at : (b : Basin) (m : MonthRecord) (right : ℕ) → HasReaches b m → right < length b.rights → IsShort m right →
@@ -63,21 +73,24 @@ reach_at b m right reaches l short =
     subst (λ (set : List Bool). IsReach b m.month m.supply m.delivered right set)
     (sym (ap (λ (o : Option (List Bool)). unwrap_or o []) own.1)) own.2
 
-pub short_explained : (b : Basin) (m : MonthRecord) (right : ℕ) → HasReaches b m → right < length b.rights →
+-- what a short right is told answers it
+pub short_explained : (asked : Account) (b : Basin) (m : MonthRecord) (right : ℕ) (text : List ℕ) → IsShort m right →
+    TellsShort asked b m right text → Explains asked b m right text
+short_explained asked b m right text is tells = record { short = λ _. tells; met = λ h. absurd (omega arith) }
+
+-- the book of its reach
+pub reach_told : (b : Basin) (m : MonthRecord) (right : ℕ) → HasReaches b m → right < length b.rights →
     IsShort m right →
-    Explains b m right (book_bytes b m right (cut_at m.cuts right))
-short_explained b m right reaches l is = record {
-  short = λ _. (
-    cut_at m.cuts right,
-    record {
-      is_reach = reach;
-      bound = lines_make_bound b m right (cut_at m.cuts right);
-      sum = tight_books_sum_to_delivery b m right (cut_at m.cuts right) reach.is_tight;
-    },
-    refl,
-  );
-  met = λ h. absurd (omega arith);
-}
+    TellsShort account.Reach b m right (book_bytes b m right (cut_at m.cuts right))
+reach_told b m right reaches l is = (
+  cut_at m.cuts right,
+  record {
+    is_reach = reach;
+    bound = lines_make_bound b m right (cut_at m.cuts right);
+    sum = tight_books_sum_to_delivery b m right (cut_at m.cuts right) reach.is_tight;
+  },
+  refl,
+)
   where
     reach : IsReach b m.month m.supply m.delivered right (cut_at m.cuts right)
     reach = reach_at b m right reaches l is

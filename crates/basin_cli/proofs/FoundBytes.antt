@@ -11,7 +11,7 @@ use Rattle.water_model.specs.declared.types.Inflows.{Inflows}
 use Rattle.basin_cli.specs.declared.ending.Ending.TheVariants as ending
 use Rattle.basin_cli.specs.declared.found.Found.TheVariants as found
 use Rattle.basin_cli.specs.Bytes.{AreSpelled}
-use Rattle.basin_cli.specs.Found.{AreFaultless, IsFound, RunsAreAccepted}
+use Rattle.basin_cli.specs.Found.{AreFaultless, IsFound, RunsAreAccepted, RunsAreAudited}
 use Rattle.basin_cli.proofs.Judged.{is_no_text, is_text}
 
 -- what was accepted is faultless
@@ -48,3 +48,8 @@ runs_are_accepted bytes s basin records is = record {
   greatest = is.keeps.greatest;
   greatest_in_parts = is.keeps.greatest_in_parts;
 }
+
+pub runs_are_audited : RunsAreAudited
+unfolding runs_are_accepted
+runs_are_audited bytes s basin records is =
+    record { of_history = runs_are_accepted bytes s basin records is; reaches = is.keeps.reaches }

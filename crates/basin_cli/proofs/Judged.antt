@@ -2,10 +2,12 @@
 use Rattle.std.proofs.Common.{◌≡◌, ℕ, subst, sym, List, Option, Some, None}
 use Rattle.std.specs.Prelude.{Result, Ok, Err, IsOk, IfSome}
 use Rattle.inflow_file.specs.SeriesFaults.{SpellsSeries}
+use Rattle.cert_check.proofs.AuditLaws.{audited_exactly_for_reaches}
 use Rattle.cert_check.proofs.ByteLaws.{yes_exactly_for_histories}
+use Rattle.cert_check.specs.Audit.{IsAuditAnswer, IsAuditedText}
 use Rattle.cert_check.specs.Whole.{text_verdict}
 use Rattle.cert_check.specs.declared.refuted.Refuted.{Refuted}
-use Rattle.water_model.specs.History.{IsHistory}
+use Rattle.water_model.specs.History.{HaveReaches, IsHistory}
 use Rattle.water_model.specs.Text.{text_bytes}
 use Rattle.water_model.specs.Valid.{IsValidBasin, IsSeriesOf}
 use Rattle.water_model.specs.declared.item.Item.{Item}
@@ -13,21 +15,22 @@ use Rattle.water_model.specs.declared.types.Basin.{Basin}
 use Rattle.water_model.specs.declared.types.Inflows.{Inflows}
 use Rattle.water_model.proofs.Greatest.{cuts_make_greatest}
 use Rattle.water_model.proofs.Parts.{whole_units_are_greatest}
+use Rattle.basin_cli.specs.declared.checking.Question.{Question}
+use Rattle.basin_cli.specs.declared.checking.Question.TheVariants as question
 use Rattle.basin_cli.specs.declared.ending.Ending.{Ending}
 use Rattle.basin_cli.specs.declared.ending.Ending.TheVariants as ending
 use Rattle.basin_cli.specs.declared.ending.File.TheVariants as file
 use Rattle.basin_cli.specs.Actions.{EndsChecking}
-use Rattle.basin_cli.specs.Answer.{EndsAnswer, IsAnswerTo, answered, ending_of}
+use Rattle.basin_cli.specs.Answer.{EndsAnswer, IsAnswerFor, IsAnswerTo, LeavesAnswer, answered, ending_of}
 use Rattle.basin_cli.specs.Command.{Files}
 use Rattle.basin_cli.specs.Ending.{status_of}
 use Rattle.basin_cli.specs.Bytes.{AreSpelled, IsGoodBasin, IsGoodSeries, Told, series_told}
 use Rattle.basin_cli.specs.Out.{Leaves, MayWrite}
-use Rattle.basin_cli.specs.Outcome.{IsHistoryText, IsRefuted, HasCheckingCause, WritesAnswer, answer_line}
+use Rattle.basin_cli.specs.Outcome.{IsHistoryText, IsReachesText, IsRefuted, IsYes, HasCheckingCause, WritesAnswer}
 use Rattle.basin_cli.specs.Reading.{OfBoth}
 use Rattle.basin_cli.specs.Series.{AreLoaded, IsBasinText, IsSeriesText}
 use Rattle.basin_file.specs.BasinFaults.{Spells}
 use Rattle.basin_file.proofs.Faultless.{faultless_files_are_valid}
-use Rattle.basin_cli.proofs.Answering.{answered_as}
 use Rattle.basin_cli.proofs.OneSeries.{one_basin, one_series, same_history}
 
 -- bytes on which the verdict is a yes are the text of a history
@@ -65,6 +68,69 @@ is_no_text bytes s text b series refuted valid spelled bad is =
     never : (verdict : Result (List Item) Refuted) → verdict ≡ Err refuted → IsOk verdict → ⊥
     never (Ok items) e good = cc
     never (Err other) e good = cc
+
+-- bytes that are audited are the text of a history whose sets are the reaches
+pub is_reaches : (bytes s text : List ℕ) (b : Basin) (series : Inflows) → AreSpelled bytes s b series →
+    IsAuditedText b series text → IsReachesText bytes s text
+is_reaches bytes s text b series spelled audited = record {
+  of_history = record {
+    basin = b;
+    series = series;
+    spelled = spelled;
+    records = audited.records;
+    history = audited.history;
+    text = audited.text;
+    greatest = λ i m at. cuts_make_greatest b series audited.records audited.history.partial i m at;
+    greatest_in_parts = λ i m at k.
+        (whole_units_are_greatest b series audited.records audited.history.partial i m at k).0;
+  };
+  reaches = audited.reaches;
+}
+
+-- and those of such a history are audited
+pub is_audited : (bytes s text : List ℕ) (b : Basin) (series : Inflows) → AreSpelled bytes s b series →
+    IsReachesText bytes s text → IsAuditedText b series text
+is_audited bytes s text b series spelled is =
+    let of = is.of_history in
+    let same : of.basin ≡ b = one_basin bytes of.basin b of.spelled.basin_spelled spelled.basin_spelled in
+    let series_told = subst (λ c. SpellsSeries c s of.series) same of.spelled.series_spelled in
+    record {
+      records = of.records;
+      history =
+          same_history b of.series series of.records
+          (one_series b s of.series series series_told spelled.series_spelled)
+          (subst (λ c. IsHistory c of.series of.records) same of.history);
+      reaches = subst (λ c. HaveReaches c of.records) same is.reaches;
+      text = subst (λ c. text ≡ text_bytes c of.records) same of.text;
+    }
+
+-- so those that an audit refutes are the text of none
+pub is_not_audited : (bytes s text : List ℕ) (b : Basin) (series : Inflows) (refuted : Refuted) → IsValidBasin b →
+    AreSpelled bytes s b series →
+    IsAuditAnswer b series text (Err refuted) → IsReachesText bytes s text → ⊥
+is_not_audited bytes s text b series refuted valid spelled answer is =
+    never
+    ((audited_exactly_for_reaches b series text (Err refuted) valid spelled.fits answer).1
+    (is_audited bytes s text b series spelled is))
+  where
+    never : IsOk {T = ℕ} {E = Refuted} (Err refuted) → ⊥
+    never h = cc
+
+-- what a yes says, and a no
+pub is_yes : (asked : Question) (bytes s text : List ℕ) (b : Basin) (series : Inflows) (months : ℕ) → IsValidBasin b →
+    AreSpelled bytes s b series → IsAnswerFor asked b series text (Ok months) → IsYes asked bytes s text
+is_yes question.Check bytes s text b series months valid spelled is = is_text bytes s text b series valid spelled is.0
+is_yes question.Audit bytes s text b series months valid spelled is = is_reaches bytes s text b series spelled is.0
+
+pub is_no : (asked : Question) (bytes s text : List ℕ) (b : Basin) (series : Inflows) (refuted : Refuted) →
+    IsValidBasin b →
+    AreSpelled bytes s b series → IsAnswerFor asked b series text (Err refuted) → IsRefuted asked refuted bytes s text
+is_no asked bytes s text b series refuted valid spelled is =
+    record { basin = b; series = series; spelled = spelled; answer = is; no_text = no_yes asked is }
+  where
+    no_yes : (a : Question) → IsAnswerFor a b series text (Err refuted) → IsYes a bytes s text → ⊥
+    no_yes question.Check h = is_no_text bytes s text b series refuted valid spelled h
+    no_yes question.Audit h = is_not_audited bytes s text b series refuted valid spelled h
 
 -- Behind the files of a command.
 
@@ -126,21 +192,17 @@ accepted (Some bytes) (Some s) b series from_basin from_series =
 -- The answer to a result, which is read as it is checked.
 
 -- how a check ends whose answer is told
-pub answer_ends : (b : Basin) (series : Inflows) (told : Option (List ℕ)) (answer : Result ℕ Refuted) (how : Ending)
-    (read write : Type 0) →
-    IsAnswerTo b series told answer → EndsAnswer answer how write → EndsChecking b series told how read write
-answer_ends b series told answer ending.WriteFault read write is h = h
-answer_ends b series told answer other read write is h =
-    subst (λ how. EndsChecking b series told how read write) (sym h) (by_answer answer is)
+pub answer_ends : (asked : Question) (b : Basin) (series : Inflows) (told : Option (List ℕ)) (answer : Result ℕ Refuted)
+    (how : Ending) (read write : Type 0) →
+    IsAnswerTo asked b series told answer → EndsAnswer answer how write →
+    EndsChecking asked b series told how read write
+answer_ends asked b series told answer ending.WriteFault read write is h = h
+answer_ends asked b series told answer other read write is h =
+    subst (λ how. EndsChecking asked b series told how read write) (sym h) (by_answer answer is)
   where
-    yes : (o : Option (List ℕ)) (months : ℕ) → IsAnswerTo b series o (Ok months) →
-        IfSome o (λ text. IsOk (text_verdict b series text))
-    yes None months is = tt
-    yes (Some text) months is = is.0
-
-    by_answer : (a : Result ℕ Refuted) → IsAnswerTo b series told a →
-        EndsChecking b series told (ending_of a) read write
-    by_answer (Ok months) is = yes told months is
+    by_answer : (a : Result ℕ Refuted) → IsAnswerTo asked b series told a →
+        EndsChecking asked b series told (ending_of a) read write
+    by_answer (Ok months) is = (months, is)
     by_answer (Err refuted) is = is
 
 -- it may write
@@ -154,54 +216,57 @@ answer_writes answer other write h = subst (λ how. MayWrite (status_of how)) (s
     by_answer (Err refuted) = tt
 
 -- and what is told of it
-pub answer_leaves : (b : Basin) (series : Inflows) (told : Option (List ℕ)) (answer : Result ℕ Refuted) (how : Ending)
+pub answer_leaves : (asked : Question) (b : Basin) (series : Inflows) (told : Option (List ℕ))
+    (answer : Result ℕ Refuted) (how : Ending) (old new : Option (List ℕ)) →
+    IsAnswerTo asked b series told answer → Leaves (status_of how) (answered asked answer) old new →
+    IfSome told (λ text. MayWrite (status_of how) → LeavesAnswer asked b series text (status_of how) old new)
+answer_leaves asked b series None answer how old new is left = tt
+answer_leaves asked b series (Some text) answer how old new is left = λ may.
+    record { answer = answer; is = is; written = left }
+
+-- where no part could be read, nothing is told
+pub unread_leaves : (asked : Question) (b : Basin) (series : Inflows) (told : Option (List ℕ)) (how : Ending)
     (old new : Option (List ℕ)) →
-    IsAnswerTo b series told answer → Leaves (status_of how) (answered answer) old new →
-    IfSome told (λ text. MayWrite (status_of how) →
-    Leaves (status_of how) (answer_line b (text_verdict b series text)) old new)
-answer_leaves b series None answer how old new is left = tt
-answer_leaves b series (Some text) answer how old new is left = λ may.
-    subst (λ line. Leaves (status_of how) line old new) (answered_as b answer (text_verdict b series text) is) left
+    how ≡ ending.ReadFault file.Result →
+    IfSome told (λ text. MayWrite (status_of how) → LeavesAnswer asked b series text (status_of how) old new)
+unread_leaves asked b series None how old new is = tt
+unread_leaves asked b series (Some text) how old new is = λ may.
+    absurd (subst (λ how. MayWrite (status_of how)) is may)
 
 -- a failure that came later
-pub ends_later : (b : Basin) (series : Inflows) (told : Option (List ℕ)) (how : Ending) (read later write : Type 0) →
+pub ends_later : (asked : Question) (b : Basin) (series : Inflows) (told : Option (List ℕ)) (how : Ending)
+    (read later write : Type 0) →
     (read → later) →
-    EndsChecking b series told how read write → EndsChecking b series told how later write
-ends_later b series told ending.Done read later write since h = h
-ends_later b series told (ending.Refuted refuted) read later write since h = h
-ends_later b series told (ending.ReadFault file.Result) read later write since h = since h
-ends_later b series told ending.WriteFault read later write since h = h
-ends_later b series told ending.OutOfMemory read later write since h = tt
-ends_later b series told other read later write since h = absurd h
+    EndsChecking asked b series told how read write → EndsChecking asked b series told how later write
+ends_later asked b series told ending.Done read later write since h = h
+ends_later asked b series told (ending.Refuted refuted) read later write since h = h
+ends_later asked b series told (ending.ReadFault file.Result) read later write since h = since h
+ends_later asked b series told ending.WriteFault read later write since h = h
+ends_later asked b series told ending.OutOfMemory read later write since h = tt
+ends_later asked b series told other read later write since h = absurd h
 
--- the cause of how a check ends
-pub checking_cause : (told : Told) (files : Files) (result : List ℕ) (b : Basin) (series : Inflows) (how : Ending)
-    (read write : Type 0) →
+-- the cause of how a check or an audit ends
+pub checking_cause : (asked : Question) (told : Told) (files : Files) (result : List ℕ) (b : Basin) (series : Inflows)
+    (how : Ending) (read write : Type 0) →
     IsValidBasin b → IsSeriesOf b series → AreLoaded told files b series →
-    EndsChecking b series (told result) how read write →
-    HasCheckingCause files result how told read write
-checking_cause told files result b series ending.Done read write valid fits loaded ends =
+    EndsChecking asked b series (told result) how read write →
+    HasCheckingCause asked files result how told read write
+checking_cause asked told files result b series ending.Done read write valid fits loaded ends =
     behind_told (told files.basin) (series_told told files.series) (told result) b series
-    (λ text. IsOk (text_verdict b series text)) IsHistoryText
+    (λ text. IsAnswerFor asked b series text (Ok ends.0)) (IsYes asked)
+    fits loaded.from_basin loaded.from_series ends.1
+    (λ bytes s text spelled good. is_yes asked bytes s text b series ends.0 valid spelled good)
+checking_cause asked told files result b series (ending.Refuted refuted) read write valid fits loaded ends =
+    behind_told (told files.basin) (series_told told files.series) (told result) b series
+    (λ text. IsAnswerFor asked b series text (Err refuted)) (IsRefuted asked refuted)
     fits loaded.from_basin loaded.from_series ends
-    (λ bytes s text spelled good. is_text bytes s text b series valid spelled good)
-checking_cause told files result b series (ending.Refuted refuted) read write valid fits loaded ends =
-    behind_told (told files.basin) (series_told told files.series) (told result) b series
-    (λ text. text_verdict b series text ≡ Err refuted)
-    (IsRefuted refuted) fits loaded.from_basin loaded.from_series ends
-    (λ bytes s text spelled bad. record {
-      basin = b;
-      series = series;
-      spelled = spelled;
-      verdict = bad;
-      no_text = is_no_text bytes s text b series refuted valid spelled bad;
-    })
-checking_cause told files result b series (ending.ReadFault file.Result) read write valid fits loaded ends =
+    (λ bytes s text spelled bad. is_no asked bytes s text b series refuted valid spelled bad)
+checking_cause asked told files result b series (ending.ReadFault file.Result) read write valid fits loaded ends =
     (ends, accepted (told files.basin) (series_told told files.series) b series loaded.from_basin loaded.from_series)
-checking_cause told files result b series ending.WriteFault read write valid fits loaded ends =
+checking_cause asked told files result b series ending.WriteFault read write valid fits loaded ends =
     (ends, accepted (told files.basin) (series_told told files.series) b series loaded.from_basin loaded.from_series)
-checking_cause told files result b series ending.OutOfMemory read write valid fits loaded ends = tt
-checking_cause told files result b series other read write valid fits loaded ends = absurd ends
+checking_cause asked told files result b series ending.OutOfMemory read write valid fits loaded ends = tt
+checking_cause asked told files result b series other read write valid fits loaded ends = absurd ends
 
 -- what a check leaves on out
 pub of_told : (t o r : Option (List ℕ)) (b : Basin) (series : Inflows) (Q : List ℕ → Type 0) (P : List ℕ → List ℕ →
@@ -224,17 +289,18 @@ of_both t o r b series text P fits from_basin from_series is holds =
     of_told t o r b series (λ bytes. text ≡ bytes) P fits from_basin from_series is
     (λ bytes s told spelled same. subst (P bytes s) same (holds bytes s spelled))
 
-pub checking_writes : (told : Told) (files : Files) (result : List ℕ) (b : Basin) (series : Inflows) (how : Ending)
-    (old new : Option (List ℕ)) →
+pub checking_writes : (asked : Question) (told : Told) (files : Files) (result : List ℕ) (b : Basin) (series : Inflows)
+    (how : Ending) (old new : Option (List ℕ)) →
     IsSeriesOf b series → AreLoaded told files b series →
     IfSome (told result) (λ text. MayWrite (status_of how) →
-    Leaves (status_of how) (answer_line b (text_verdict b series text)) old new) →
+    LeavesAnswer asked b series text (status_of how) old new) →
     OfBoth told files
     (λ bytes s. IfSome (told result) (λ r. MayWrite (status_of how) →
-    WritesAnswer (status_of how) bytes s r old new))
-checking_writes told files result b series how old new fits loaded leaves =
+    WritesAnswer asked (status_of how) bytes s r old new))
+checking_writes asked told files result b series how old new fits loaded leaves =
     of_told (told files.basin) (series_told told files.series) (told result) b series
-    (λ text. MayWrite (status_of how) → Leaves (status_of how) (answer_line b (text_verdict b series text)) old new)
-    (λ bytes s r. MayWrite (status_of how) → WritesAnswer (status_of how) bytes s r old new) fits loaded.from_basin
-    loaded.from_series leaves
-    (λ bytes s text spelled left may. record { basin = b; series = series; spelled = spelled; written = left may })
+    (λ text. MayWrite (status_of how) → LeavesAnswer asked b series text (status_of how) old new)
+    (λ bytes s r. MayWrite (status_of how) → WritesAnswer asked (status_of how) bytes s r old new) fits
+    loaded.from_basin loaded.from_series leaves
+    (λ bytes s text spelled left may.
+    record { basin = b; series = series; spelled = spelled; written = left may })

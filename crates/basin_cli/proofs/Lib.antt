@@ -1,10 +1,11 @@
 pub mod Written
+pub mod Monthly
+pub mod Listed
 pub mod Missing
 pub mod Reading
 pub mod OneSeries
 pub mod Judged
 pub mod Outcomes
-pub mod Answering
 pub mod Compared
 pub mod Comparisons
 pub mod Stops

@@ -18,12 +18,14 @@ use Rattle.basin_cli.specs.declared.ending.File.TheVariants as file
 use Rattle.basin_cli.specs.declared.ending.SeriesFinding.{SeriesFinding}
 use Rattle.basin_cli.specs.declared.ending.SecondFinding.{SecondFinding}
 use Rattle.basin_cli.specs.declared.ending.SecondFinding.TheVariants as of_second
-use Rattle.basin_cli.specs.Command.{Command, Files, run, check, report, trial, why, compare, ensemble, edit, upgrade}
+use Rattle.basin_cli.specs.declared.checking.Question.{Question}
+use Rattle.basin_cli.specs.Command.{Command, Files, calls, run, check, report, trial, why, compare, ensemble, edit}
+use Rattle.basin_cli.specs.Command.{upgrade}
 use Rattle.basin_cli.specs.Ending.{line_of, status_of, status_of_second, finding_of}
 use Rattle.basin_cli.specs.Explained.{HasMonth, HasRight}
 use Rattle.basin_cli.specs.Bytes.{IsGoodBasin, IsGoodSeries, IsRefusedFor, IsSeriesRefusedFor, IsTooLong, Told}
 use Rattle.basin_cli.specs.Bytes.{series_told}
-use Rattle.basin_cli.specs.Outcome.{IsHistoryText, IsRefuted, HasSolvingCause, HasCheckingCause, HasTrialCause}
+use Rattle.basin_cli.specs.Outcome.{IsRefuted, IsYes, HasSolvingCause, HasCheckingCause, HasTrialCause}
 use Rattle.basin_cli.specs.Outcome.{HasEnsembleCause, HasExplainingCause, IsOfYears, IsPartYear, IsAsked, IsOutsideRun}
 use Rattle.basin_cli.specs.Outcome.{IsUnknownRight, IsShortIn, EndingHasCause, Completes, IsQuiet, Tells}
 use Rattle.basin_cli.specs.Reading.{IsDone, IsJudged, StopsReading, CompletesBehind}
@@ -140,26 +142,26 @@ solving files ending.OutOfMemory told read write h =
     always (told files.basin) _ (Solved its.OutOfMemory read write) (λ _ _ _ _. inr refl)
 solving files other told read write h = absurd h
 
--- a check
-abbrev Checked : Status → Option (List ℕ) → Type 0 → Type 0 → List ℕ → List ℕ → Type 0
-Checked status result read write bytes s =
-    IfSome result (λ text. (read → ⊥) → (write → ⊥) → IsJudged status (IsHistoryText bytes s text))
+-- a check or an audit
+abbrev Checked : Question → Status → Option (List ℕ) → Type 0 → Type 0 → List ℕ → List ℕ → Type 0
+Checked asked status result read write bytes s =
+    IfSome result (λ text. (read → ⊥) → (write → ⊥) → IsJudged status (IsYes asked bytes s text))
 
-of_result : (result : Option (List ℕ)) (status : Status) (read write : Type 0) (bytes s : List ℕ) →
-    ((text : List ℕ) → (read → ⊥) → (write → ⊥) → IsJudged status (IsHistoryText bytes s text)) →
-    Checked status result read write bytes s
-of_result None status read write bytes s h = tt
-of_result (Some text) status read write bytes s h = h text
+of_result : (asked : Question) (result : Option (List ℕ)) (status : Status) (read write : Type 0) (bytes s : List ℕ) →
+    ((text : List ℕ) → (read → ⊥) → (write → ⊥) → IsJudged status (IsYes asked bytes s text)) →
+    Checked asked status result read write bytes s
+of_result asked None status read write bytes s h = tt
+of_result asked (Some text) status read write bytes s h = h text
 
-memory_checked : (how : Ending) (result : Option (List ℕ)) (read write : Type 0) → how ≡ ending.OutOfMemory →
-    (bytes s : List ℕ) → Checked (status_of how) result read write bytes s
-memory_checked how result read write e bytes s =
-    of_result result (status_of how) read write bytes s (λ _ _ _. inl (ap status_of e))
-
-fault_checked : (status : Status) (result : Option (List ℕ)) (read write : Type 0) → read → (bytes s : List ℕ) →
-    Checked status result read write bytes s
-fault_checked status result read write is bytes s =
-    of_result result status read write bytes s (λ _ no_read _. absurd (no_read is))
+checked_by_stop : (asked : Question) (files : Files) (result : List ℕ) (how : Ending) (told : Told)
+    (read write : Type 0) →
+    StopsReading files how told read →
+    CompletesBehind told files (Checked asked (status_of how) (told result) read write)
+checked_by_stop asked files result how told read write h =
+    stopped files how told read (Checked asked (status_of how) (told result) read write)
+    (λ is bytes s. of_result asked (told result) (status_of how) read write bytes s
+    (λ _ no_read _. absurd (no_read is)))
+    (λ e bytes s. of_result asked (told result) (status_of how) read write bytes s (λ _ _ _. inl (ap status_of e))) h
 
 -- what holds of a third file behind both files shows it
 behind_third : (told series third : Option (List ℕ)) (P Q : List ℕ → List ℕ → List ℕ → Type 0) →
@@ -171,57 +173,44 @@ behind_third (Some bytes) None third P Q shows h = λ _. tt
 behind_third (Some bytes) (Some s) None P Q shows h = λ _ _. tt
 behind_third (Some bytes) (Some s) (Some text) P Q shows h = λ _ _. shows bytes s text h.1.1
 
-behind_series : (told series result : Option (List ℕ)) (P : List ℕ → List ℕ → List ℕ → Type 0) (status : Status)
-    (read write : Type 0) →
+behind_series : (asked : Question) (told series result : Option (List ℕ)) (P : List ℕ → List ℕ → List ℕ → Type 0)
+    (status : Status) (read write : Type 0) →
     ((bytes s text : List ℕ) → P bytes s text → (read → ⊥) → (write → ⊥) →
-    IsJudged status (IsHistoryText bytes s text)) →
+    IsJudged status (IsYes asked bytes s text)) →
     IfSome told (λ bytes. IsGoodBasin bytes × IfSome series (λ s. IsGoodSeries bytes s × IfSome result (P bytes s))) →
-    Shown told series (Checked status result read write)
-behind_series told series result P status read write judge h = behind_third told series result P _ judge h
+    Shown told series (Checked asked status result read write)
+behind_series asked told series result P status read write judge h = behind_third told series result P _ judge h
 
-checking : (files : Files) (result : List ℕ) (how : Ending) (told : Told) (read write : Type 0) →
-    HasCheckingCause files result how told read write →
-    CompletesBehind told files (Checked (status_of how) (told result) read write)
-checking files result ending.Done told read write h =
-    behind_series (told files.basin) _ (told result) IsHistoryText its.Done read write
+checking : (asked : Question) (files : Files) (result : List ℕ) (how : Ending) (told : Told) (read write : Type 0) →
+    HasCheckingCause asked files result how told read write →
+    CompletesBehind told files (Checked asked (status_of how) (told result) read write)
+checking asked files result ending.Done told read write h =
+    behind_series asked (told files.basin) _ (told result) (IsYes asked) its.Done read write
     (λ _ _ _ is _ _. inr (inl (refl, is))) h
-checking files result (ending.Refuted refuted) told read write h =
-    behind_series (told files.basin) _ (told result) (IsRefuted refuted) its.No read write
+checking asked files result (ending.Refuted refuted) told read write h =
+    behind_series asked (told files.basin) _ (told result) (IsRefuted asked refuted) its.No read write
     (λ _ _ _ is _ _. inr (inr (refl, is.no_text))) h
-checking files result ending.WriteFault told read write h =
-    always (told files.basin) _ (Checked its.WriteFault (told result) read write)
-    (λ bytes s. of_result (told result) its.WriteFault read write bytes s (λ _ _ no_write. absurd (no_write h.0)))
-checking files result (ending.BasinRefused finding) told read write h =
-    stopped files (ending.BasinRefused finding) told read (Checked its.BasinRefused (told result) read write)
-    (fault_checked its.BasinRefused (told result) read write)
-    (memory_checked (ending.BasinRefused finding) (told result) read write) h
-checking files result (ending.SeriesRefused finding) told read write h =
-    stopped files (ending.SeriesRefused finding) told read (Checked its.SeriesRefused (told result) read write)
-    (fault_checked its.SeriesRefused (told result) read write)
-    (memory_checked (ending.SeriesRefused finding) (told result) read write) h
-checking files result (ending.ReadFault file.Basin) told read write h =
-    stopped files (ending.ReadFault file.Basin) told read (Checked its.ReadFault (told result) read write)
-    (fault_checked its.ReadFault (told result) read write)
-    (memory_checked (ending.ReadFault file.Basin) (told result) read write) h
-checking files result (ending.ReadFault file.Series) told read write h =
-    stopped files (ending.ReadFault file.Series) told read (Checked its.ReadFault (told result) read write)
-    (fault_checked its.ReadFault (told result) read write)
-    (memory_checked (ending.ReadFault file.Series) (told result) read write) h
-checking files result (ending.ReadFault file.Result) told read write h =
-    always (told files.basin) _ (Checked its.ReadFault (told result) read write)
-    (fault_checked its.ReadFault (told result) read write h.0)
-checking files result (ending.InputTooLong file.Basin) told read write h =
-    stopped files (ending.InputTooLong file.Basin) told read (Checked its.InputTooLong (told result) read write)
-    (fault_checked its.InputTooLong (told result) read write)
-    (memory_checked (ending.InputTooLong file.Basin) (told result) read write) h
-checking files result (ending.InputTooLong file.Series) told read write h =
-    stopped files (ending.InputTooLong file.Series) told read (Checked its.InputTooLong (told result) read write)
-    (fault_checked its.InputTooLong (told result) read write)
-    (memory_checked (ending.InputTooLong file.Series) (told result) read write) h
-checking files result ending.OutOfMemory told read write h =
-    always (told files.basin) _ (Checked its.OutOfMemory (told result) read write)
-    (λ bytes s. of_result (told result) its.OutOfMemory read write bytes s (λ _ _ _. inl refl))
-checking files result other told read write h = absurd h
+checking asked files result ending.WriteFault told read write h =
+    always (told files.basin) _ (Checked asked its.WriteFault (told result) read write)
+    (λ bytes s. of_result asked (told result) its.WriteFault read write bytes s (λ _ _ no_write. absurd (no_write h.0)))
+checking asked files result (ending.ReadFault file.Result) told read write h =
+    always (told files.basin) _ (Checked asked its.ReadFault (told result) read write)
+    (λ bytes s. of_result asked (told result) its.ReadFault read write bytes s (λ _ no_read _. absurd (no_read h.0)))
+checking asked files result (ending.BasinRefused finding) told read write h =
+    checked_by_stop asked files result (ending.BasinRefused finding) told read write h
+checking asked files result (ending.SeriesRefused finding) told read write h =
+    checked_by_stop asked files result (ending.SeriesRefused finding) told read write h
+checking asked files result (ending.ReadFault file.Basin) told read write h =
+    checked_by_stop asked files result (ending.ReadFault file.Basin) told read write h
+checking asked files result (ending.ReadFault file.Series) told read write h =
+    checked_by_stop asked files result (ending.ReadFault file.Series) told read write h
+checking asked files result (ending.InputTooLong file.Basin) told read write h =
+    checked_by_stop asked files result (ending.InputTooLong file.Basin) told read write h
+checking asked files result (ending.InputTooLong file.Series) told read write h =
+    checked_by_stop asked files result (ending.InputTooLong file.Series) told read write h
+checking asked files result ending.OutOfMemory told read write h =
+    checked_by_stop asked files result ending.OutOfMemory told read write h
+checking asked files result other told read write h = absurd h
 
 -- a question why a right got no more
 abbrev Explained : Status → Month → List ℕ → Type 0 → Type 0 → List ℕ → List ℕ → Type 0
@@ -433,11 +422,14 @@ pub completes : (command : Option Command) (how : Ending) (told : Told) (read wr
     EndingHasCause command how told read write → Completes command (status_of how) told read write
 completes None how told read write h = tt
 completes (Some (run files)) how told read write h = solving files how told read write h
-completes (Some (check files result)) how told read write h = checking files result how told read write h
+completes (Some (check asked files result)) how told read write h =
+    checking asked files result how told read write h
 completes (Some (report files)) how told read write h = solving files how told read write h
 completes (Some (trial number size)) how told read write h = trying how write h
 completes (Some (compare files second)) how told read write h = comparing files second told read write how h
-completes (Some (why files month name)) how told read write h = explaining files month name how told read write h
+completes (Some (why asked files month name)) how told read write h =
+    explaining files month name how told read write h
+completes (Some (calls files)) how told read write h = solving files how told read write h
 completes (Some (ensemble files)) how told read write h = gathering files how told read write h
 completes (Some (edit files script)) how told read write h = editing files script how told read write h
 completes (Some (upgrade name)) how told read write h = upgrading name how told read write h

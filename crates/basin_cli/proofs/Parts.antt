@@ -1,15 +1,18 @@
 -- A result that is read in parts: what a checker was given so far, and what is answered at the end.
-use Rattle.std.proofs.Common.{◌≡◌, ℕ, ◌+◌, ◌<◌, ◌≤◌, ap, subst, sym, ◌∙◌, List, ◌++◌, length, take, drop}
+use Rattle.std.proofs.Common.{◌≡◌, ℕ, ◌+◌, ◌<◌, ◌≤◌, ap, subst, sym, inl, ◌∙◌, List, ◌++◌, length, take, drop}
 use Rattle.std.proofs.Common.{Option, Some, None, append_assoc, take-append-drop}
 use Rattle.std.specs.Prelude.{IfSome, Result, Err}
 use Rattle.std.proofs.Math.Seq.{take-add}
 use Rattle.std.proofs.lemmas.List.{take_all}
-use Rattle.cert_check.specs.Pieces.{PiecesSeen, StandsForText}
-use Rattle.cert_check.specs.Standing.{IsAnswer}
+use Rattle.cert_check.specs.Pieces.{IsAudit, PiecesSeen, StandsForText}
 use Rattle.cert_check.specs.Whole.{text_verdict}
 use Rattle.cert_check.specs.declared.refuted.Refuted.{Refuted}
 use Rattle.water_edge.specs.Edge.{IsPart}
-use Rattle.basin_cli.specs.Answer.{IsAnswerTo}
+use Rattle.water_model.specs.declared.types.Basin.{Basin}
+use Rattle.water_model.specs.declared.types.Inflows.{Inflows}
+use Rattle.basin_cli.specs.Answer.{CanAnswer, IsAnswerFor, IsAnswerTo}
+use Rattle.basin_cli.specs.declared.checking.Question.{Question}
+use Rattle.basin_cli.specs.declared.checking.Question.TheVariants as question
 
 -- the checker was given the first bytes of the whole, and none of their lines is at fault
 pub record IsFed (c : PiecesSeen) (from : ℕ) (whole : List ℕ) : Type 0 where
@@ -30,16 +33,29 @@ next_fed (Some whole) c after from count old new some fed part stands = record {
       (stands (take from whole) fed.stands);
 }
 
+-- a refusal by the verdict is one by a check and by an audit
+refusal_for : (asked : Question) (b : Basin) (series : Inflows) (text : List ℕ) (e : Refuted) →
+    text_verdict b series text ≡ Err e → IsAnswerFor asked b series text (Err e)
+refusal_for question.Check b series text e is = is
+refusal_for question.Audit b series text e is = inl is
+
+-- a checker that can answer can do so after more of a text
+pub still_can : (asked : Question) (c after : PiecesSeen) → (IsAudit c → IsAudit after) → CanAnswer asked c →
+    CanAnswer asked after
+still_can question.Check c after stays can = can
+still_can question.Audit c after stays can = stays can
+
 -- A part is refused, and so is the whole, whatever follows.
-pub refused_whole : (told : Option (List ℕ)) (c : PiecesSeen) (from count : ℕ) (old new : List ℕ) (e : Refuted) →
+pub refused_whole : (asked : Question) (told : Option (List ℕ)) (c : PiecesSeen) (from count : ℕ) (old new : List ℕ) (e : Refuted) →
     IfSome told (IsFed c from) →
     IfSome told (λ whole. IsPart whole from old new count) →
     ((text : List ℕ) → StandsForText c text → (rest : List ℕ) →
     text_verdict c.basin c.series (text ++ take count new ++ rest) ≡ Err e) →
-    IsAnswerTo c.basin c.series told (Err e)
-refused_whole None c from count old new e fed part refused = tt
-refused_whole (Some whole) c from count old new e fed part refused =
-    subst (λ text. text_verdict c.basin c.series text ≡ Err e) together (refused (take from whole) fed.stands rest)
+    IsAnswerTo asked c.basin c.series told (Err e)
+refused_whole asked None c from count old new e fed part refused = tt
+refused_whole asked (Some whole) c from count old new e fed part refused =
+    refusal_for asked c.basin c.series whole e
+    (subst (λ text. text_verdict c.basin c.series text ≡ Err e) together (refused (take from whole) fed.stands rest))
   where
     rest : List ℕ
     rest = drop count (drop from whole)
@@ -52,13 +68,13 @@ refused_whole (Some whole) c from count old new e fed part refused =
         ∙ take-append-drop from whole))
 
 -- No byte is left.
-pub finished_whole : (told : Option (List ℕ)) (c : PiecesSeen) (from count : ℕ) (old new : List ℕ)
+pub finished_whole : (asked : Question) (told : Option (List ℕ)) (c : PiecesSeen) (from count : ℕ) (old new : List ℕ)
     (answer : Result ℕ Refuted) → count ≡ 0 →
     0 < length old → IfSome told (IsFed c from) → IfSome told (λ whole. IsPart whole from old new count) →
-    ((text : List ℕ) → StandsForText c text → IsAnswer c.basin answer (text_verdict c.basin c.series text)) →
-    IsAnswerTo c.basin c.series told answer
-finished_whole None c from count old new answer none room fed part answers = tt
-finished_whole (Some whole) c from count old new answer none room fed part answers =
-    subst (λ text. IsAnswer c.basin answer (text_verdict c.basin c.series text))
+    ((text : List ℕ) → StandsForText c text → IsAnswerFor asked c.basin c.series text answer) →
+    IsAnswerTo asked c.basin c.series told answer
+finished_whole asked None c from count old new answer none room fed part answers = tt
+finished_whole asked (Some whole) c from count old new answer none room fed part answers =
+    subst (λ text. IsAnswerFor asked c.basin c.series text answer)
     (take_all from whole (part.ended none room))
     (answers (take from whole) fed.stands)

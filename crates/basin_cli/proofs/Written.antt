@@ -125,7 +125,7 @@ stopped (Ok u) P p = tt
 stopped (Err x) P p = p
 
 -- a front of the second piece stands behind the first, whatever goes on with it
-front_behind : (start mid now : Option (List ℕ)) (a lines rest : List ℕ) (k : ℕ) → k ≤ length lines →
+pub front_behind : (start mid now : Option (List ℕ)) (a lines rest : List ℕ) (k : ℕ) → k ≤ length lines →
     Appends start mid a →
     Appends mid now (take k lines) → Appends start now (take (length a + k) ((a ++ lines) ++ rest))
 front_behind start mid now a lines rest k few before behind =
@@ -135,7 +135,7 @@ front_behind start mid now a lines rest k few before behind =
     ) (Appends-trans start mid now a (take k lines) before behind)
 
 -- the months before the last are as many as stand before it
-all_but_last : (records : List MonthRecord) (m : MonthRecord) →
+pub all_but_last : {X : Type 0} (records : List X) (m : X) →
     take (length (records ++ m ∷ []) - 1) (records ++ m ∷ []) ≡ records
 all_but_last records m =
     let count : length (records ++ m ∷ []) - 1 ≡ length records = omega (arith, length-append records (m ∷ [])) in

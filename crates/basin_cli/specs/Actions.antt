@@ -1,6 +1,5 @@
 -- How the actions of commands may end, behind their files.
-use Rattle.std.specs.Prelude.{◌≡◌, ℕ, ◌≤◌, List, ⊤, IfSome, IsOk, Err, Option, slice_index}
-use Rattle.cert_check.specs.Whole.{text_verdict}
+use Rattle.std.specs.Prelude.{◌≡◌, ℕ, ◌≤◌, List, ⊤, Ok, Err, Option, slice_index}
 use Rattle.edit_script.specs.declared.refused.ScriptFault.TheVariants as script
 use Rattle.index_seq.specs.Text.{ensemble_text}
 use Rattle.index_seq.specs.Traces.{AreTraces}
@@ -10,9 +9,12 @@ use Rattle.water_model.specs.declared.types.Basin.{Basin}
 use Rattle.water_model.specs.declared.types.Inflows.{Inflows}
 use Rattle.water_model.specs.declared.types.MonthRecord.{MonthRecord}
 use Rattle.water_text.specs.declared.month.Month.{Month}
+use Rattle.basin_cli.specs.declared.checking.Question.{Question}
+use Rattle.basin_cli.specs.declared.explaining.Account.{Account}
 use Rattle.basin_cli.specs.declared.ending.Ending.{Ending}
 use Rattle.basin_cli.specs.declared.ending.Ending.TheVariants as ending
 use Rattle.basin_cli.specs.declared.ending.File.TheVariants as file
+use Rattle.basin_cli.specs.Answer.{IsAnswerTo}
 use Rattle.basin_cli.specs.Ending.{status_of}
 use Rattle.basin_cli.specs.Explained.{EndsExplaining, Explains, HasMonth, HasRight, IsAbout, IsRecordOf}
 use Rattle.basin_cli.specs.Out.{Leaves, MayWrite}
@@ -29,25 +31,24 @@ LeavesTraces b series how old new =
     MayWrite (status_of how) → (traces : List (List MonthRecord)) × AreTraces b series traces ×
     Leaves (status_of how) (ensemble_text b traces) old new
 
--- how the checking of a result may end, by the verdict on its bytes where they are told. `read` and `write` say that
+-- how the checking of a result may end, by the answer to its bytes where they are told. `read` and `write` say that
 -- the shelf's and out's count of faults rose
-abbrev pub EndsChecking : Basin → Inflows → Option (List ℕ) → Ending → Type 0 → Type 0 → Type 0
-EndsChecking b series told ending.Done read write = IfSome told (λ text. IsOk (text_verdict b series text))
-EndsChecking b series told (ending.Refuted refuted) read write =
-    IfSome told (λ text. text_verdict b series text ≡ Err refuted)
-EndsChecking b series told (ending.ReadFault file.Result) read write = read
-EndsChecking b series told ending.WriteFault read write = write
-EndsChecking b series told ending.OutOfMemory read write = ⊤
-EndsChecking b series told other read write = ⊥
+abbrev pub EndsChecking : Question → Basin → Inflows → Option (List ℕ) → Ending → Type 0 → Type 0 → Type 0
+EndsChecking asked b series told ending.Done read write = (months : ℕ) × IsAnswerTo asked b series told (Ok months)
+EndsChecking asked b series told (ending.Refuted refuted) read write = IsAnswerTo asked b series told (Err refuted)
+EndsChecking asked b series told (ending.ReadFault file.Result) read write = read
+EndsChecking asked b series told ending.WriteFault read write = write
+EndsChecking asked b series told ending.OutOfMemory read write = ⊤
+EndsChecking asked b series told other read write = ⊥
 
 -- how the answer about a right in the month of this index ends, and what it leaves on out: its text, or a front of it
-pub record AnswersAt (b : Basin) (series : Inflows) (index right : ℕ) (how : Ending) (write : Type 0)
+pub record AnswersAt (asked : Account) (b : Basin) (series : Inflows) (index right : ℕ) (how : Ending) (write : Type 0)
     (old new : Option (List ℕ)) : Type 0 where
   pub last : MonthRecord
   pub of_month : IsRecordOf b series (run_month b index) last
   pub ends : EndsExplaining last right how write
   pub text : List ℕ
-  pub explains : Explains b last right text
+  pub explains : Explains asked b last right text
   pub written : Leaves (status_of how) text old new
 
 -- how the answer to a month and a name may end
@@ -65,11 +66,11 @@ EndsAsking b series month name ending.OutOfMemory write = ⊤
 EndsAsking b series month name other write = ⊥
 
 -- out was left with the answer about a right and a record of the month, or with a front of it
-pub record IsAnswered (b : Basin) (series : Inflows) (month : Month) (name : List ℕ) (how : Ending)
+pub record IsAnswered (asked : Account) (b : Basin) (series : Inflows) (month : Month) (name : List ℕ) (how : Ending)
     (old new : Option (List ℕ)) : Type 0 where
   pub right : ℕ
   pub last : MonthRecord
   pub about : IsAbout b series month name right last
   pub text : List ℕ
-  pub explains : Explains b last right text
+  pub explains : Explains asked b last right text
   pub written : Leaves (status_of how) text old new

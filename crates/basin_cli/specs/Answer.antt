@@ -1,23 +1,52 @@
 -- The answer to a checked text.
-use Rattle.std.specs.Prelude.{◌≡◌, ℕ, ◌++◌, List, codes, Option, IfSome, Result, Ok, Err}
+use Rattle.std.specs.Prelude.{◌≡◌, ℕ, ◌++◌, List, codes, Option, IfSome, Result, Ok, Err, ⊤}
 use Rattle.std.specs.Fmt.{decimal}
+use Rattle.cert_check.specs.Audit.{IsAuditAnswer}
 use Rattle.cert_check.specs.KindNames.{kind_name}
+use Rattle.cert_check.specs.Pieces.{IsAudit, PiecesSeen}
 use Rattle.cert_check.specs.Standing.{IsAnswer}
 use Rattle.cert_check.specs.Whole.{text_verdict}
 use Rattle.cert_check.specs.declared.refuted.Refuted.{Refuted}
 use Rattle.water_model.specs.declared.types.Basin.{Basin}
 use Rattle.water_model.specs.declared.types.Inflows.{Inflows}
+use Rattle.basin_cli.specs.declared.checking.Question.{Question}
+use Rattle.basin_cli.specs.declared.checking.Question.TheVariants as question
 use Rattle.basin_cli.specs.declared.ending.Ending.{Ending}
 use Rattle.basin_cli.specs.declared.ending.Ending.TheVariants as ending
+use Rattle.basin_cli.specs.declared.status.Status.{Status}
+use Rattle.basin_cli.specs.Out.{Leaves}
 
--- checked MONTHS, or refuted LINE KIND
-unfoldable pub answered : Result ℕ Refuted → List ℕ
-answered (Ok months) = codes "checked " ++ decimal months ++ codes "\n"
-answered (Err refuted) = codes "refuted " ++ decimal refuted.line ++ codes " " ++ kind_name refuted.kind ++ codes "\n"
+-- the word of a yes
+unfoldable pub yes_word : Question → List ℕ
+yes_word question.Check = codes "checked "
+yes_word question.Audit = codes "audited "
 
--- the answer to a text is that of the verdict on it, where its bytes are told
-abbrev pub IsAnswerTo : Basin → Inflows → Option (List ℕ) → Result ℕ Refuted → Type 0
-IsAnswerTo b series told answer = IfSome told (λ text. IsAnswer b answer (text_verdict b series text))
+-- checked MONTHS or audited MONTHS, or refuted LINE KIND
+unfoldable pub answered : Question → Result ℕ Refuted → List ℕ
+answered asked (Ok months) = yes_word asked ++ decimal months ++ codes "\n"
+answered asked (Err refuted) =
+    codes "refuted " ++ decimal refuted.line ++ codes " " ++ kind_name refuted.kind ++ codes "\n"
+
+-- the answer to some bytes is that of a check, by the verdict on them, or that of an audit
+abbrev pub IsAnswerFor : Question → Basin → Inflows → List ℕ → Result ℕ Refuted → Type 0
+IsAnswerFor question.Check b series text answer = IsAnswer b answer (text_verdict b series text)
+IsAnswerFor question.Audit b series text answer = IsAuditAnswer b series text answer
+
+-- and so of a text, where its bytes are told
+abbrev pub IsAnswerTo : Question → Basin → Inflows → Option (List ℕ) → Result ℕ Refuted → Type 0
+IsAnswerTo asked b series told answer = IfSome told (λ text. IsAnswerFor asked b series text answer)
+
+-- a checker can answer the question: for an audit it was opened as one
+abbrev pub CanAnswer : Question → PiecesSeen → Type 0
+CanAnswer question.Check checker = ⊤
+CanAnswer question.Audit checker = IsAudit checker
+
+-- the answer to some bytes is put, or a front of its line
+pub record LeavesAnswer (asked : Question) (b : Basin) (series : Inflows) (text : List ℕ) (status : Status)
+    (old new : Option (List ℕ)) : Type 0 where
+  pub answer : Result ℕ Refuted
+  pub is : IsAnswerFor asked b series text answer
+  pub written : Leaves status (answered asked answer) old new
 
 -- how a check with this answer ends, unless its line can't be written
 abbrev pub ending_of : Result ℕ Refuted → Ending

@@ -1,6 +1,8 @@
--- Why a right got no more in a month: what may be asked of a basin, and what is answered.
+-- Why a right got no more in a month, and where one more unit would help it: what may be asked of a basin, and what is
+-- answered.
 use Rattle.std.specs.Prelude.{◌≡◌, ℕ, ◌+◌, ◌*◌, ◌<◌, ◌≤◌, pos, ◌-ℤ◌, Bool, List, [], ◌∷◌, ◌++◌, codes, length}
 use Rattle.std.specs.Prelude.{slice_index, sum_by}
+use Rattle.call_list.specs.Helping.{IsHelpingText}
 use Rattle.cut_book.specs.Book.{book_bytes, terms}
 use Rattle.cut_book.specs.Entries.{balance_of, brought, kept}
 use Rattle.water_model.specs.History.{HaveReaches}
@@ -15,6 +17,8 @@ use Rattle.water_model.specs.declared.types.Inflows.{Inflows}
 use Rattle.water_model.specs.declared.types.MonthRecord.{MonthRecord}
 use Rattle.water_text.specs.Months.{month_digits}
 use Rattle.water_text.specs.declared.month.Month.{Month}
+use Rattle.basin_cli.specs.declared.explaining.Account.{Account}
+use Rattle.basin_cli.specs.declared.explaining.Account.TheVariants as account
 use Rattle.basin_cli.specs.declared.ending.Ending.{Ending}
 use Rattle.basin_cli.specs.declared.ending.Ending.TheVariants as ending
 
@@ -62,10 +66,17 @@ pub record IsAccountOf (b : Basin) (m : MonthRecord) (right : ℕ) (reach : List
 unfoldable pub met_line : Month → List ℕ → List ℕ
 met_line month name = codes "met " ++ month_digits month ++ codes " " ++ name ++ codes "\n"
 
--- the text that answers why a right got no more in a month: where it is short, the book of its reach, and else that it
--- is met
-pub record Explains (b : Basin) (m : MonthRecord) (right : ℕ) (text : List ℕ) : Type 0 where
-  pub short : IsShort m right → (reach : List Bool) × IsAccountOf b m right reach × (text ≡ book_bytes b m right reach)
+-- the text that tells a short right what it asked for: the book of its reach, or where one more unit would help it, with
+-- the account of its core
+abbrev pub TellsShort : Account → Basin → MonthRecord → ℕ → List ℕ → Type 0
+TellsShort account.Reach b m right text =
+    (reach : List Bool) × IsAccountOf b m right reach × (text ≡ book_bytes b m right reach)
+TellsShort account.Core b m right text = IsHelpingText b m right text
+
+-- the text that answers why a right got no more in a month, or where one more unit would help it: that, where it is
+-- short, and else that it is met
+pub record Explains (asked : Account) (b : Basin) (m : MonthRecord) (right : ℕ) (text : List ℕ) : Type 0 where
+  pub short : IsShort m right → TellsShort asked b m right text
   pub met : slice_index m.want right ≤ slice_index m.delivered right → text ≡ met_line m.month (right_name b right)
 
 -- a run whose last record is of its last month

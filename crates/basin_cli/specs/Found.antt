@@ -10,7 +10,7 @@ use Rattle.water_model.specs.declared.types.Basin.{Basin}
 use Rattle.water_model.specs.declared.types.Inflows.{Inflows}
 use Rattle.water_model.specs.declared.types.MonthRecord.{MonthRecord}
 use Rattle.basin_cli.specs.Bytes.{AreSpelled, IsRunOf}
-use Rattle.basin_cli.specs.Outcome.{IsHistoryText}
+use Rattle.basin_cli.specs.Outcome.{IsHistoryText, IsReachesText}
 use Rattle.basin_cli.specs.declared.ending.Ending.{Ending}
 use Rattle.basin_cli.specs.declared.ending.Ending.TheVariants as ending
 use Rattle.basin_cli.specs.declared.found.Found.{Found}
@@ -59,3 +59,9 @@ abbrev pub RunsAreAccepted : Type 0
 RunsAreAccepted =
     (bytes series_bytes : List ℕ) (basin : Basin) (records : List MonthRecord) →
     IsRunOf bytes series_bytes basin records → IsHistoryText bytes series_bytes (text_bytes basin records)
+
+-- The text of a run is audited: the sets that `run` writes are the reaches.
+abbrev pub RunsAreAudited : Type 0
+RunsAreAudited =
+    (bytes series_bytes : List ℕ) (basin : Basin) (records : List MonthRecord) →
+    IsRunOf bytes series_bytes basin records → IsReachesText bytes series_bytes (text_bytes basin records)

@@ -13,6 +13,7 @@ pub mod Serving
 pub mod Code
 pub mod Drafts
 pub mod Written
+pub mod Listed
 pub mod Series
 pub mod Pairs
 pub mod Actions

@@ -3,7 +3,7 @@ use Rattle.std.specs.Prelude.{◌≡◌, ◌≢◌, ℕ, List, take, Option, Som
 use Rattle.std.specs.Io.KnownBytes.{Appends}
 use Rattle.basin_cli.specs.declared.status.Status.{Status}
 use Rattle.basin_cli.specs.declared.status.Status.TheVariants.{Done, No, WriteFault, OutOfMemory}
-use Rattle.basin_cli.specs.Command.{Command, check, edit, report, run, trial, why}
+use Rattle.basin_cli.specs.Command.{Command, Files, calls, check, edit, report, run, trial, why}
 
 -- only these statuses may leave bytes on out
 abbrev pub MayWrite : Status → Type 0
@@ -34,20 +34,29 @@ abbrev pub IsStopped : Status → Type 0
 IsStopped OutOfMemory = ⊤
 IsStopped status = IsRefusal status
 
--- nothing is solved: a run, a report, a trial and an account take memory before their first month, the others also
--- later
+-- nothing is solved: a run, a list of calls, a report, a trial and an account take memory before their first month, the
+-- others also later
 abbrev pub IsIdle : Option Command → Status → Type 0
 IsIdle (Some (run files)) status = IsStopped status
 IsIdle (Some (report files)) status = IsStopped status
 IsIdle (Some (trial number size)) status = IsStopped status
-IsIdle (Some (why files month name)) status = IsStopped status
+IsIdle (Some (why asked files month name)) status = IsStopped status
+IsIdle (Some (calls files)) status = IsStopped status
 IsIdle command status = IsRefusal status
 
--- where a check finds no memory, nobody asked for its result: `old` and `new` count the calls for each name, where that
--- is told
+-- this holds where there was no memory
+abbrev pub WithoutMemory : Status → Type 0 → Type 0
+WithoutMemory OutOfMemory P = P
+WithoutMemory status P = ⊤
+
+-- nobody asked for a result that has a name of its own: `old` and `new` count the calls for each name, where that is
+-- told
+abbrev pub AsksNot : Files → List ℕ → (List ℕ → Option ℕ) → (List ℕ → Option ℕ) → Type 0
+AsksNot files result old new = result ≢ files.basin → Some result ≢ files.series → new result ≡ old result
+
+-- where a check or an audit finds no memory, nobody asked for its result
 abbrev pub IsUnread : Option Command → Status → (List ℕ → Option ℕ) → (List ℕ → Option ℕ) → Type 0
-IsUnread (Some (check files result)) OutOfMemory old new = result ≢ files.basin → Some result ≢ files.series →
-    new result ≡ old result
+IsUnread (Some (check asked files result)) status old new = WithoutMemory status (AsksNot files result old new)
 IsUnread command status old new = ⊤
 
 -- the text is appended to out, or after a fault of out a front of it

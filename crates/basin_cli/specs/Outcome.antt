@@ -5,14 +5,13 @@ use Rattle.std.specs.Io.KnownBytes.{Appends}
 use Rattle.water_edge.specs.Edge.{Rose}
 use Rattle.basin_file.specs.BasinFaults.{Spells}
 use Rattle.basin_gen.specs.Generator.{generated}
-use Rattle.cert_check.specs.Whole.{text_verdict}
 use Rattle.cert_check.specs.declared.refuted.Refuted.{Refuted}
 use Rattle.edit_script.specs.declared.refused.ScriptFault.TheVariants as script
 use Rattle.index_seq.specs.Text.{ensemble_text}
 use Rattle.index_seq.specs.Traces.{AreTraces, HasWholeYears, years_of}
 use Rattle.reports.specs.Ends.{IsRun}
 use Rattle.reports.specs.Reports.{report_text, trial_text}
-use Rattle.water_model.specs.History.{IsHistory, IsShort}
+use Rattle.water_model.specs.History.{HaveReaches, IsHistory, IsShort}
 use Rattle.water_model.specs.Text.{text_bytes}
 use Rattle.water_model.specs.Valid.{IsSeriesOf}
 use Rattle.water_model.specs.declared.item.Item.{Item}
@@ -22,16 +21,21 @@ use Rattle.water_model.specs.declared.types.MonthRecord.{MonthRecord}
 use Rattle.water_text.specs.declared.month.Month.{Month}
 use Rattle.basin_cli.specs.declared.status.Status.{Status}
 use Rattle.basin_cli.specs.declared.status.Status.TheVariants.{Done, No}
+use Rattle.basin_cli.specs.declared.checking.Question.{Question}
+use Rattle.basin_cli.specs.declared.checking.Question.TheVariants as question
+use Rattle.basin_cli.specs.declared.explaining.Account.{Account}
 use Rattle.basin_cli.specs.declared.ending.Ending.{Ending}
 use Rattle.basin_cli.specs.declared.ending.Ending.TheVariants as ending
 use Rattle.basin_cli.specs.declared.ending.File.TheVariants as file
-use Rattle.basin_cli.specs.Answer.{answered}
-use Rattle.basin_cli.specs.Command.{Command, Files, run, check, report, trial, why, compare, ensemble, edit, upgrade}
+use Rattle.basin_cli.specs.Answer.{IsAnswerFor, LeavesAnswer}
+use Rattle.basin_cli.specs.Command.{Command, Files, calls, run, check, report, trial, why, compare, ensemble, edit}
+use Rattle.basin_cli.specs.Command.{upgrade}
 use Rattle.basin_cli.specs.Ending.{status_of, line_of}
 use Rattle.basin_cli.specs.Explained.{Explains, HasMonth, HasRight, IsAbout, PushesUpTo}
 use Rattle.basin_cli.specs.Headline.{HasGreatestPlans, HasGreatestPlansInParts}
 use Rattle.basin_cli.specs.Bytes.{AreSpelled, IsGoodBasin, IsSeriesRefusedFor, IsTooLong, Told}
 use Rattle.basin_cli.specs.Out.{Leaves, MayWrite}
+use Rattle.basin_cli.specs.Listed.{LeavesList}
 use Rattle.basin_cli.specs.Written.{LeavesRun}
 use Rattle.basin_cli.specs.Reading.{AreAccepted, BehindBasin, BehindBoth, BehindSeries, CompletesBehind, IsDone}
 use Rattle.basin_cli.specs.Reading.{IsJudged, OfBoth, StopsReading}
@@ -53,13 +57,24 @@ pub record IsHistoryText (bytes series_bytes result : List ℕ) : Type 0 where
   pub greatest : HasGreatestPlans basin records
   pub greatest_in_parts : HasGreatestPlansInParts basin records
 
--- this is the verdict on the bytes of a result, and they are the text of no history
-pub record IsRefuted (refuted : Refuted) (bytes series_bytes result : List ℕ) : Type 0 where
+-- A result's bytes are the text of a history, and the set of each short right is its reach. So its `called` lines are
+-- all that there are.
+pub record IsReachesText (bytes series_bytes result : List ℕ) : Type 0 where
+  pub of_history : IsHistoryText bytes series_bytes result
+  pub reaches : HaveReaches of_history.basin of_history.records
+
+-- what a yes says of the bytes of a basin, a series and a result
+abbrev pub IsYes : Question → List ℕ → List ℕ → List ℕ → Type 0
+IsYes question.Check bytes series result = IsHistoryText bytes series result
+IsYes question.Audit bytes series result = IsReachesText bytes series result
+
+-- and a no: this is the answer to the bytes of a result, and a yes would be wrong of them
+pub record IsRefuted (asked : Question) (refuted : Refuted) (bytes series_bytes result : List ℕ) : Type 0 where
   pub basin : Basin
   pub series : Inflows
   pub spelled : AreSpelled bytes series_bytes basin series
-  pub verdict : text_verdict basin series result ≡ Err refuted
-  pub no_text : IsHistoryText bytes series_bytes result → ⊥
+  pub answer : IsAnswerFor asked basin series result (Err refuted)
+  pub no_text : IsYes asked bytes series_bytes result → ⊥
 
 -- the run of the basin that bytes spell hasn't the month
 pub record IsOutsideRun (month : Month) (bytes : List ℕ) : Type 0 where
@@ -111,14 +126,14 @@ HasSolvingCause files ending.Done told read write = AreAccepted told files
 HasSolvingCause files ending.WriteFault told read write = write × AreAccepted told files
 HasSolvingCause files other told read write = StopsReading files other told read
 
--- the cause of an ending of a check
-abbrev pub HasCheckingCause : Files → List ℕ → Ending → Told → Type 0 → Type 0 → Type 0
-HasCheckingCause files result ending.Done told read write = BehindSeries told files result IsHistoryText
-HasCheckingCause files result (ending.Refuted refuted) told read write =
-    BehindSeries told files result (IsRefuted refuted)
-HasCheckingCause files result ending.WriteFault told read write = write × AreAccepted told files
-HasCheckingCause files result (ending.ReadFault file.Result) told read write = read × AreAccepted told files
-HasCheckingCause files result other told read write = StopsReading files other told read
+-- the cause of an ending of a check or an audit
+abbrev pub HasCheckingCause : Question → Files → List ℕ → Ending → Told → Type 0 → Type 0 → Type 0
+HasCheckingCause asked files result ending.Done told read write = BehindSeries told files result (IsYes asked)
+HasCheckingCause asked files result (ending.Refuted refuted) told read write =
+    BehindSeries told files result (IsRefuted asked refuted)
+HasCheckingCause asked files result ending.WriteFault told read write = write × AreAccepted told files
+HasCheckingCause asked files result (ending.ReadFault file.Result) told read write = read × AreAccepted told files
+HasCheckingCause asked files result other told read write = StopsReading files other told read
 
 -- the cause of an ending of a trial
 abbrev pub HasTrialCause : Ending → Type 0 → Type 0
@@ -146,7 +161,7 @@ HasEnsembleCause files ending.WriteFault told read write = write × IfSome (told
     AreAccepted told files
 HasEnsembleCause files other told read write = StopsReadingYears files other told read
 
--- the cause of an ending of `why`
+-- the cause of an ending of `why` or `where`
 abbrev pub HasExplainingCause : Files → Month → List ℕ → Ending → Told → Type 0 → Type 0 → Type 0
 HasExplainingCause files month name ending.Done told read write = BehindBoth told files (IsShortIn month name)
 HasExplainingCause files month name ending.Met told read write =
@@ -161,11 +176,12 @@ HasExplainingCause files month name other told read write = StopsReading files o
 
 abbrev pub HasCauseFor : Command → Ending → Told → Type 0 → Type 0 → Type 0
 HasCauseFor (run files) e told read write = HasSolvingCause files e told read write
-HasCauseFor (check files result) e told read write = HasCheckingCause files result e told read write
+HasCauseFor (check asked files result) e told read write = HasCheckingCause asked files result e told read write
 HasCauseFor (report files) e told read write = HasSolvingCause files e told read write
 HasCauseFor (trial number size) e told read write = HasTrialCause e write
 HasCauseFor (compare files second) e told read write = HasComparingCause files second e told read write
-HasCauseFor (why files month name) e told read write = HasExplainingCause files month name e told read write
+HasCauseFor (why asked files month name) e told read write = HasExplainingCause files month name e told read write
+HasCauseFor (calls files) e told read write = HasSolvingCause files e told read write
 HasCauseFor (ensemble files) e told read write = HasEnsembleCause files e told read write
 HasCauseFor (edit files script) e told read write = HasEditingCause files script e told read write
 HasCauseFor (upgrade basin) e told read write = HasUpgradingCause basin e told read write
@@ -196,11 +212,13 @@ Completes (Some (run files)) status told read write =
 Completes (Some (report files)) status told read write =
     CompletesBehind told files (λ _ _. (read → ⊥) → (write → ⊥) → IsDone status)
 Completes (Some (trial number size)) status told read write = (write → ⊥) → IsDone status
-Completes (Some (check files result)) status told read write =
+Completes (Some (check asked files result)) status told read write =
     CompletesBehind told files (λ bytes series. IfSome (told result) (λ text.
-    (read → ⊥) → (write → ⊥) → IsJudged status (IsHistoryText bytes series text)))
+    (read → ⊥) → (write → ⊥) → IsJudged status (IsYes asked bytes series text)))
 Completes (Some (compare files second)) status told read write = ComparesBehind told files second status read write
-Completes (Some (why files month name)) status told read write =
+Completes (Some (calls files)) status told read write =
+    CompletesBehind told files (λ _ _. (read → ⊥) → (write → ⊥) → IsDone status)
+Completes (Some (why asked files month name)) status told read write =
     CompletesBehind told files (λ bytes series. IsAsked month name bytes →
     (read → ⊥) → (write → ⊥) → IsJudged status (IsShortIn month name bytes series))
 Completes (Some (ensemble files)) status told read write =
@@ -216,18 +234,22 @@ pub record WritesRun (status : Status) (bytes series_bytes : List ℕ) (old new 
   pub spelled : AreSpelled bytes series_bytes basin series
   pub written : LeavesRun basin series status old new before after
 
--- the line that answers a verdict
-abbrev pub answer_line : Basin → Result (List Item) Refuted → List ℕ
-answer_line b (Ok items) = answered (Ok b.months)
-answer_line b (Err refuted) = answered (Err refuted)
+-- what `calls` leaves on out: the list of calls of a run of what the bytes spell, or after a fault of out as far as it
+-- was written
+pub record WritesCalls (status : Status) (bytes series_bytes : List ℕ) (old new : Option (List ℕ))
+    (before after : ℕ) : Type 0 where
+  pub basin : Basin
+  pub series : Inflows
+  pub spelled : AreSpelled bytes series_bytes basin series
+  pub written : LeavesList basin series status old new before after
 
--- what `check` leaves on out: the answer to the verdict on the result's bytes
-pub record WritesAnswer (status : Status) (bytes series_bytes result : List ℕ) (old new : Option (List ℕ)) : Type 0
-  where
-    pub basin : Basin
-    pub series : Inflows
-    pub spelled : AreSpelled bytes series_bytes basin series
-    pub written : Leaves status (answer_line basin (text_verdict basin series result)) old new
+-- what `check` and `audit` leave on out: the answer to the result's bytes
+pub record WritesAnswer (asked : Question) (status : Status) (bytes series_bytes result : List ℕ)
+    (old new : Option (List ℕ)) : Type 0 where
+  pub basin : Basin
+  pub series : Inflows
+  pub spelled : AreSpelled bytes series_bytes basin series
+  pub written : LeavesAnswer asked basin series result status old new
 
 -- what `report` leaves on out: the report of a run of what the bytes spell
 pub record WritesReport (status : Status) (bytes series_bytes : List ℕ) (old new : Option (List ℕ)) : Type 0 where
@@ -246,9 +268,9 @@ pub record WritesTrial (status : Status) (number size : ℕ) (old new : Option (
   pub is_run : IsRun (generated number size) series records
   pub written : Leaves status (trial_text number size (generated number size) series records) old new
 
--- what `why` leaves on out: the book of the right's reach in the month where it is short, and else that it is met, by a
--- run of what the bytes spell up to that month
-pub record WritesAccount (status : Status) (month : Month) (name bytes series_bytes : List ℕ)
+-- what `why` and `where` leave on out: where the right is short in the month, the book of its reach, or where one more
+-- unit would help it; and else that it is met, by a run of what the bytes spell up to that month
+pub record WritesAccount (asked : Account) (status : Status) (month : Month) (name bytes series_bytes : List ℕ)
     (old new : Option (List ℕ)) : Type 0 where
   pub basin : Basin
   pub series : Inflows
@@ -257,7 +279,7 @@ pub record WritesAccount (status : Status) (month : Month) (name bytes series_by
   pub last : MonthRecord
   pub about : IsAbout basin series month name right last
   pub text : List ℕ
-  pub explains : Explains basin last right text
+  pub explains : Explains asked basin last right text
   pub written : Leaves status text old new
 
 -- what `ensemble` leaves on out: how often each yearly delivery came in traces of what the bytes spell, which are a
@@ -275,17 +297,20 @@ abbrev pub WritesFor : Option Command → Status → Told → Option (List ℕ) 
 WritesFor None status told old new before after = ⊤
 WritesFor (Some (run files)) status told old new before after =
     OfBoth told files (λ bytes series. MayWrite status → WritesRun status bytes series old new before after)
-WritesFor (Some (check files result)) status told old new before after =
+WritesFor (Some (check asked files result)) status told old new before after =
     OfBoth told files
-    (λ bytes series. IfSome (told result) (λ text. MayWrite status → WritesAnswer status bytes series text old new))
+    (λ bytes series. IfSome (told result)
+    (λ text. MayWrite status → WritesAnswer asked status bytes series text old new))
 WritesFor (Some (report files)) status told old new before after =
     OfBoth told files (λ bytes series. MayWrite status → WritesReport status bytes series old new)
 WritesFor (Some (trial number size)) status told old new before after = MayWrite status →
     WritesTrial status number size old new
 WritesFor (Some (compare files second)) status told old new before after =
     ComparisonWrites told files second status old new
-WritesFor (Some (why files month name)) status told old new before after =
-    OfBoth told files (λ bytes series. MayWrite status → WritesAccount status month name bytes series old new)
+WritesFor (Some (why asked files month name)) status told old new before after =
+    OfBoth told files (λ bytes series. MayWrite status → WritesAccount asked status month name bytes series old new)
+WritesFor (Some (calls files)) status told old new before after =
+    OfBoth told files (λ bytes series. MayWrite status → WritesCalls status bytes series old new before after)
 WritesFor (Some (edit files script)) status told old new before after = EditWrites told files script status old new
 WritesFor (Some (upgrade basin)) status told old new before after = UpgradeWrites told basin status old new
 WritesFor (Some (ensemble files)) status told old new before after =
@@ -296,15 +321,16 @@ abbrev pub PushesOf : Told → Files → ℕ → ℕ → Type 0
 PushesOf told files before now =
     IfSome (told files.basin) (λ bytes. (basin : Basin) → Spells bytes basin → now ≤ before + run_pushes basin)
 
--- and a check searches for nothing
+-- and a check or an audit searches for nothing
 abbrev pub PushesFor : Option Command → Told → ℕ → ℕ → Type 0
 PushesFor None told before now = now ≡ before
 PushesFor (Some (run files)) told before now = PushesOf told files before now
-PushesFor (Some (check files result)) told before now = now ≡ before
+PushesFor (Some (check asked files result)) told before now = now ≡ before
 PushesFor (Some (report files)) told before now = PushesOf told files before now
 PushesFor (Some (trial number size)) told before now = now ≤ before + run_pushes (generated number size)
 PushesFor (Some (compare files second)) told before now = ComparisonPushes told files second before now
-PushesFor (Some (why files month name)) told before now =
+PushesFor (Some (calls files)) told before now = PushesOf told files before now
+PushesFor (Some (why asked files month name)) told before now =
     IfSome (told files.basin) (λ bytes. (basin : Basin) → Spells bytes basin → PushesUpTo basin month before now)
 PushesFor (Some (ensemble files)) told before now =
     IfSome (told files.basin) (λ bytes. (basin : Basin) → Spells bytes basin →

@@ -1,5 +1,5 @@
 //! What commands do behind their files: they solve the months of a basin and write what was found, or check a result.
-ghost use Rattle.std.specs.Prelude.{◌≡◌, ◌+◌, ◌*◌, ◌≤◌, ◌++◌, [], codes, IfOk};
+ghost use Rattle.std.specs.Prelude.{◌≡◌, ◌+◌, ◌*◌, ◌≤◌, ◌++◌, [], codes, length, IfOk};
 ghost use Rattle.std.specs.Fmt.{decimal};
 ghost use Rattle.basin_gen.specs.Generator.{generated};
 ghost use Rattle.cert_check.specs.KindNames.{kind_name};
@@ -11,17 +11,21 @@ ghost use Rattle.reports.specs.Reports.{report_text};
 ghost use Rattle.water_edge.specs.Edge.{Rose};
 ghost use Rattle.water_model.specs.Valid.{IsValidBasin, IsSeriesOf};
 ghost use Rattle.basin_cli.specs.Actions.{LeavesRecords, LeavesTraces};
-ghost use Rattle.basin_cli.specs.Answer.{answered, ending_of, EndsAnswer};
+ghost use Rattle.basin_cli.specs.Answer.{answered, ending_of, yes_word, EndsAnswer};
 ghost use Rattle.basin_cli.specs.Ending.{status_of};
 ghost use Rattle.basin_cli.specs.Out.{IsRefusal, Leaves, MayWrite};
 ghost use Rattle.basin_cli.specs.Outcome.{HasTrialCause, IsQuiet, WritesTrial};
+ghost use Rattle.basin_cli.specs.Listed.{LeavesList};
 ghost use Rattle.basin_cli.specs.Written.{LeavesRun};
 ghost use Rattle.month_fold.specs.Runs.{run_pushes};
 
+use crate::checking::Question;
 use crate::ending::Ending;
 use crate::handing::put_whole;
+use crate::listing::list_run;
 use crate::writing::write_run;
 use basin_gen::make;
+use call_list::CallFinder;
 use cert_check::{Checker, Refuted, check_text};
 use index_seq::{EnsembleStop, ensemble_report};
 use month_fold::run::Run;
@@ -57,6 +61,39 @@ pub fn run_basin<K: Sink, L: Ledger>(
         Err(_) => return Ending::OutOfMemory,
     };
     match write_run(out, &mut run, searches) {
+        Ok(()) => Ending::Done,
+        Err(_) => Ending::WriteFault,
+    }
+}
+
+/// Solves the months of a basin with a series and puts the list of their calls, each month's lines as soon as it is
+/// solved. Memory is taken before the first byte is put.
+pub fn list_basin<K: Sink, L: Ledger>(
+    alloc: Global,
+    basin: &Basin,
+    series: &Inflows,
+    out: &mut K,
+    searches: &mut Steps<L>,
+) -> Ending
+    requires basin { IsValidBasin basin.now }
+    requires series { IsSeriesOf basin.now series.now }
+    ensures ends { HasTrialCause result (Rose (K.faults out.old) (K.faults out.new)) }
+    ensures leaves { LeavesList basin.now series.now (status_of result) (K.taken out.old) (K.taken out.new)
+        searches.old searches.new }
+    ensures out_stays { (MayWrite (status_of result) → ⊥) → out.new ≡ out.old }
+    ensures idle { (MayWrite (status_of result) → ⊥) → searches.new ≡ searches.old }
+    ensures pushes { searches.new ≤ searches.old + run_pushes basin.now }
+    ensures handed { IsQuiet (status_of result) → K.handed out.new ≡ K.taken out.new }
+{
+    let mut finder = match CallFinder::open(alloc, basin) {
+        Ok(finder) => finder,
+        Err(_) => return Ending::OutOfMemory,
+    };
+    let mut run = match Run::open(alloc, basin, series) {
+        Ok(run) => run,
+        Err(_) => return Ending::OutOfMemory,
+    };
+    match list_run(out, &mut finder, &mut run, searches) {
         Ok(()) => Ending::Done,
         Err(_) => Ending::WriteFault,
     }
@@ -150,12 +187,24 @@ pub fn try_basin<K: Sink, L: Ledger>(
     }
 }
 
-/// Makes the line of a text that is accepted.
-fn put_checked(line: &mut Line, months: u32)
-    requires { line.old ≡ [] }
-    ensures { line.new ≡ codes "checked " ++ decimal months ++ codes "\n" }
+/// The word of a yes.
+#[tactic(auto, unfolding(crate::specs::Answer::yes_word))]
+fn yes_word(question: Question) -> &'static [u8]
+    ensures text { result.now ++ codes " " ≡ yes_word question }
+    ensures length { length result.now ≡ 7 }
 {
-    line.word(b"checked");
+    match question {
+        Question::Check => b"checked",
+        Question::Audit => b"audited",
+    }
+}
+
+/// Makes the line of a text that is accepted.
+fn put_accepted(line: &mut Line, question: Question, months: u32)
+    requires { line.old ≡ [] }
+    ensures { line.new ≡ yes_word question ++ decimal months ++ codes "\n" }
+{
+    line.word(yes_word(question));
     line.add_number(u64::from(months));
     line.word(b"\n");
 }
@@ -174,12 +223,12 @@ fn put_refuted(line: &mut Line, refuted: &Refuted)
 
 /// Makes the line that answers a checked text.
 #[tactic(auto, unfolding(crate::specs::Answer::answered))]
-fn put_answer(line: &mut Line, answer: &Result<u32, Refuted>)
+fn put_answer(line: &mut Line, question: Question, answer: &Result<u32, Refuted>)
     requires { line.old ≡ [] }
-    ensures { line.new ≡ answered answer.now }
+    ensures { line.new ≡ answered question answer.now }
 {
     match answer {
-        Ok(months) => put_checked(line, *months),
+        Ok(months) => put_accepted(line, question, *months),
         Err(refuted) => put_refuted(line, refuted),
     }
 }
@@ -194,14 +243,18 @@ fn judged(answer: &Result<u32, Refuted>) -> Ending
     }
 }
 
-/// Puts the answer to a checked text. It takes no memory.
-pub fn tell_answer<K: Sink>(answer: &Result<u32, Refuted>, out: &mut K) -> Ending
+/// Puts the answer to a checked or audited text. It takes no memory.
+pub fn tell_answer<K: Sink>(
+    question: Question,
+    answer: &Result<u32, Refuted>,
+    out: &mut K,
+) -> Ending
     ensures ends { EndsAnswer answer.now result (Rose (K.faults out.old) (K.faults out.new)) }
-    ensures leaves { Leaves (status_of result) (answered answer.now) (K.taken out.old) (K.taken out.new) }
+    ensures leaves { Leaves (status_of result) (answered question answer.now) (K.taken out.old) (K.taken out.new) }
     ensures handed { IsQuiet (status_of result) → K.handed out.new ≡ K.taken out.new }
 {
     let mut line = Line::new();
-    put_answer(&mut line, answer);
+    put_answer(&mut line, question, answer);
     match put_whole(out, line.bytes()) {
         Ok(()) => judged(answer),
         Err(_) => Ending::WriteFault,

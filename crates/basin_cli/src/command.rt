@@ -4,6 +4,8 @@ ghost use Rattle.basin_cli.specs.Command.{IsInForm, command_named, command_of, n
 ghost use Rattle.water_text.specs.Amounts.{read_amount};
 ghost use Rattle.water_text.specs.Months.{read_month};
 
+use crate::checking::Question;
+use crate::explaining::Account;
 use water_text::amount::read_amount;
 use water_text::month::Month;
 use water_text::name::is_name;
@@ -20,13 +22,16 @@ pub struct Inputs<'a> {
 pub enum Words<'a> {
     /// Solve the months and write their result.
     Run(Inputs<'a>),
-    /// Check the result in a file.
+    /// Check or audit the result in a file.
     Check {
+        question: Question,
         inputs: Inputs<'a>,
         result: &'a str,
     },
     /// Solve the months and report on them.
     Report(Inputs<'a>),
+    /// Solve the months and list their calls.
+    Calls(Inputs<'a>),
     /// Solve the record begun in each of its years, and sum the years up.
     Ensemble(Inputs<'a>),
     /// Make a basin from a number and a size, solve its months and sum them up.
@@ -44,8 +49,9 @@ pub enum Words<'a> {
         inputs: Inputs<'a>,
         script: &'a str,
     },
-    /// Tell why the right of this name got no more in a month.
+    /// Tell why the right of this name got no more in a month, or where one more unit of water would help it.
     Why {
+        account: Account,
         inputs: Inputs<'a>,
         month: Month,
         right: &'a str,
@@ -90,15 +96,21 @@ fn trial_words<'a>(number: &str, size: &str) -> Option<Words<'a>>
     }
 }
 
-/// A question why a right got no more, where the words are a month and a name.
-fn why_words<'a>(inputs: Inputs<'a>, month: &str, right: &'a str) -> Option<Words<'a>>
-    ensures words { option_map command_named result ≡ why_of (named inputs.entry) (read_month month.now)
+/// A question for an account of a right, where the words are a month and a name.
+fn why_words<'a>(
+    account: Account,
+    inputs: Inputs<'a>,
+    month: &str,
+    right: &'a str,
+) -> Option<Words<'a>>
+    ensures words { option_map command_named result ≡ why_of account (named inputs.entry) (read_month month.now)
         right.entry.now }
     ensures form { IfSome result IsInForm }
 {
     let month = Month::read(month.as_bytes())?;
     if is_name(right.as_bytes()) {
         Some(Words::Why {
+            account,
             inputs,
             month,
             right,
@@ -131,6 +143,8 @@ pub fn command(words: &[String]) -> Option<Words<'_>>
                 Some(Words::Run(files_named(one.as_str(), other.as_str())))
             } else if word.as_str() == "report" {
                 Some(Words::Report(files_named(one.as_str(), other.as_str())))
+            } else if word.as_str() == "calls" {
+                Some(Words::Calls(files_named(one.as_str(), other.as_str())))
             } else if word.as_str() == "ensemble" {
                 Some(Words::Ensemble(files_named(one.as_str(), other.as_str())))
             } else if word.as_str() == "trial" {
@@ -142,6 +156,13 @@ pub fn command(words: &[String]) -> Option<Words<'_>>
         [word, basin, one, other] => {
             if word.as_str() == "check" {
                 Some(Words::Check {
+                    question: Question::Check,
+                    inputs: files_named(basin.as_str(), one.as_str()),
+                    result: other.as_str(),
+                })
+            } else if word.as_str() == "audit" {
+                Some(Words::Check {
+                    question: Question::Audit,
                     inputs: files_named(basin.as_str(), one.as_str()),
                     result: other.as_str(),
                 })
@@ -162,7 +183,10 @@ pub fn command(words: &[String]) -> Option<Words<'_>>
         [word, basin, series, month, right] => {
             if word.as_str() == "why" {
                 let inputs = files_named(basin.as_str(), series.as_str());
-                why_words(inputs, month.as_str(), right.as_str())
+                why_words(Account::Reach, inputs, month.as_str(), right.as_str())
+            } else if word.as_str() == "where" {
+                let inputs = files_named(basin.as_str(), series.as_str());
+                why_words(Account::Core, inputs, month.as_str(), right.as_str())
             } else {
                 None
             }

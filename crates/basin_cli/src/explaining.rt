@@ -1,10 +1,11 @@
-//! Why a right got no more in a month: the account book of its reach, or that it is met.
+//! Why a right got no more in a month: the account book of its reach, or where one more unit of water would help it and
+//! the account of its core; or that it is met.
 ghost use Rattle.std.specs.Prelude.{ℕ, List, [], ◌≡◌, ◌+◌, ◌*◌, ◌<◌, ◌≤◌, length, IsErr};
 ghost use Rattle.std.specs.Prelude.{IfNone, IfSome, bytes_eq, position};
 ghost use Rattle.water_text.specs.Months.{IsMonth};
 ghost use Rattle.water_model.specs.Valid.{IsValidBasin, IsSeriesOf};
 ghost use Rattle.rights_roll.specs.Rolls.{IsRollOf};
-ghost use Rattle.water_model.specs.History.{HasReaches};
+ghost use Rattle.water_model.specs.History.{HasReaches, IsShort};
 ghost use Rattle.month_fold.specs.Runs.{HasMonths, StandsFor};
 ghost use Rattle.result_text.specs.Range.{FitsText};
 ghost use Rattle.senior_hold.specs.MonthNetwork.{month_pushes};
@@ -12,12 +13,15 @@ ghost use Rattle.water_edge.specs.Edge.{HasCause, Puts, Rose};
 ghost use Rattle.basin_cli.specs.Actions.{AnswersAt, EndsAsking, IsAnswered};
 ghost use Rattle.basin_cli.specs.Ending.{status_of};
 ghost use Rattle.basin_cli.specs.Explained.{EndsExplaining, Explains, HasLast, HasMonth, HasRight, IsMonthAt};
-ghost use Rattle.basin_cli.specs.Explained.{IsRightNamed, PushesUpTo, met_line};
+ghost use Rattle.basin_cli.specs.Explained.{IsRightNamed, PushesUpTo, TellsShort, met_line};
+ghost use Rattle.call_list.specs.Helpers.{IsHelpFinderOf};
+ghost use Rattle.plan_residual.specs.Residual.{HasPlan};
 ghost use Rattle.basin_cli.specs.Out.{IsRefusal, Leaves, MayWrite};
 ghost use Rattle.basin_cli.specs.Outcome.{IsQuiet};
 ghost use Rattle.basin_cli.specs.declared.ending.Ending.TheVariants.{OutOfMemory};
 
 use crate::ending::Ending;
+use call_list::{HelpFinder, put_helping};
 use calls::is_short;
 use cut_book::put_book;
 use edit_script::{ScriptFault, index_in_run};
@@ -32,6 +36,14 @@ use water_model::types::{Basin, Inflows, MonthRecord};
 use water_text::line::Line;
 use water_text::month::Month;
 use water_text::name::Name;
+
+/// The account that is asked for: that of a right's reach, or that of its core, with where one more unit of water would
+/// help it.
+#[derive(Clone, Copy, Debug, PartialEq, Eq)]
+pub enum Account {
+    Reach,
+    Core,
+}
 
 /// The index of a month in the run, or `None` where the run hasn't it.
 fn index_of(basin: &Basin, month: Month) -> Option<u32>
@@ -119,26 +131,58 @@ fn tell_met<K: Sink>(sink: &mut K, month: Month, name: &Name) -> Result<(), Sink
     sink.put(line.bytes())
 }
 
-/// Puts why a right got no more in a month whose sets are the reaches: the book of its reach, or that it is met. It
-/// takes no memory.
-fn put_answer<K: Sink>(
+/// Puts the account of a short right of a month whose sets are the reaches. It takes no memory.
+fn put_account<K: Sink>(
     sink: &mut K,
+    account: Account,
+    finder: &mut HelpFinder,
     basin: &Basin,
     roll: &Roll,
     month: &MonthRecord,
     right: u32,
 ) -> Result<(), SinkFailed>
+    requires finder { IsHelpFinderOf basin.now finder.old }
     requires basin { IsValidBasin basin.now }
     requires roll { IsRollOf basin.now.rights roll.now }
     requires month { FitsText basin.now month.now }
+    requires plan { HasPlan basin.now month.now }
     requires reaches { HasReaches basin.now month.now }
     requires right { right < length basin.now.rights }
-    ensures text { (text : List ℕ) × Explains basin.now month.now right text ×
+    requires short { IsShort month.now right }
+    ensures text { (text : List ℕ) × TellsShort account basin.now month.now right text ×
+        Puts (K.taken sink.old) (K.taken sink.new) result text }
+    ensures cause { HasCause (K.faults sink.old) (K.faults sink.new) (IsErr result) }
+{
+    match account {
+        Account::Reach => put_book(sink, basin, roll, month, right),
+        Account::Core => put_helping(sink, finder, basin, roll, month, right),
+    }
+}
+
+/// Puts why a right got no more in a month whose sets are the reaches: its account, or that it is met. It takes no
+/// memory.
+fn put_answer<K: Sink>(
+    sink: &mut K,
+    account: Account,
+    finder: &mut HelpFinder,
+    basin: &Basin,
+    roll: &Roll,
+    month: &MonthRecord,
+    right: u32,
+) -> Result<(), SinkFailed>
+    requires finder { IsHelpFinderOf basin.now finder.old }
+    requires basin { IsValidBasin basin.now }
+    requires roll { IsRollOf basin.now.rights roll.now }
+    requires month { FitsText basin.now month.now }
+    requires plan { HasPlan basin.now month.now }
+    requires reaches { HasReaches basin.now month.now }
+    requires right { right < length basin.now.rights }
+    ensures text { (text : List ℕ) × Explains account basin.now month.now right text ×
         Puts (K.taken sink.old) (K.taken sink.new) result text }
     ensures cause { HasCause (K.faults sink.old) (K.faults sink.new) (IsErr result) }
 {
     if is_short(month, right) {
-        put_book(sink, basin, roll, month, right)
+        put_account(sink, account, finder, basin, roll, month, right)
     } else {
         tell_met(sink, month.month, name_in(Space::Rights, basin, right))
     }
@@ -161,23 +205,27 @@ fn ending_for(month: &MonthRecord, right: u32) -> Ending
 /// Puts why a right got no more in a month, and tells how the call ends.
 fn answer<K: Sink>(
     out: &mut K,
+    account: Account,
+    finder: &mut HelpFinder,
     basin: &Basin,
     roll: &Roll,
     month: &MonthRecord,
     right: u32,
 ) -> Ending
+    requires finder { IsHelpFinderOf basin.now finder.old }
     requires basin { IsValidBasin basin.now }
     requires roll { IsRollOf basin.now.rights roll.now }
     requires month { FitsText basin.now month.now }
+    requires plan { HasPlan basin.now month.now }
     requires reaches { HasReaches basin.now month.now }
     requires right { right < length basin.now.rights }
     ensures ends { EndsExplaining month.now right result (Rose (K.faults out.old) (K.faults out.new)) }
-    ensures leaves { (text : List ℕ) × Explains basin.now month.now right text ×
+    ensures leaves { (text : List ℕ) × Explains account basin.now month.now right text ×
         Leaves (status_of result) text (K.taken out.old) (K.taken out.new) }
     ensures idle { IsRefusal (status_of result) → ⊥ }
     ensures handed { IsQuiet (status_of result) → K.handed out.new ≡ K.taken out.new }
 {
-    match put_answer(out, basin, roll, month, right) {
+    match put_answer(out, account, finder, basin, roll, month, right) {
         Ok(()) => match out.flush() {
             Ok(()) => ending_for(month, right),
             Err(_) => Ending::WriteFault,
@@ -188,16 +236,19 @@ fn answer<K: Sink>(
 
 /// Solves the months of a run up to the one of this index, and puts why a right got no more in it.
 fn explain_in<K: Sink, L: Ledger>(
+    account: Account,
+    finder: &mut HelpFinder,
     run: &mut Run,
     index: u32,
     right: u32,
     out: &mut K,
     searches: &mut Steps<L>,
 ) -> Ending
+    requires finder { IsHelpFinderOf run.old.basin finder.old }
     requires first { StandsFor run.old [] }
     requires index { index < run.old.basin.months }
     requires right { right < length run.old.basin.rights }
-    ensures answers { MayWrite (status_of result) → AnswersAt run.old.basin run.old.series index right result
+    ensures answers { MayWrite (status_of result) → AnswersAt account run.old.basin run.old.series index right result
         (Rose (K.faults out.old) (K.faults out.new)) (K.taken out.old) (K.taken out.new) }
     ensures memory { (MayWrite (status_of result) → ⊥) → result ≡ OutOfMemory }
     ensures out_stays { (MayWrite (status_of result) → ⊥) → out.new ≡ out.old }
@@ -206,12 +257,21 @@ fn explain_in<K: Sink, L: Ledger>(
     ensures handed { IsQuiet (status_of result) → K.handed out.new ≡ K.taken out.new }
 {
     solve_up_to(run, index, searches);
-    answer(out, run.basin(), run.roll(), run.month(), right)
+    answer(
+        out,
+        account,
+        finder,
+        run.basin(),
+        run.roll(),
+        run.month(),
+        right,
+    )
 }
 
 /// Solves the months of a basin with its series up to the one of this index, and puts why a right got no more in it.
 fn explain_at<K: Sink, L: Ledger>(
     alloc: Global,
+    account: Account,
     basin: &Basin,
     series: &Inflows,
     index: u32,
@@ -223,7 +283,7 @@ fn explain_at<K: Sink, L: Ledger>(
     requires series { IsSeriesOf basin.now series.now }
     requires index { index < basin.now.months }
     requires right { right < length basin.now.rights }
-    ensures answers { MayWrite (status_of result) → AnswersAt basin.now series.now index right result
+    ensures answers { MayWrite (status_of result) → AnswersAt account basin.now series.now index right result
         (Rose (K.faults out.old) (K.faults out.new)) (K.taken out.old) (K.taken out.new) }
     ensures memory { (MayWrite (status_of result) → ⊥) → result ≡ OutOfMemory }
     ensures out_stays { (MayWrite (status_of result) → ⊥) → out.new ≡ out.old }
@@ -235,13 +295,18 @@ fn explain_at<K: Sink, L: Ledger>(
         Ok(run) => run,
         Err(_) => return Ending::OutOfMemory,
     };
-    explain_in(&mut run, index, right, out, searches)
+    let mut finder = match HelpFinder::open(alloc, basin) {
+        Ok(finder) => finder,
+        Err(_) => return Ending::OutOfMemory,
+    };
+    explain_in(account, &mut finder, &mut run, index, right, out, searches)
 }
 
-/// Puts why the right of this name got no more in a month: the account book of its reach where it is short, and else
-/// that it is met. Months are solved up to this one and no further, and nothing is put before it is solved.
+/// Puts why the right of this name got no more in a month: where it is short, the account book of its reach, or where
+/// one more unit would help it and the account of its core; and else that it is met. Months are solved up to this one and no further, and nothing is put before it is solved.
 pub fn explain_right<K: Sink, L: Ledger>(
     alloc: Global,
+    account: Account,
     basin: &Basin,
     series: &Inflows,
     month: Month,
@@ -254,7 +319,7 @@ pub fn explain_right<K: Sink, L: Ledger>(
     requires month { IsMonth month }
     ensures ends { EndsAsking basin.now series.now month name.now result (Rose (K.faults out.old) (K.faults out.new)) }
     ensures answers { MayWrite (status_of result) →
-        IsAnswered basin.now series.now month name.now result (K.taken out.old) (K.taken out.new) }
+        IsAnswered account basin.now series.now month name.now result (K.taken out.old) (K.taken out.new) }
     ensures out_stays { (MayWrite (status_of result) → ⊥) → out.new ≡ out.old }
     ensures idle { (MayWrite (status_of result) → ⊥) → searches.new ≡ searches.old }
     ensures pushes { PushesUpTo basin.now month searches.old searches.new }
@@ -272,5 +337,5 @@ pub fn explain_right<K: Sink, L: Ledger>(
             line: 0,
         };
     };
-    explain_at(alloc, basin, series, index, right, out, searches)
+    explain_at(alloc, account, basin, series, index, right, out, searches)
 }

@@ -1,6 +1,6 @@
 //! A result checked against a basin and a series, over their bytes alone.
 ghost use Rattle.std.specs.Prelude.{◌≡◌};
-ghost use Rattle.basin_cli.specs.Found.{IsFound, RunsAreAccepted, refusal};
+ghost use Rattle.basin_cli.specs.Found.{IsFound, RunsAreAccepted, RunsAreAudited, refusal};
 
 use crate::actions::answer_of;
 use crate::ending::Ending;
@@ -58,4 +58,9 @@ pub fn check_result(alloc: Global, basin: &[u8], series: &[u8], text: &[u8]) -> 
 /// The text of a run is accepted.
 pub fn runs_are_accepted()
     ensures { RunsAreAccepted }
+{}
+
+/// The text of a run is audited.
+pub fn runs_are_audited()
+    ensures { RunsAreAudited }
 {}

@@ -14,12 +14,13 @@ mod explaining;
 mod files;
 mod found;
 mod handing;
+mod listing;
 mod pairs;
 mod status;
 mod top;
 mod upgrading;
 mod writing;
 
-pub use found::{Found, check_result, runs_are_accepted};
+pub use found::{Found, check_result, runs_are_accepted, runs_are_audited};
 pub use status::Status;
 pub use top::basin_main;

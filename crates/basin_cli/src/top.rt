@@ -2,18 +2,19 @@
 ghost use Rattle.std.specs.Prelude.{◌≡◌, ℕ, Some, map, string_bytes};
 ghost use Rattle.water_edge.specs.Edge.{Rose};
 ghost use Rattle.water_text.specs.Months.{IsMonth};
-ghost use Rattle.basin_cli.specs.Command.{ServesFiles, check, command_of, edit, ensemble, named, report, run, why};
+ghost use Rattle.basin_cli.specs.Command.{ServesFiles, calls, check, command_of, edit, ensemble, named, report, run};
+ghost use Rattle.basin_cli.specs.Command.{why};
 ghost use Rattle.basin_cli.specs.Out.{IsIdle, IsUnread, MayLeave};
 ghost use Rattle.basin_cli.specs.Outcome.{Completes, Ends, IsQuiet, PushesFor, WritesFor};
 ghost use Rattle.basin_cli.specs.Serving.{Serves};
 
-use crate::actions::{gather_basin, report_basin, run_basin, try_basin};
-use crate::checking::check_file;
+use crate::actions::{gather_basin, list_basin, report_basin, run_basin, try_basin};
+use crate::checking::{Question, check_file};
 use crate::command::{Inputs, Words, command};
 use crate::compare::do_compare;
 use crate::editing::edit_basin;
 use crate::ending::{Ending, File, tell};
-use crate::explaining::explain_right;
+use crate::explaining::{Account, explain_right};
 use crate::files::{read_file, read_inputs, read_record};
 use crate::status::Status;
 use crate::upgrading::do_upgrade;
@@ -42,6 +43,25 @@ fn do_run<S: Shelf, K: Sink, L: Ledger>(
     run_basin(alloc, &files.basin, &files.series, out, searches)
 }
 
+/// `calls`: solves the months of a basin with its series and puts the list of their calls.
+fn do_calls<S: Shelf, K: Sink, L: Ledger>(
+    alloc: Global,
+    inputs: Inputs,
+    shelf: &mut S,
+    out: &mut K,
+    searches: &mut Steps<L>,
+) -> Ending
+    requires { ServesFiles (S.serves shelf.old) (Some (calls (named inputs))) }
+    ensures { Serves S.Shelf K.Sink (Some (calls (named inputs.entry))) result shelf.old shelf.new out.old out.new
+        searches.old searches.new }
+{
+    let files = match read_inputs(alloc, shelf, inputs) {
+        Ok(files) => files,
+        Err(ending) => return ending,
+    };
+    list_basin(alloc, &files.basin, &files.series, out, searches)
+}
+
 /// `report`: solves the months of a basin with its series and puts a report on them.
 fn do_report<S: Shelf, K: Sink, L: Ledger>(
     alloc: Global,
@@ -61,30 +81,40 @@ fn do_report<S: Shelf, K: Sink, L: Ledger>(
     report_basin(alloc, &files.basin, &files.series, out, searches)
 }
 
-/// `check`: reads a result, in parts, and puts whether it is the text of a history of a basin with its series, or why
-/// not.
+/// `check` and `audit`: reads a result, in parts, and puts whether it is the text of a history of a basin with its
+/// series, for an audit of one in which the set of each short right is its reach; or why not.
 fn do_check<S: Shelf, K: Sink>(
     alloc: Global,
+    question: Question,
     inputs: Inputs,
     result_name: &str,
     shelf: &mut S,
     out: &mut K,
 ) -> Ending
-    requires { ServesFiles (S.serves shelf.old) (Some (check (named inputs) result_name.now)) }
-    ensures { (count : ℕ) → Serves S.Shelf K.Sink (Some (check (named inputs.entry) result_name.now)) result shelf.old
-        shelf.new out.old out.new count count }
+    requires { ServesFiles (S.serves shelf.old) (Some (check question (named inputs) result_name.now)) }
+    ensures { (count : ℕ) → Serves S.Shelf K.Sink (Some (check question (named inputs.entry) result_name.now)) result
+        shelf.old shelf.new out.old out.new count count }
 {
     let files = match read_inputs(alloc, shelf, inputs) {
         Ok(files) => files,
         Err(ending) => return ending,
     };
-    check_file(alloc, &files.basin, &files.series, shelf, result_name, out)
+    check_file(
+        alloc,
+        question,
+        &files.basin,
+        &files.series,
+        shelf,
+        result_name,
+        out,
+    )
 }
 
-/// `why`: solves the months of a basin with its series up to one month, and puts why the right of this name got no more
-/// in it.
+/// `why` and `where`: solves the months of a basin with its series up to one month, and puts why the right of this name
+/// got no more in it, or where one more unit of water would help it.
 fn do_why<S: Shelf, K: Sink, L: Ledger>(
     alloc: Global,
+    account: Account,
     inputs: Inputs,
     month: Month,
     right: &str,
@@ -92,10 +122,10 @@ fn do_why<S: Shelf, K: Sink, L: Ledger>(
     out: &mut K,
     searches: &mut Steps<L>,
 ) -> Ending
-    requires files { ServesFiles (S.serves shelf.old) (Some (why (named inputs) month right.now)) }
+    requires files { ServesFiles (S.serves shelf.old) (Some (why account (named inputs) month right.now)) }
     requires month { IsMonth month }
-    ensures { Serves S.Shelf K.Sink (Some (why (named inputs.entry) month right.now)) result shelf.old shelf.new out.old
-        out.new searches.old searches.new }
+    ensures { Serves S.Shelf K.Sink (Some (why account (named inputs.entry) month right.now)) result shelf.old shelf.new
+        out.old out.new searches.old searches.new }
 {
     let files = match read_inputs(alloc, shelf, inputs) {
         Ok(files) => files,
@@ -103,6 +133,7 @@ fn do_why<S: Shelf, K: Sink, L: Ledger>(
     };
     explain_right(
         alloc,
+        account,
         &files.basin,
         &files.series,
         month,
@@ -171,9 +202,16 @@ fn decide<S: Shelf, K: Sink, L: Ledger>(
     match command(words) {
         None => Ending::Usage,
         Some(Words::Run(inputs)) => do_run(alloc, inputs, shelf, out, searches),
+        Some(Words::Calls(inputs)) => do_calls(alloc, inputs, shelf, out, searches),
         Some(Words::Report(inputs)) => do_report(alloc, inputs, shelf, out, searches),
         Some(Words::Ensemble(inputs)) => do_ensemble(alloc, inputs, shelf, out, searches),
-        Some(Words::Check { inputs, result }) => do_check(alloc, inputs, result, shelf, out),
+        Some(
+            Words::Check {
+                question,
+                inputs,
+                result,
+            },
+        ) => do_check(alloc, question, inputs, result, shelf, out),
         Some(Words::Edit { inputs, script }) => do_edit(
             alloc, inputs, script, shelf, out, searches,
         ),
@@ -184,11 +222,12 @@ fn decide<S: Shelf, K: Sink, L: Ledger>(
         }
         Some(
             Words::Why {
+                account,
                 inputs,
                 month,
                 right,
             },
-        ) => do_why(alloc, inputs, month, right, shelf, out, searches),
+        ) => do_why(alloc, account, inputs, month, right, shelf, out, searches),
     }
 }
 
@@ -209,14 +248,14 @@ pub fn basin_main<S: Shelf, K: Sink, E: Sink, L: Ledger>(
     ensures ends { Ends (command_of (map string_bytes words.now)) result (S.told shelf.old)
         (Rose (S.faults shelf.old) (S.faults shelf.new)) (Rose (K.faults out.old) (K.faults out.new))
         (E.taken err.old) (E.taken err.new) (E.faults err.old) (E.faults err.new) }
-    // Where nothing is refused and nothing fails, the call is done; a result that is checked is judged as what it is,
-    // and a comparison answers no exactly where somebody is injured.
+    // Where nothing is refused and nothing fails, the call is done; a result that is checked or audited is judged as
+    // what it is, and a comparison answers no exactly where somebody is injured.
     ensures complete { Completes (command_of (map string_bytes words.now)) result (S.told shelf.old)
         (Rose (S.faults shelf.old) (S.faults shelf.new)) (Rose (K.faults out.old) (K.faults out.new)) }
 
-    // The text of records that keep the priority of rights, a report on them, the answer to a result, the comparison of
-    // two such lists of records, or the months that a script shows; or after a fault of out a front of it. The months
-    // of a run are written as they are solved.
+    // The text of records that keep the priority of rights, the list of their calls, a report on them, the answer to a
+    // result, the comparison of two such lists of records, or the months that a script shows; or after a fault of out a
+    // front of it. The months of a run and of a list of calls are written as they are solved.
     ensures writes { WritesFor (command_of (map string_bytes words.now)) result (S.told shelf.old) (K.taken out.old)
         (K.taken out.new) searches.old searches.new }
     ensures out_stays { (MayLeave (command_of (map string_bytes words.now)) result → ⊥) → out.new ≡ out.old }
@@ -232,7 +271,7 @@ pub fn basin_main<S: Shelf, K: Sink, E: Sink, L: Ledger>(
 
     // Where words, a file or a script are refused or not read, nothing is solved; of a run, a report, a trial and an
     // account want of memory comes before a month is solved, or not at all. Each month that is solved has at most so
-    // many pushes as its bound allows, and a check has none.
+    // many pushes as its bound allows, and a check or an audit has none.
     ensures idle { IsIdle (command_of (map string_bytes words.now)) result → searches.new ≡ searches.old }
     ensures pushes { PushesFor (command_of (map string_bytes words.now)) (S.told shelf.old) searches.old searches.new }
 {

@@ -11,4 +11,7 @@ pub month_pieces : (c : CallsSeen) →
     whole_line c.basin (line.Month c.month.month) ++ (bytes_of c (parts_of c) ++ whole_line c.basin line.End)
     ≡ month_bytes c.basin c.month c.found
 month_pieces c =
-    rw (flat_map-append (whole_line c.basin) (parts_of c) (line.End ∷ []), append-nil (whole_line c.basin line.End)) refl
+    rw (
+      flat_map-append (whole_line c.basin) (parts_of c) (line.End ∷ []),
+      append-nil (whole_line c.basin line.End),
+    ) refl

@@ -1,4 +1,4 @@
--- The lines of a list of calls, and how they are spelled.
+-- The lines of a list of calls, and of what would help a right, and how they are spelled.
 use Rattle.std.specs.Prelude.{ℕ, ◌<◌, List, [], ◌∷◌, ◌++◌, codes, length}
 use Rattle.std.specs.Fmt.{decimal}
 use Rattle.std.specs.List.{join_with_byte}
@@ -18,6 +18,9 @@ IsOfBasin b (line.Link link right) = (link < length b.links) × (right < length 
 IsOfBasin b (line.Curtailed right caller) = (right < length b.rights) × (caller < length b.rights)
 IsOfBasin b line.End = Unit {0}
 IsOfBasin b (line.Done months) = Unit {0}
+IsOfBasin b (line.Where month right amount want) = IsMonth month × (right < length b.rights)
+IsOfBasin b (line.At node) = node < length b.nodes
+IsOfBasin b (line.Carry link) = link < length b.links
 
 -- a line's word and its fields
 unfoldable pub fields_of : Basin → Entry → List (List ℕ)
@@ -29,6 +32,10 @@ fields_of b (line.Link link right) = codes "link" ∷ link_name b link ∷ right
 fields_of b (line.Curtailed right caller) = codes "curtailed" ∷ right_name b right ∷ right_name b caller ∷ []
 fields_of b line.End = codes "end" ∷ []
 fields_of b (line.Done months) = codes "done" ∷ decimal months ∷ []
+fields_of b (line.Where month right amount want) =
+    codes "where" ∷ month_digits month ∷ right_name b right ∷ decimal amount ∷ decimal want ∷ []
+fields_of b (line.At node) = codes "at" ∷ node_name b node ∷ []
+fields_of b (line.Carry link) = codes "link" ∷ link_name b link ∷ []
 
 -- the bytes of a line: its fields with single spaces between them, and a line feed
 unfoldable pub whole_line : Basin → Entry → List ℕ

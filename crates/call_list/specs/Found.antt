@@ -4,12 +4,20 @@ use Rattle.std.specs.Prelude.{slice_index_or, ◌≡◌}
 use Rattle.water_model.specs.Basin.{is_senior, taking_node}
 use Rattle.water_model.specs.declared.types.Basin.{Basin}
 use Rattle.water_model.specs.declared.types.MonthRecord.{MonthRecord}
+use Rattle.plan_residual.specs.Next.{AreNext}
+use Rattle.next_unit.specs.Helped.{AreHelped}
 
 -- for each node the right to which one more unit of water there would go, or none; and for each link the most senior
 -- right that one more unit of carry on it would help, or none
 pub record Found : Type 0 where
   pub next : List (Option ℕ)
   pub helped : List (Option ℕ)
+
+-- exactly what one more unit would do in a month: for each node the right to which one more unit of water there would
+-- go, and for each link the most senior right that one more unit of carry on it would help
+pub record IsFoundIn (b : Basin) (m : MonthRecord) (found : Found) : Type 0 where
+  pub next : AreNext b m found.next
+  pub helped : AreHelped b m found.helped
 
 -- there is a right or none for each node and for each link
 pub record FitsFound (b : Basin) (found : Found) : Type 0 where

@@ -1,4 +1,9 @@
 pub mod Entries
 pub mod Found
+pub mod Finders
+pub mod Helpers
+pub mod Helping
 pub mod Lists
 pub mod MonthsCalls
+pub mod Whole
+pub mod Laws

@@ -24,8 +24,8 @@ abbrev pub calls_seen : Basin → RollSeen → MonthRecord → List (Option ℕ)
 calls_seen b roll m next helped =
     record { basin = b; roll = roll; month = m; found = record { next = next; helped = helped } }
 
--- what each keeps: the basin is valid, the roll is that of its rights, the record is one of the basin whose lines can be
--- written, and what was found fits the basin
+-- what each keeps: the basin is valid, the roll is that of its rights, the record is one of the basin whose lines can
+-- be written, and what was found fits the basin
 pub record AreMonthCalls (c : CallsSeen) : Type 0 where
   pub valid : IsValidBasin c.basin
   pub rolled : IsRollOf c.basin.rights c.roll

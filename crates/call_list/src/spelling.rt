@@ -1,4 +1,4 @@
-//! How a line of a list of calls is spelled.
+//! How a line is spelled.
 ghost use Rattle.std.specs.Prelude.{◌≡◌};
 ghost use Rattle.water_model.specs.Valid.{IsValidBasin};
 ghost use Rattle.call_list.specs.Entries.{IsOfBasin, whole_line};
@@ -55,6 +55,26 @@ pub fn spell(line: &mut Line, basin: &Basin, entry: &Entry)
         Entry::Done { months } => {
             line.word(b"done");
             line.add_number(u64::from(months));
+        }
+        Entry::Where {
+            month,
+            right,
+            amount,
+            want,
+        } => {
+            line.word(b"where");
+            line.add_month(month);
+            line.add_name(name_in(Space::Rights, basin, right));
+            line.add_number(amount);
+            line.add_number(want);
+        }
+        Entry::At { node } => {
+            line.word(b"at");
+            line.add_name(name_in(Space::Nodes, basin, node));
+        }
+        Entry::Carry { link } => {
+            line.word(b"link");
+            line.add_name(name_in(Space::Links, basin, link));
         }
     }
     line.word(b"\n");

@@ -16,7 +16,11 @@ use water_model::types::Basin;
 use water_text::line::Line;
 
 /// Puts the line of an entry.
-fn put_entry<K: Sink>(sink: &mut K, basin: &Basin, entry: Entry) -> Result<(), SinkFailed>
+pub(crate) fn put_entry<K: Sink>(
+    sink: &mut K,
+    basin: &Basin,
+    entry: Entry,
+) -> Result<(), SinkFailed>
     requires basin { IsValidBasin basin.now }
     requires entry { IsOfBasin basin.now entry }
     ensures text { Puts (K.taken sink.old) (K.taken sink.new) result (whole_line basin.now entry) }

@@ -62,12 +62,18 @@ abbrev pub terms : Basin → MonthRecord → ℕ → List Bool → List Entry
 terms b m right set =
     flat_map (λ p. lines_in p b m right set) (part.Supplies ∷ part.Enters ∷ part.Keeps ∷ part.Takes ∷ [])
 
--- the book: what the right got and wanted, the terms, and their sum
+-- the account: the terms, and their sum
+abbrev pub account : Basin → MonthRecord → ℕ → List Bool → List Entry
+account b m right set = terms b m right set ++ line.Sum (balance_of (terms b m right set)) ∷ []
+
+-- the book: what the right got and wanted, and the account
 abbrev pub book : Basin → MonthRecord → ℕ → List Bool → List Entry
 book b m right set =
-    line.Why m.month right (slice_index m.delivered right) (slice_index m.want right)
-    ∷ (terms b m right set ++ line.Sum (balance_of (terms b m right set)) ∷ [])
+    line.Why m.month right (slice_index m.delivered right) (slice_index m.want right) ∷ account b m right set
 
--- and its bytes
+-- and the bytes of each
+abbrev pub account_bytes : Basin → MonthRecord → ℕ → List Bool → List ℕ
+account_bytes b m right set = flat_map (whole_line b) (account b m right set)
+
 abbrev pub book_bytes : Basin → MonthRecord → ℕ → List Bool → List ℕ
 book_bytes b m right set = flat_map (whole_line b) (book b m right set)

@@ -15,4 +15,4 @@ mod spelling;
 mod writer;
 
 pub use entry::Entry;
-pub use writer::put_book;
+pub use writer::{put_account, put_book};

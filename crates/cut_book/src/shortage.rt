@@ -13,15 +13,17 @@ use cut_cert::{enters, holds, is_on_link, is_senior_to, kept_on, leaves, takes_w
 use rights_roll::roll::Roll;
 use std::marker::Model;
 use water_model::calls::carry_of;
+use water_model::cut_list::CutList;
 use water_model::types::{Basin, MonthRecord};
 
-/// A right of a basin that is short in a month, with the basin's roll and the month's record. The record has a set of
-/// this right.
+/// A right of a basin that is short in a month, with the basin's roll and the month's record, and cuts that have a set
+/// of this right.
 #[derive(Drop)]
 pub struct Shortage<'b> {
     pub basin: &'b Basin,
     pub roll: &'b Roll,
     pub month: &'b MonthRecord,
+    pub cuts: &'b CutList,
     pub right: u32,
 }
 
@@ -30,9 +32,9 @@ impl<'b> Model for Shortage<'b> {
 
     ghost Value = { ShortageSeen };
 
-    ghost view = { λ s. shortage s.basin.now s.roll.now s.month.now s.right };
+    ghost view = { λ s. shortage s.basin.now s.roll.now s.month.now s.cuts.now s.right };
 
-    ghost invariant = { λ s. IsShortage (shortage s.basin.now s.roll.now s.month.now s.right) };
+    ghost invariant = { λ s. IsShortage (shortage s.basin.now s.roll.now s.month.now s.cuts.now s.right) };
 }
 
 /// A term as a line, which it is unless its amount is 0.
@@ -69,7 +71,7 @@ impl<'b> Shortage<'b> {
         ensures lines { option_to_list result ≡ lines_of self.now Part.Supplies node }
         ensures named { IfSome result (IsOfBasin self.now.basin) }
     {
-        if !holds(&self.month.cuts, self.right, node) {
+        if !holds(self.cuts, self.right, node) {
             return None;
         }
         let amount = self.month.supply[node as usize];
@@ -82,7 +84,7 @@ impl<'b> Shortage<'b> {
         ensures lines { option_to_list result ≡ lines_of self.now Part.Enters link }
         ensures named { IfSome result (IsOfBasin self.now.basin) }
     {
-        if !enters(self.basin, &self.month.cuts, self.right, link) {
+        if !enters(self.basin, self.cuts, self.right, link) {
             return None;
         }
         let amount = carry_of(self.basin, link, self.month.month);
@@ -95,7 +97,7 @@ impl<'b> Shortage<'b> {
         ensures lines { option_to_list result ≡ lines_of self.now Part.Keeps link }
         ensures named { IfSome result (IsOfBasin self.now.basin) }
     {
-        if !leaves(self.basin, &self.month.cuts, self.right, link)
+        if !leaves(self.basin, self.cuts, self.right, link)
             || is_on_link(self.basin, self.right, link)
         {
             return None;
@@ -119,7 +121,7 @@ impl<'b> Shortage<'b> {
         ensures lines { option_to_list result ≡ lines_of self.now Part.Takes taker }
         ensures named { IfSome result (IsOfBasin self.now.basin) }
     {
-        if !takes_within(self.basin, &self.month.cuts, self.right, taker)
+        if !takes_within(self.basin, self.cuts, self.right, taker)
             || !is_senior_to(self.basin, taker, self.right)
         {
             return None;

@@ -8,7 +8,7 @@ ghost use Rattle.water_model.specs.Valid.{IsValidBasin};
 ghost use Rattle.result_text.specs.Range.{FitsText};
 ghost use Rattle.cut_cert.specs.Sets.{HasCut, cut_at};
 ghost use Rattle.cut_book.specs.Entries.{IsOfBasin};
-ghost use Rattle.cut_book.specs.Book.{book_bytes, count_in, places_in};
+ghost use Rattle.cut_book.specs.Book.{account_bytes, book_bytes, count_in, places_in};
 ghost use Rattle.cut_book.specs.Shortages.{bytes_of, lines_of, part_of, terms_of};
 
 use crate::entry::Entry;
@@ -17,6 +17,7 @@ use crate::shortage::Shortage;
 use crate::spelling::spell;
 use rights_roll::roll::Roll;
 use water_edge::{Sink, SinkFailed};
+use water_model::cut_list::CutList;
 use water_model::types::{Basin, MonthRecord};
 use water_text::line::Line;
 
@@ -100,6 +101,41 @@ fn put_terms<K: Sink>(sink: &mut K, shortage: &Shortage) -> Result<(), SinkFaile
     Ok(())
 }
 
+/// Puts the account of a right whose set in these cuts is a tight cut of it: the lines of its book behind the first. That
+/// is each supply in the set, each link that enters it, what is kept on each link that leaves it and for whom, each take
+/// of a senior in it, and their sum, which is what the right got. A line of amount 0 is left out.
+///
+/// Each line is one `put`. `SinkFailed` comes only where the sink counted a fault; a front of the account was then put.
+/// The cost is linear in nodes, links and rights, and no memory is taken.
+pub fn put_account<K: Sink>(
+    sink: &mut K,
+    basin: &Basin,
+    roll: &Roll,
+    month: &MonthRecord,
+    cuts: &CutList,
+    right: u32,
+) -> Result<(), SinkFailed>
+    requires basin { IsValidBasin basin.now }
+    requires roll { IsRollOf basin.now.rights roll.now }
+    requires month { FitsText basin.now month.now }
+    requires cut { HasCut basin.now cuts.now right }
+    requires tight { IsTight basin.now month.now.month month.now.supply month.now.delivered right
+        (cut_at cuts.now right) }
+    ensures text { Puts (K.taken sink.old) (K.taken sink.new) result
+        (account_bytes basin.now month.now right (cut_at cuts.now right)) }
+    ensures cause { HasCause (K.faults sink.old) (K.faults sink.new) (IsErr result) }
+{
+    let shortage = Shortage {
+        basin,
+        roll,
+        month,
+        cuts,
+        right,
+    };
+    put_terms(sink, &shortage)?;
+    put_entry(sink, &shortage, shortage.sum())
+}
+
 /// Puts the account book of a right whose set in the record is a tight cut of it: what it got and wanted, each supply
 /// in the set, each link that enters it, what is kept on each link that leaves it and for whom, each take of a senior
 /// in it, and their sum, which is what the right got. A line of amount 0 is left out.
@@ -127,9 +163,9 @@ pub fn put_book<K: Sink>(
         basin,
         roll,
         month,
+        cuts: &month.cuts,
         right,
     };
     put_entry(sink, &shortage, shortage.why())?;
-    put_terms(sink, &shortage)?;
-    put_entry(sink, &shortage, shortage.sum())
+    put_account(sink, basin, roll, month, &month.cuts, right)
 }

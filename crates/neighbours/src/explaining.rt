@@ -80,7 +80,7 @@ fn expect_book(
 }
 
 /// 20 flow past fish that want 30.
-const FEW_FISH: &str = r#"format = 1
+pub const FEW_FISH: &str = r#"format = 1
 first_month = "1900-01"
 months = 1
 node = [{ name = "top", inflow = 20 }, { name = "mouth", outlet = true }]
@@ -95,7 +95,7 @@ want = 30
 
 /// Three instream rights on one river beside a diversion of 1900. The first two keep 30 each, the senior of them is
 /// named first; the third is junior to the diversion and keeps nothing from it, though it is delivered 30 too.
-const SHARED_LINK: &str = r#"format = 1
+pub const SHARED_LINK: &str = r#"format = 1
 first_month = "1900-01"
 months = 1
 node = [{ name = "top", inflow = 50 }, { name = "mouth", outlet = true }]
@@ -128,7 +128,7 @@ want = 30
 
 /// Both `top` alone and `top` with `mid` show why the diversion got 20: 50 - 30, and 50 + 10 - 40. The reach is the
 /// larger set.
-const TWO_CUTS: &str = r#"format = 1
+pub const TWO_CUTS: &str = r#"format = 1
 first_month = "1900-01"
 months = 1
 node = [{ name = "top", inflow = 50 }, { name = "mid", inflow = 10 }, { name = "mouth", outlet = true }]
@@ -193,7 +193,7 @@ fn names_what_is_kept_and_for_whom(rt: HostRuntime) -> Result<(), Fail> {
 }
 
 /// Words that ask for what isn't there. A month that the run hasn't is told before a name that no right has.
-const UNKNOWN: [(&str, &str, &str); 5] = [
+pub const UNKNOWN: [(&str, &str, &str); 5] = [
     ("1960-09", "live", "script: OutsideRun 0\n"),
     ("1960-06", "live", "script: OutsideRun 0\n"),
     ("2999-12", "nobody", "script: OutsideRun 0\n"),

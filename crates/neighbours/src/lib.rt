@@ -1,7 +1,9 @@
-//! The tests of the commands beside a run, `why`, `compare`, `ensemble`, `edit` and `upgrade`, and of a month's two
-//! ways, over the program's top call.
+//! The tests of the commands beside a run, `why`, `where`, `calls`, `compare`, `ensemble`, `edit` and `upgrade`, and of a
+//! month's two ways, over the program's top call.
 #![tactic(auto)]
 
+#[cfg(test)]
+mod calling;
 #[cfg(test)]
 mod comparing;
 #[cfg(test)]

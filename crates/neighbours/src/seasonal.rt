@@ -123,7 +123,7 @@ fn tells_why_an_order_was_not_met(rt: HostRuntime) -> Result<(), Fail> {
 }
 
 /// A field behind a canal that carries 2 a day and is shut in February.
-const SHUT: &str = r#"format = 2
+pub const SHUT: &str = r#"format = 2
 first_month = "1900-02"
 months = 2
 node = [{ name = "head", inflow = 100 }, { name = "field" }, { name = "mouth", outlet = true }]

@@ -1,8 +1,10 @@
 -- The most senior right that one more unit of carry on a link would help, seniors first.
-use Rattle.std.proofs.Common.{◌≡◌, ℕ, ◌+◌, ◌<◌, ◌≤◌, false, refl, sym, ◌∙◌, ap, subst, arith, Bool, List, [], length, get_or, inl, inr}
+use Rattle.std.proofs.Common.{◌≡◌, ℕ, ◌+◌, ◌<◌, ◌≤◌, true, false, sym, ◌∙◌, ap, subst, arith, Bool, List, []}
+use Rattle.std.proofs.Common.{length, get_or, inl, inr}
 use Rattle.std.proofs.lemmas.Bool.{cases_eq, cases_lt, ltb-true}
 use Rattle.std.proofs.lemmas.List.{get_or-set_same, get_or-set_other, length-set}
 use Rattle.std.specs.Prelude.{Option, Some, None, slice_index_or, slice_set, unwrap_or, is_some}
+use Rattle.water_model.specs.Basin.{instream_link}
 use Rattle.water_model.specs.Cuts.{IsReach}
 use Rattle.water_model.specs.History.{HasReaches, IsShort}
 use Rattle.water_model.specs.Places.{seniors_first}
@@ -16,7 +18,8 @@ use Rattle.plan_residual.proofs.Firsts.{order_below}
 use Rattle.plan_residual.specs.Reaches.{HasReach}
 use Rattle.plan_residual.specs.Sweep.{right_at}
 use Rattle.next_unit.specs.Core.{raised_carry}
-use Rattle.next_unit.specs.Helped.{IsFirstHelped, IsHelped, AreHelped, IsHelpedTo, AreHelpedTo, AreBeingHelped}
+use Rattle.next_unit.specs.Helped.{IsFirstHelped, IsHelped, AreHelped, HelpsNoneTo, IsHelpedTo, AreHelpedTo}
+use Rattle.next_unit.specs.Helped.{AreBeingHelped}
 use Rattle.next_unit.specs.Laws.{CarryHelpsRight}
 
 -- a right that could get more is short
@@ -31,55 +34,53 @@ helped_is_short b m link r l helps =
 
 -- one place more, whose right would not be helped
 pub not_helped : (b : Basin) (m : MonthRecord) (place link : ℕ) →
-    (CarryHelpsRight b m link (right_at b place) → ⊥) → IsHelpedTo b m place link None →
-    IsHelpedTo b m (place + 1) link None
-not_helped b m place link here before = λ i l. elim (cases_lt i place) [
-  | inl below ↦ before i below
-  | inr above ↦
-      (let same : i ≡ place = omega arith in
-      subst (λ (k : ℕ). CarryHelpsRight b m link (right_at b k) → ⊥) (sym same) here)
-]
+    (CarryHelpsRight b m link (right_at b place) → ⊥) → HelpsNoneTo b m place link →
+    HelpsNoneTo b m (place + 1) link
+not_helped b m place link here now = record {
+  before = λ i l. elim (cases_lt i place) [
+    | inl below ↦ now.before i below
+    | inr above ↦
+        (let same : i ≡ place = omega arith in
+        subst (λ (k : ℕ). CarryHelpsRight b m link (right_at b k) → ⊥) (sym same) here)
+  ];
+  instream = now.instream;
+}
 
 -- where no right was noted, none before would be helped
 pub none_before : {b : Basin} {m : MonthRecord} {place link : ℕ} (before : Option ℕ) → is_some before ≡ false →
-    IsHelpedTo b m place link before → IsHelpedTo b m place link None
+    IsHelpedTo b m place link before → HelpsNoneTo b m place link
 none_before None h now = now
 none_before (Some r) h now = cc
 
+-- a right that was noted stays so
+pub one_before : (b : Basin) (m : MonthRecord) (place link : ℕ) (before : Option ℕ) → is_some before ≡ true →
+    IsHelpedTo b m place link before → IsHelpedTo b m (place + 1) link before
+one_before b m place link None h now = cc
+one_before b m place link (Some r) h now = now
+
 -- a right was noted, or the one at the place would not be helped
 pub still_helped : (b : Basin) (m : MonthRecord) (place link : ℕ) (before : Option ℕ) →
-    (before ≡ None → CarryHelpsRight b m link (right_at b place) → ⊥) →
+    (HelpsNoneTo b m place link → CarryHelpsRight b m link (right_at b place) → ⊥) →
     IsHelpedTo b m place link before → IsHelpedTo b m (place + 1) link before
-still_helped b m place link None here now = not_helped b m place link (here refl) now
-still_helped b m place link (Some r) here now = (now.0, (let l = now.1 in omega arith), now.2, now.3, now.4)
+still_helped b m place link None here now = not_helped b m place link (here now) now
+still_helped b m place link (Some r) here now = now
 
 -- the right at the place is the first that would be helped
-pub now_helped : (b : Basin) (m : MonthRecord) (place link right : ℕ) → right_at b place ≡ right →
-    CarryHelpsRight b m link right → IsHelpedTo b m place link None → IsHelpedTo b m (place + 1) link (Some right)
-now_helped b m place link right at helps before = (place, omega arith, at, helps, before)
-
--- the first entries are none
-abbrev pub AreNone : List (Option ℕ) → ℕ → Type 0
-AreNone helped count = (e : ℕ) → e < count → slice_index_or helped e None ≡ None
-
--- one entry more
-pub one_none : (helped : List (Option ℕ)) (count : ℕ) → count < length helped → AreNone helped count →
-    AreNone (slice_set helped count None) (count + 1)
-one_none helped count l before = λ e k. elim (cases_eq e count) [
-  | inl same ↦
-      ap (λ i. slice_index_or (slice_set helped count None) i None) same
-      ∙ get_or-set_same helped count None None l
-  | inr other ↦ get_or-set_other helped count e None None other ∙ before e (omega arith)
-]
-
--- none was noted yet
-pub none_helped : (b : Basin) (m : MonthRecord) (helped : List (Option ℕ)) → length helped ≡ length b.links →
-    AreNone helped (length helped) → AreHelpedTo b m 0 helped
-none_helped b m helped count none = record {
-  count = count;
-  each = λ e l. subst (λ (o : Option ℕ). IsHelpedTo b m 0 e o) (sym (none e (omega arith)))
-      (λ i below. absurd (omega arith));
+pub now_helped : (b : Basin) (m : MonthRecord) (place link right : ℕ) →
+    IsSeniorityOrder b.rights (seniors_first b) → place < length b.rights → right_at b place ≡ right →
+    CarryHelpsRight b m link right → HelpsNoneTo b m place link → IsFirstHelped b m link right
+now_helped b m place link right o within at helps now = record {
+  in_range = in_range;
+  helps = helps;
+  first = λ s l senior other.
+      let above : o.place s < o.place right =
+      ltb-true (o.place s) (o.place right) (sym (o.senior s right l in_range) ∙ senior) in
+      let here : o.place right ≡ place = ap o.place (sym at) ∙ o.placed place within in
+      now.before (o.place s) (omega arith) (subst (λ (q : ℕ). CarryHelpsRight b m link q) (sym (o.each s l)) other);
 }
+  where
+    in_range : right < length b.rights
+    in_range = subst (λ (q : ℕ). q < length b.rights) at (o.below place within)
 
 -- all links were gone over for a right
 pub all_told : (b : Basin) (m : MonthRecord) (place : ℕ) (helped : List (Option ℕ)) (links : ℕ) →
@@ -131,31 +132,30 @@ nobody_more b m place helped met l now = record {
       (λ none helps. met (helped_is_short b m e (right_at b place) l helps)) (now.each e k);
 }
 
+-- a diversion or zone is helped by no link of which no right was told at first
+pub none_instream : (b : Basin) (m : MonthRecord) (place : ℕ) (helped : List (Option ℕ)) →
+    instream_link b (right_at b place) ≡ None → right_at b place < length b.rights → AreHelpedTo b m place helped →
+    AreHelpedTo b m (place + 1) helped
+none_instream b m place helped none l now = record {
+  count = now.count;
+  each = λ e k. still_helped b m place e (slice_index_or helped e None)
+      (λ so_far. so_far.instream (right_at b place) l none) (now.each e k);
+}
+
 -- all rights were gone over
 pub all_helped : (b : Basin) (m : MonthRecord) (places : ℕ) (helped : List (Option ℕ)) →
     IsSeniorityOrder b.rights (seniors_first b) → length b.rights ≤ places → AreHelpedTo b m places helped →
-    places ≤ length b.rights → AreHelped b m helped
-all_helped b m places helped o all now within = record {
+    AreHelped b m helped
+all_helped b m places helped o all now = record {
   count = now.count;
   each = λ e l. of_answer e (slice_index_or helped e None) (now.each e l);
 }
   where
     of_answer : (e : ℕ) (answer : Option ℕ) → IsHelpedTo b m places e answer → IsHelped b m e answer
     of_answer e None none = λ s l helps.
-        none (o.place s) (let k = o.in_range s l in omega arith)
+        none.before (o.place s) (let k = o.in_range s l in omega arith)
         (subst (λ (r : ℕ). CarryHelpsRight b m e r) (sym (o.each s l)) helps)
-    of_answer e (Some r) now = record {
-      in_range = in_range;
-      helps = now.3;
-      first = λ s l senior helps.
-          let before : o.place s < o.place r =
-          ltb-true (o.place s) (o.place r) (sym (o.senior s r l in_range) ∙ senior) in
-          let at : o.place r ≡ now.0 = ap o.place (sym now.2) ∙ o.placed now.0 (let k = now.1 in omega arith) in
-          now.4 (o.place s) (omega arith) (subst (λ (q : ℕ). CarryHelpsRight b m e q) (sym (o.each s l)) helps);
-    }
-      where
-        in_range : r < length b.rights
-        in_range = subst (λ (q : ℕ). q < length b.rights) now.2 (o.below now.0 (let k = now.1 in omega arith))
+    of_answer e (Some r) now = now
 
 -- the set of a short right is its reach
 pub short_has_reach : (b : Basin) (m : MonthRecord) (r : ℕ) → HasReaches b m → r < length b.rights → IsShort m r →

@@ -32,14 +32,14 @@ use Rattle.next_unit.specs.Core.{HasRoomDown, one_more}
 use Rattle.plan_residual.specs.Next.{IsNextAt, IsFreeAt}
 use Rattle.next_unit.specs.Next.{GivesOneMore, IsFirstChanged}
 use Rattle.next_unit.specs.Laws.{HistoriesShowWhereSupplyHelps, HistoriesShowWhereCarryHelps}
-use Rattle.next_unit.specs.Laws.{NextUnitGoesToOne, NextUnitGoesToNobody, StandingBackGetsNothing}
-use Rattle.next_unit.specs.Laws.{FirstChangedIsNext, NextUnitShowsInHistories, StandingBackIsCalled}
+use Rattle.next_unit.specs.Laws.{NextUnitGoesToOne, NextUnitGoesToNobody, CurtailedGetNothing}
+use Rattle.next_unit.specs.Laws.{FirstChangedIsNext, NextUnitShowsInHistories, CurtailedAreCalled}
 use Rattle.next_unit.proofs.Exact.{supply_helps_exactly_in_core, carry_helps_exactly_into_core}
 use Rattle.next_unit.proofs.Helps.{supply_in_core_helps}
 use Rattle.next_unit.proofs.Room.{small_supply_leaves_room, rivers_can_rise}
 use Rattle.next_unit.proofs.Down.{sent_down}
 use Rattle.next_unit.proofs.Least.{core_within}
-use Rattle.next_unit.proofs.Next.{HaveTightCuts, goes_to_one, goes_to_nobody, stood_back, decided, called}
+use Rattle.next_unit.proofs.Next.{HaveTightCuts, goes_to_one, goes_to_nobody, got_nothing, decided, called}
 
 -- what a month of a history is
 pub record IsMonthOf (b : Basin) (series : Inflows) (records : List MonthRecord) (i : ℕ) (m : MonthRecord) : Type 0
@@ -165,10 +165,11 @@ next_unit_goes_to_nobody b series records i m node q valid fits partial at l fre
     (sent_down b m node given (rivers_can_rise b m given (small_supply b series records i m valid fits month)) l)
     free gq
 
-pub standing_back_gets_nothing : StandingBackGetsNothing
-standing_back_gets_nothing b series records i m right caller valid partial at back =
+pub curtailed_get_nothing : CurtailedGetNothing
+curtailed_get_nothing b series records i m right caller valid partial at curtailed =
     let month = month_of b series records i m partial at in
-    stood_back b m right caller (has_plan b series records i m valid month) (have_cuts b series records i m month) back
+    got_nothing b m right caller (has_plan b series records i m valid month) (have_cuts b series records i m month)
+    curtailed
 
 pub first_changed_is_next : FirstChangedIsNext
 first_changed_is_next b series records i m node right q valid fits partial at l gq = (to, from)
@@ -245,12 +246,12 @@ next_unit_shows_in_histories b series other records others i m n node right vali
         (greatest_there b m.month n.month (one_more m.supply node) n.supply m.want n.want n.plan month supply want
         (record_is_greatest b other (take i others) n follows))
 
-pub standing_back_is_called : StandingBackIsCalled
-standing_back_is_called b series records i m right caller valid partial at back =
+pub curtailed_are_called : CurtailedAreCalled
+curtailed_are_called b series records i m right caller valid partial at curtailed =
     let month = month_of b series records i m partial at in
-    let uses = back.next.uses in
+    let uses = curtailed.next.uses in
     let cut = month.follows.short caller uses.in_range uses.short in
-    called b m right caller cut.0 uses.short back.senior back.wants cut.1
-    (ap (λ o. node_within o cut.0) back.at
+    called b m right caller cut.0 uses.short curtailed.senior curtailed.wants cut.1
+    (ap (λ o. node_within o cut.0) curtailed.at
     ∙ core_within b m caller uses.core cut.0 (has_plan b series records i m valid month) uses.in_range uses.short cut.2
-    uses.is_core back.node uses.here)
+    uses.is_core curtailed.node uses.here)

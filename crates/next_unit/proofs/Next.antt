@@ -31,8 +31,8 @@ use Rattle.plan_residual.specs.Residual.{HasPlan}
 use Rattle.plan_residual.specs.Core.{IsCore, node_by_link}
 use Rattle.next_unit.specs.Core.{one_more}
 use Rattle.plan_residual.specs.Next.{CouldUseAt, IsNextAt, IsFreeAt}
-use Rattle.next_unit.specs.Next.{GivesOneMore, MustStandBackFor}
-use Rattle.next_unit.specs.Laws.{HelpsRight, NextUnitIsDecided, ShortTakersStandBackOrAreNext}
+use Rattle.next_unit.specs.Next.{GivesOneMore, IsCurtailedFor}
+use Rattle.next_unit.specs.Laws.{HelpsRight, NextUnitIsDecided, ShortTakersAreCurtailedOrNext}
 use Rattle.next_unit.proofs.Least.{core_is_least_tight_cut, nothing_outside_tight_cuts_helps}
 use Rattle.next_unit.proofs.Exact.{rights_have_cores}
 use Rattle.next_unit.proofs.Down.{ServesAll}
@@ -239,20 +239,20 @@ goes_to_nobody b m node q given cuts down free gq = record {
       (λ s k h. down.serves s k) (λ s k h all. no_more_unused b m node s q given cuts k (free s) gq.plan all) r l refl);
 }
 
--- who stands back got nothing
-pub stood_back : (b : Basin) (m : MonthRecord) (right caller : ℕ) → HasPlan b m → HaveTightCuts b m →
-    MustStandBackFor b m right caller → slice_index m.delivered right ≡ 0
-stood_back b m right caller given cuts back =
-    given.delivered.each right back.in_range
+-- who is curtailed got nothing
+pub got_nothing : (b : Basin) (m : MonthRecord) (right caller : ℕ) → HasPlan b m → HaveTightCuts b m →
+    IsCurtailedFor b m right caller → slice_index m.delivered right ≡ 0
+got_nothing b m right caller given cuts curtailed =
+    given.delivered.each right curtailed.in_range
     ∙ (delivery_by_take b m.want m.plan right (taking_on_no_link b uses.core right within)
     ∙ (tight_leaves_nothing b m.month m.supply m.want m.delivered m.plan caller uses.core uses.in_range given.plan
-    given.delivered tight).juniors right back.in_range within back.senior)
+    given.delivered tight).juniors right curtailed.in_range within curtailed.senior)
   where
-    uses : CouldUseAt b m back.node caller
-    uses = back.next.uses
+    uses : CouldUseAt b m curtailed.node caller
+    uses = curtailed.next.uses
 
     within : takes_within b uses.core right ≡ true
-    within = ap (λ o. node_within o uses.core) back.at ∙ uses.here
+    within = ap (λ o. node_within o uses.core) curtailed.at ∙ uses.here
 
     tight : IsTight b m.month m.supply m.delivered caller uses.core
     tight = (core_is_least_tight_cut b m caller uses.core (cuts caller uses.in_range uses.short).0 given uses.in_range
@@ -321,8 +321,8 @@ module _ (b : Basin) (m : MonthRecord) (node : ℕ) (given : HasPlan b m) where
 pub next_unit_is_decided : NextUnitIsDecided
 next_unit_is_decided b m node given = decided b m node given
 
-pub short_takers_stand_back_or_are_next : ShortTakersStandBackOrAreNext
-short_takers_stand_back_or_are_next b m right node given l short at = elim (decided b m node given) [
+pub short_takers_are_curtailed_or_next : ShortTakersAreCurtailedOrNext
+short_takers_are_curtailed_or_next b m right node given l short at = elim (decided b m node given) [
   | inl free ↦ absurd (free right (own_use (rights_have_cores b m right given l)))
   | inr next ↦ by_order next.0 next.1 (cases_eq next.0 right)
 ]
@@ -350,7 +350,7 @@ short_takers_stand_back_or_are_next b m right node given l short at = elim (deci
     }
 
     by_order : (r : ℕ) → IsNextAt b m node r → (r ≡ right) ⊎ (r ≢ right) →
-        ((caller : ℕ) × MustStandBackFor b m right caller) ⊎ IsNextAt b m node right
+        ((caller : ℕ) × IsCurtailedFor b m right caller) ⊎ IsNextAt b m node right
     by_order r next (inl same) = inr (subst (λ k. IsNextAt b m node k) same next)
     by_order r next (inr differ) = elim (senior_total b.rights given.valid.roll.strict r right next.uses.in_range l
         differ) [

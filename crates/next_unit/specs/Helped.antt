@@ -1,6 +1,6 @@
 -- Which right one more unit of carry on a link would help.
 use Rattle.std.specs.Prelude.{◌≡◌, ℕ, ◌+◌, ◌<◌, ◌≤◌, List, length, Option, Some, None, IsTrue, slice_index_or}
-use Rattle.water_model.specs.Basin.{is_senior}
+use Rattle.water_model.specs.Basin.{instream_link, is_senior}
 use Rattle.water_model.specs.History.{IsShort}
 use Rattle.water_model.specs.declared.types.Basin.{Basin}
 use Rattle.water_model.specs.declared.types.MonthRecord.{MonthRecord}
@@ -24,22 +24,32 @@ pub record AreHelped (b : Basin) (m : MonthRecord) (helped : List (Option ℕ)) 
   pub count : length helped ≡ length b.links
   pub each : (e : ℕ) → e < length b.links → IsHelped b m e (slice_index_or helped e None)
 
--- the same of the rights at the first places of the order
+-- a link whose carry would help no diversion or zone, and no right at the first places of the order
+pub record HelpsNoneTo (b : Basin) (m : MonthRecord) (places link : ℕ) : Type 0 where
+  pub before : (i : ℕ) → i < places → CarryHelpsRight b m link (right_at b i) → ⊥
+  pub instream : (s : ℕ) → s < length b.rights → instream_link b s ≡ None → CarryHelpsRight b m link s → ⊥
+
+-- the most senior right that it would help, or none so far
 abbrev pub IsHelpedTo : Basin → MonthRecord → ℕ → ℕ → Option ℕ → Type 0
-IsHelpedTo b m places link None = (i : ℕ) → i < places → CarryHelpsRight b m link (right_at b i) → ⊥
-IsHelpedTo b m places link (Some right) =
-    (k : ℕ) × (k < places) × (right_at b k ≡ right) × CarryHelpsRight b m link right
-    × ((i : ℕ) → i < k → CarryHelpsRight b m link (right_at b i) → ⊥)
+IsHelpedTo b m places link None = HelpsNoneTo b m places link
+IsHelpedTo b m places link (Some right) = IsFirstHelped b m link right
 
 pub record AreHelpedTo (b : Basin) (m : MonthRecord) (places : ℕ) (helped : List (Option ℕ)) : Type 0 where
   pub count : length helped ≡ length b.links
   pub each : (e : ℕ) → e < length b.links → IsHelpedTo b m places e (slice_index_or helped e None)
 
--- the first links are told of one right more than the others
-pub record AreBeingHelped (b : Basin) (m : MonthRecord) (place : ℕ) (helped : List (Option ℕ)) (links : ℕ) : Type 0 where
+-- the first links are told before any search for a core
+pub record AreToldOf (b : Basin) (m : MonthRecord) (helped : List (Option ℕ)) (links : ℕ) : Type 0 where
   pub count : length helped ≡ length b.links
-  pub told : (e : ℕ) → e < links → IsHelpedTo b m (place + 1) e (slice_index_or helped e None)
-  pub rest : (e : ℕ) → links ≤ e → e < length b.links → IsHelpedTo b m place e (slice_index_or helped e None)
+  pub each : (e : ℕ) → e < links → IsHelpedTo b m 0 e (slice_index_or helped e None)
+
+-- the first links are told of one right more than the others
+pub record AreBeingHelped (b : Basin) (m : MonthRecord) (place : ℕ) (helped : List (Option ℕ)) (links : ℕ) :
+    Type 0
+  where
+    pub count : length helped ≡ length b.links
+    pub told : (e : ℕ) → e < links → IsHelpedTo b m (place + 1) e (slice_index_or helped e None)
+    pub rest : (e : ℕ) → links ≤ e → e < length b.links → IsHelpedTo b m place e (slice_index_or helped e None)
 
 -- for each short right there is room for one unit more down the rivers
 pub record HasRoomForAll (b : Basin) (m : MonthRecord) : Type 0 where

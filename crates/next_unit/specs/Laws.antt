@@ -18,7 +18,7 @@ use Rattle.plan_residual.specs.Residual.{HasPlan}
 use Rattle.plan_residual.specs.Core.{IsCore}
 use Rattle.next_unit.specs.Core.{IsLeastTight, HasRoomDown, one_more, raised_carry}
 use Rattle.plan_residual.specs.Next.{IsNextAt, IsFreeAt}
-use Rattle.next_unit.specs.Next.{GivesOneMore, IsFirstChanged, MustStandBackFor}
+use Rattle.next_unit.specs.Next.{GivesOneMore, IsFirstChanged, IsCurtailedFor}
 
 -- Where a short right has a tight cut, its core is a tight cut, and is within every tight cut.
 abbrev pub CoreIsLeastTightCut : Type 0
@@ -167,22 +167,22 @@ NextUnitShowsInHistories =
     × ((s : ℕ) → s < length b.rights → IsTrue (is_senior b s right) →
     slice_index n.delivered s ≡ slice_index m.delivered s)
 
--- A right that must stand back got nothing.
-abbrev pub StandingBackGetsNothing : Type 0
-StandingBackGetsNothing =
+-- A right that is curtailed for a senior got nothing.
+abbrev pub CurtailedGetNothing : Type 0
+CurtailedGetNothing =
     (b : Basin) (series : Inflows) (records : List MonthRecord) (i : ℕ) (m : MonthRecord) (right caller : ℕ) →
     IsValidBasin b → IsPartialHistory b series records → slice_get records i ≡ Some m →
-    MustStandBackFor b m right caller → slice_index m.delivered right ≡ 0
+    IsCurtailedFor b m right caller → slice_index m.delivered right ≡ 0
 
--- The right for which another must stand back calls it.
-abbrev pub StandingBackIsCalled : Type 0
-StandingBackIsCalled =
+-- The right for which another is curtailed calls it.
+abbrev pub CurtailedAreCalled : Type 0
+CurtailedAreCalled =
     (b : Basin) (series : Inflows) (records : List MonthRecord) (i : ℕ) (m : MonthRecord) (right caller : ℕ) →
     IsValidBasin b → IsPartialHistory b series records → slice_get records i ≡ Some m →
-    MustStandBackFor b m right caller → IsTrue (calls b m right caller)
+    IsCurtailedFor b m right caller → IsTrue (calls b m right caller)
 
--- A short diversion or zone must stand back for a senior, or the next unit at its node is its own.
-abbrev pub ShortTakersStandBackOrAreNext : Type 0
-ShortTakersStandBackOrAreNext =
+-- A short diversion or zone is curtailed for a senior, or the next unit at its node is its own.
+abbrev pub ShortTakersAreCurtailedOrNext : Type 0
+ShortTakersAreCurtailedOrNext =
     (b : Basin) (m : MonthRecord) (right node : ℕ) → HasPlan b m → right < length b.rights → IsShort m right →
-    taking_node b right ≡ Some node → ((caller : ℕ) × MustStandBackFor b m right caller) ⊎ IsNextAt b m node right
+    taking_node b right ≡ Some node → ((caller : ℕ) × IsCurtailedFor b m right caller) ⊎ IsNextAt b m node right

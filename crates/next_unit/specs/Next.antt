@@ -1,4 +1,4 @@
--- What the next unit of water at a node changes, and for whom a right must stand back.
+-- What the next unit of water at a node changes, and for whom a right is curtailed.
 use Rattle.std.specs.Prelude.{◌≡◌, ◌≢◌, ℕ, ◌+◌, ◌<◌, length, slice_index, Some, IsTrue}
 use Rattle.water_model.specs.Basin.{taking_node, is_senior}
 use Rattle.water_model.specs.Plans.{delivery}
@@ -23,9 +23,9 @@ pub record IsFirstChanged (b : Basin) (m : MonthRecord) (q : Plan) (right : ℕ)
   pub changed : delivery b m.want q right ≢ slice_index m.delivered right
   pub seniors : SeniorsGetSame b m q right
 
--- A diversion or zone that wants water must stand back for the right to which one more unit at its node goes, if that
--- right is senior to it.
-pub record MustStandBackFor (b : Basin) (m : MonthRecord) (right caller : ℕ) : Type 0 where
+-- A diversion or zone that wants water is curtailed for the right to which one more unit at its node would go, if that
+-- right is senior to it: whatever arrives at its headgate has to go by.
+pub record IsCurtailedFor (b : Basin) (m : MonthRecord) (right caller : ℕ) : Type 0 where
   pub in_range : right < length b.rights
   pub wants : 0 < slice_index m.want right
   pub node : ℕ

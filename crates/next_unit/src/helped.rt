@@ -1,9 +1,12 @@
 //! Which right one more unit of carry on each link would help.
-ghost use Rattle.std.specs.Prelude.{◌≡◌, ℕ, ◌+◌, ◌<◌, length, None, slice_index_or};
+ghost use Rattle.std.specs.Prelude.{◌≡◌, ◌+◌, ◌<◌, length, None, slice_index_or};
 ghost use Rattle.cut_cert.specs.Sets.{HasCut};
+ghost use Rattle.water_model.specs.Basin.{head_of, instream_link};
 ghost use Rattle.water_model.specs.History.{HasReaches, IsShort};
+ghost use Rattle.water_model.specs.Valid.{IsValidBasin};
 ghost use Rattle.rights_roll.specs.Rolls.{IsRollOf};
 ghost use Rattle.plan_residual.specs.Core.{IsCore};
+ghost use Rattle.plan_residual.specs.Next.{AreNext, IsNextAt};
 ghost use Rattle.plan_residual.specs.Reaches.{HasReach};
 ghost use Rattle.plan_residual.specs.Residual.{HasPlan};
 ghost use Rattle.plan_residual.specs.Rows.{IsSearchOf};
@@ -13,9 +16,69 @@ ghost use Rattle.next_unit.specs.Helped.{AreHelped, AreHelpedTo, HasRoomForAll, 
 
 use crate::carry_helps;
 use calls::is_short;
+use cut_cert::holds;
 use plan_residual::ResidualSearch;
 use rights_roll::roll::Roll;
-use water_model::types::{Basin, MonthRecord};
+use water_model::types::{Basin, MonthRecord, RightKind};
+
+/// The right to which one more unit at a link's head would go, if its reach does not hold the link's tail. Else no
+/// diversion or zone would be helped by carry on the link.
+fn told_by_right(basin: &Basin, month: &MonthRecord, right: u32, link: u32) -> Option<u32>
+    requires plan { HasPlan basin.now month.now }
+    requires reaches { HasReaches basin.now month.now }
+    requires room { HasRoomForAll basin.now month.now }
+    requires link { link < length basin.now.links }
+    requires next { IsNextAt basin.now month.now (head_of basin.now link) right }
+    ensures { IsHelpedTo basin.now month.now 0 link result }
+{
+    let ends = &basin.links[link as usize];
+    if holds(&month.cuts, right, ends.from) {
+        None
+    } else {
+        Some(right)
+    }
+}
+
+/// What a list by node has of a link's head.
+fn at_head(basin: &Basin, next: &[Option<u32>], link: u32) -> Option<u32>
+    requires basin { IsValidBasin basin.now }
+    requires next { length next.now ≡ length basin.now.nodes }
+    requires link { link < length basin.now.links }
+    ensures { result ≡ slice_index_or next.now (head_of basin.now link) None }
+{
+    let ends = &basin.links[link as usize];
+    next[ends.to as usize]
+}
+
+/// The most senior right that one more unit of carry on a link would help, as far as it is told by the right to which
+/// one more unit at its head would go. Where no right is told, only an instream right could be helped.
+fn told_by_next(basin: &Basin, month: &MonthRecord, next: &[Option<u32>], link: u32) -> Option<u32>
+    requires plan { HasPlan basin.now month.now }
+    requires reaches { HasReaches basin.now month.now }
+    requires room { HasRoomForAll basin.now month.now }
+    requires next { AreNext basin.now month.now next.now }
+    requires link { link < length basin.now.links }
+    ensures { IsHelpedTo basin.now month.now 0 link result }
+{
+    match at_head(basin, next, link) {
+        Some(right) => told_by_right(basin, month, right, link),
+        None => None,
+    }
+}
+
+/// Notes for each link what is told without a search for a core.
+fn begin(basin: &Basin, month: &MonthRecord, next: &[Option<u32>], helped: &mut [Option<u32>])
+    requires plan { HasPlan basin.now month.now }
+    requires reaches { HasReaches basin.now month.now }
+    requires room { HasRoomForAll basin.now month.now }
+    requires next { AreNext basin.now month.now next.now }
+    requires helped { length helped.old ≡ length basin.now.links }
+    ensures { AreHelpedTo basin.now month.now 0 helped.new }
+{
+    for link in 0..basin.links.len() as u32 {
+        helped[link as usize] = told_by_next(basin, month, next, link);
+    }
+}
 
 /// The right before, or the one at this place of the order if one more unit of carry on the link would help it.
 fn helped_with(
@@ -103,22 +166,38 @@ fn note_right(
     }
 }
 
-/// No right is noted.
-fn clear(helped: &mut [Option<u32>])
-    ensures { (e : ℕ) → e < length helped.new → slice_index_or helped.new e None ≡ None }
+/// The right at a place of the order.
+fn right_at(basin: &Basin, roll: &Roll, place: usize) -> u32
+    requires basin { IsValidBasin basin.now }
+    requires roll { IsRollOf basin.now.rights roll.now }
+    requires place { place < length basin.now.rights }
+    ensures value { result ≡ right_at basin.now place }
+    ensures within { result < length basin.now.rights }
 {
-    for link in 0..helped.len() {
-        helped[link] = None;
+    roll.by_seniority()[place]
+}
+
+/// The link of an instream right.
+fn instream_link(basin: &Basin, right: u32) -> Option<u32>
+    requires basin { IsValidBasin basin.now }
+    requires right { right < length basin.now.rights }
+    ensures { result ≡ instream_link basin.now right }
+{
+    match basin.rights[right as usize].kind {
+        RightKind::Instream { link } => Some(link),
+        RightKind::Diversion { .. } => None,
+        RightKind::Zone { .. } => None,
     }
 }
 
-/// For each link the most senior right that one more unit of carry on it would help, or none. A core is searched for
-/// each short right, and takes no memory.
-pub fn find_helped(
+/// Notes the right at a place of the order, if it is an instream right that is short. No other could be helped by a
+/// link of which no right was told at first.
+fn note_place(
     search: &mut ResidualSearch,
     basin: &Basin,
     roll: &Roll,
     month: &MonthRecord,
+    place: usize,
     helped: &mut [Option<u32>],
 )
     requires search { IsSearchOf basin.now search.old }
@@ -126,12 +205,41 @@ pub fn find_helped(
     requires roll { IsRollOf basin.now.rights roll.now }
     requires reaches { HasReaches basin.now month.now }
     requires room { HasRoomForAll basin.now month.now }
+    requires place { place < length basin.now.rights }
+    requires helped { AreHelpedTo basin.now month.now place helped.old }
+    ensures search { IsSearchOf basin.now search.new }
+    ensures helped { AreHelpedTo basin.now month.now (place + 1) helped.new }
+{
+    let right = right_at(basin, roll, place);
+    match instream_link(basin, right) {
+        Some(_) => note_right(search, basin, roll, month, place, helped),
+        None => {}
+    }
+}
+
+/// For each link the most senior right that one more unit of carry on it would help, or none. The right to which one
+/// more unit at each node would go tells it of most links. A core is searched for each short instream right, and no
+/// memory is taken.
+pub fn find_helped(
+    search: &mut ResidualSearch,
+    basin: &Basin,
+    roll: &Roll,
+    month: &MonthRecord,
+    next: &[Option<u32>],
+    helped: &mut [Option<u32>],
+)
+    requires search { IsSearchOf basin.now search.old }
+    requires plan { HasPlan basin.now month.now }
+    requires roll { IsRollOf basin.now.rights roll.now }
+    requires reaches { HasReaches basin.now month.now }
+    requires room { HasRoomForAll basin.now month.now }
+    requires next { AreNext basin.now month.now next.now }
     requires helped { length helped.old ≡ length basin.now.links }
     ensures search { IsSearchOf basin.now search.new }
     ensures helped { AreHelped basin.now month.now helped.new }
 {
-    clear(helped);
+    begin(basin, month, next, helped);
     for place in 0..basin.rights.len() {
-        note_right(search, basin, roll, month, place, helped);
+        note_place(search, basin, roll, month, place, helped);
     }
 }

@@ -5,8 +5,8 @@ ghost use Rattle.next_unit.specs.Laws.{SupplyHelpsExactlyInCore, CarryHelpsExact
 ghost use Rattle.next_unit.specs.Laws.{RightsHaveCores, SmallSupplyLeavesRoom};
 ghost use Rattle.next_unit.specs.Laws.{HistoriesShowWhereSupplyHelps, HistoriesShowWhereCarryHelps};
 ghost use Rattle.next_unit.specs.Laws.{NextUnitIsDecided, NextUnitGoesToOne, NextUnitGoesToNobody};
-ghost use Rattle.next_unit.specs.Laws.{FirstChangedIsNext, StandingBackGetsNothing, StandingBackIsCalled};
-ghost use Rattle.next_unit.specs.Laws.{NextUnitShowsInHistories, ShortTakersStandBackOrAreNext};
+ghost use Rattle.next_unit.specs.Laws.{FirstChangedIsNext, CurtailedGetNothing, CurtailedAreCalled};
+ghost use Rattle.next_unit.specs.Laws.{NextUnitShowsInHistories, ShortTakersAreCurtailedOrNext};
 
 /// The core of a short right is the least tight cut.
 pub fn core_is_least_tight_cut()
@@ -88,17 +88,17 @@ pub fn next_unit_shows_in_histories()
     ensures { NextUnitShowsInHistories }
 {}
 
-/// A right that must stand back for a senior got nothing.
-pub fn standing_back_gets_nothing()
-    ensures { StandingBackGetsNothing }
+/// A right that is curtailed for a senior got nothing.
+pub fn curtailed_get_nothing()
+    ensures { CurtailedGetNothing }
 {}
 
-/// The right for which another must stand back calls it.
-pub fn standing_back_is_called()
-    ensures { StandingBackIsCalled }
+/// The right for which another is curtailed calls it.
+pub fn curtailed_are_called()
+    ensures { CurtailedAreCalled }
 {}
 
-/// A short diversion or zone must stand back for a senior, or the next unit at its node is its own.
-pub fn short_takers_stand_back_or_are_next()
-    ensures { ShortTakersStandBackOrAreNext }
+/// A short diversion or zone is curtailed for a senior, or the next unit at its node is its own.
+pub fn short_takers_are_curtailed_or_next()
+    ensures { ShortTakersAreCurtailedOrNext }
 {}

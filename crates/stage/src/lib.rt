@@ -124,6 +124,21 @@ pub fn with(alloc: Global, text: &str, old: &str, new: &str) -> Result<String, F
     Ok(format!(in alloc; "{before}{new}{after}")?)
 }
 
+/// So many lines of a text, from its first on.
+pub fn front(alloc: Global, text: &str, count: u64) -> Result<String, Fail> {
+    let mut front = String::new(alloc);
+    let mut left = count;
+    for line in text.lines() {
+        if left == 0 {
+            break;
+        }
+        left -= 1;
+        front.push_str(line)?;
+        front.push_str("\n")?;
+    }
+    Ok(front)
+}
+
 /// A file of as many blanks.
 pub fn blanks(alloc: Global, count: usize) -> Result<Vec<u8>, Fail> {
     Ok(vec![in alloc; 32; count]?)

@@ -12,11 +12,21 @@ use stage::{NEVER, blanks, expect, files};
 use std::alloc::Global;
 use std::test::Fail;
 
-/// A text with other lines in the place of one. Lines count from 1.
-fn with_line(alloc: Global, text: &str, number: usize, put: &str) -> Result<String, Fail> {
+/// What is put in the place of the line at a place, or `None` where it stays. Lines count from 1, and places from 0.
+fn put_at<'a>(edits: &[(usize, &'a str)], place: usize) -> Option<&'a str> {
+    for (number, put) in edits {
+        if number.checked_sub(1) == Some(place) {
+            return Some(*put);
+        }
+    }
+    None
+}
+
+/// A text with other lines in the place of some. Lines count from 1.
+pub fn with_lines(alloc: Global, text: &str, edits: &[(usize, &str)]) -> Result<String, Fail> {
     let mut changed = String::new(alloc);
     for (place, line) in text.lines().enumerate() {
-        if number.checked_sub(1) == Some(place) {
+        if let Some(put) = put_at(edits, place) {
             changed.push_str(put)?;
         } else {
             changed.push_str(line)?;
@@ -26,12 +36,12 @@ fn with_line(alloc: Global, text: &str, number: usize, put: &str) -> Result<Stri
     Ok(changed)
 }
 
-/// Checks a result that is read in parts of so many bytes, and compares the answer.
-fn checks_in_parts(
+/// Asks `check` or `audit` of a result that is read in parts of so many bytes, and compares the answer.
+pub fn asks(
     alloc: Global,
+    command: &str,
     part: usize,
-    basin: &str,
-    series: &str,
+    (basin, series): (&str, &str),
     text: &str,
     want: (Status, &str),
 ) -> Result<(), Fail> {
@@ -41,7 +51,7 @@ fn checks_in_parts(
     let name = if series.is_empty() { "-" } else { "SERIES" };
     expect(
         alloc,
-        &["check", "BASIN", name, "RESULT"],
+        &[command, "BASIN", name, "RESULT"],
         set,
         (want.0, want.1, ""),
     )
@@ -55,18 +65,23 @@ fn checks(
     text: &str,
     want: (Status, &str),
 ) -> Result<(), Fail> {
-    checks_in_parts(alloc, 65_536, basin, series, text, want)
+    asks(alloc, "check", 65_536, (basin, series), text, want)
+}
+
+/// The answer that begins with this word, to a text that is accepted.
+pub fn accepted(alloc: Global, word: &str, text: &str) -> Result<String, Fail> {
+    let months = text
+        .lines()
+        .filter(|line| line.starts_with("month "))
+        .count();
+    Ok(format!(in alloc; "{word} {months}\n")?)
 }
 
 /// What the program writes is accepted.
 #[test]
 fn accepts_what_is_written(rt: HostRuntime) -> Result<(), Fail> {
     for (basin, text) in SERVED {
-        let months = text
-            .lines()
-            .filter(|line| line.starts_with("month "))
-            .count();
-        let answer = format!(in rt.alloc(); "checked {months}\n")?;
+        let answer = accepted(rt.alloc(), "checked", text)?;
         checks(rt.alloc(), basin, "", text, (Status::Done, answer.as_str()))?;
     }
     let yes = (Status::Done, "checked 2\n");
@@ -87,7 +102,7 @@ const BY_HAND: [((&str, &str), usize, &str); 4] = [
 #[test]
 fn accepts_other_cuts(rt: HostRuntime) -> Result<(), Fail> {
     for ((basin, text), line, put) in BY_HAND {
-        let changed = with_line(rt.alloc(), text, line, put)?;
+        let changed = with_lines(rt.alloc(), text, &[(line, put)])?;
         checks(
             rt.alloc(),
             basin,
@@ -101,7 +116,7 @@ fn accepts_other_cuts(rt: HostRuntime) -> Result<(), Fail> {
 
 /// A senior whose reach has the node of a junior: the text of the run, and one in which a smaller set shows the same
 /// shortage, so that nobody calls the junior.
-const HIDDEN: [&str; 3] = [
+pub const HIDDEN: [&str; 3] = [
     "format = 1\nfirst_month = \"1900-07\"\nmonths = 1\n\
      [[node]]\nname = \"top\"\ninflow = 50\n\
      [[node]]\nname = \"low\"\n\
@@ -275,7 +290,7 @@ done 1
 );
 
 /// A basin and its text, the number of a line, what is put in its place, and the answer.
-type Refuting = (
+pub type Refuting = (
     (&'static str, &'static str),
     usize,
     &'static str,
@@ -285,12 +300,12 @@ type Refuting = (
 /// Checks a text with one line changed, and compares the answer.
 fn refutes(alloc: Global, row: Refuting) -> Result<(), Fail> {
     let ((basin, text), line, put, answer) = row;
-    let changed = with_line(alloc, text, line, put)?;
+    let changed = with_lines(alloc, text, &[(line, put)])?;
     checks(alloc, basin, "", changed.as_str(), (Status::No, answer))
 }
 
 /// Lines behind the end, and lines that aren't of the form.
-const OUT_OF_FORM: [Refuting; 8] = [
+pub const OUT_OF_FORM: [Refuting; 8] = [
     // Behind the end.
     (JUNIOR_DRY, 19, "done 1\nx", "refuted 20 AfterEnd\n"),
     (JUNIOR_DRY, 19, "done 1\n\n", "refuted 20 AfterEnd\n"),
@@ -312,7 +327,7 @@ fn refutes_lines_out_of_form(rt: HostRuntime) -> Result<(), Fail> {
 }
 
 /// Sets of nodes that don't show a shortage, and sets that lack or aren't needed.
-const SHORTAGES: [Refuting; 10] = [
+pub const SHORTAGES: [Refuting; 10] = [
     // Sets that are no cuts, and cuts that aren't tight.
     (JUNIOR_DRY, 10, "", "refuted 9 CutLoose\n"),
     (JUNIOR_DRY, 11, "", "refuted 9 CutLoose\n"),
@@ -342,7 +357,7 @@ fn refutes_sets_of_nodes(rt: HostRuntime) -> Result<(), Fail> {
 }
 
 /// Callers, and what a month begins with.
-const OPENINGS: [Refuting; 12] = [
+pub const OPENINGS: [Refuting; 12] = [
     // Callers.
     (JUNIOR_DRY, 17, "", "refuted 17 Called\n"),
     (
@@ -374,7 +389,7 @@ fn refutes_callers_and_openings(rt: HostRuntime) -> Result<(), Fail> {
 }
 
 /// What was used of volumes, and wants that are judged by it.
-const VOLUMES: [Refuting; 9] = [
+pub const VOLUMES: [Refuting; 9] = [
     (OCTOBER, 22, "used farm 24\n", "refuted 22 Used\n"),
     (OCTOBER, 4, "used farm 1\n", "refuted 4 Used\n"),
     // Where the water year begins, the volume is given back.
@@ -409,7 +424,7 @@ fn refutes_what_was_used(rt: HostRuntime) -> Result<(), Fail> {
 }
 
 /// Flows, deliveries, balances and closings, and texts that stop.
-const FLOWS: [Refuting; 12] = [
+pub const FLOWS: [Refuting; 12] = [
     // Flows, deliveries and balances.
     (CANAL_1900, 6, "flow hd 57\n", "refuted 6 Flow\n"),
     (TWO_CANALS, 7, "flow pd 32\n", "refuted 7 Flow\n"),
@@ -446,7 +461,7 @@ fn refutes_flows_and_ends(rt: HostRuntime) -> Result<(), Fail> {
 
 /// Whole texts and the answers: two faults in one line, of which the first kind is answered, and in two lines, of which
 /// the first line is.
-const TWICE: [((&str, &str), &str, &str); 6] = [
+pub const TWICE: [((&str, &str), &str, &str); 6] = [
     (JUNIOR_DRY, "", "refuted 1 EarlyEnd\n"),
     (JUNIOR_DRY, "x\n", "refuted 1 BadLine\n"),
     // Less for the senior than there was: its set lets 50 in, and it got 40.
@@ -513,7 +528,7 @@ fn refutes_for_the_first_of_two_faults(rt: HostRuntime) -> Result<(), Fail> {
 }
 
 /// Lines of the ordinary basin's text that are changed: remainders, evaporation, callers and takes over two months.
-const ORDINARY_REFUTED: [(usize, &str, &str); 8] = [
+pub const ORDINARY_REFUTED: [(usize, &str, &str); 8] = [
     (5, "evap lake 441\n", "refuted 5 Evaporation\n"),
     (6, "return gauge 1\n", "refuted 6 Return\n"),
     (33, "called city canalco\n", "refuted 33 Called\n"),
@@ -527,7 +542,7 @@ const ORDINARY_REFUTED: [(usize, &str, &str); 8] = [
 #[test]
 fn refutes_in_later_months(rt: HostRuntime) -> Result<(), Fail> {
     for (line, put, answer) in ORDINARY_REFUTED {
-        let changed = with_line(rt.alloc(), ORDINARY_TEXT, line, put)?;
+        let changed = with_lines(rt.alloc(), ORDINARY_TEXT, &[(line, put)])?;
         checks(
             rt.alloc(),
             ORDINARY,
@@ -540,20 +555,21 @@ fn refutes_in_later_months(rt: HostRuntime) -> Result<(), Fail> {
 }
 
 /// How many bytes a part of a result has.
-const PARTS: [usize; 4] = [1, 2, 7, 65_536];
+pub const PARTS: [usize; 4] = [1, 2, 7, 65_536];
 
 #[test]
 fn answers_the_same_in_parts(rt: HostRuntime) -> Result<(), Fail> {
+    let ordinary = (ORDINARY, ORDINARY_SERIES);
     for part in PARTS {
         let alloc = rt.alloc();
         let one = (Status::Done, "checked 1\n");
-        checks_in_parts(alloc, part, JUNIOR_DRY.0, "", JUNIOR_DRY.1, one)?;
+        asks(alloc, "check", part, (JUNIOR_DRY.0, ""), JUNIOR_DRY.1, one)?;
         let yes = (Status::Done, "checked 2\n");
-        checks_in_parts(alloc, part, ORDINARY, ORDINARY_SERIES, ORDINARY_TEXT, yes)?;
+        asks(alloc, "check", part, ordinary, ORDINARY_TEXT, yes)?;
         for (line, put, answer) in ORDINARY_REFUTED {
-            let changed = with_line(alloc, ORDINARY_TEXT, line, put)?;
+            let changed = with_lines(alloc, ORDINARY_TEXT, &[(line, put)])?;
             let no = (Status::No, answer);
-            checks_in_parts(alloc, part, ORDINARY, ORDINARY_SERIES, changed.as_str(), no)?;
+            asks(alloc, "check", part, ordinary, changed.as_str(), no)?;
         }
     }
     Ok(())

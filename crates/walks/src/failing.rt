@@ -3,7 +3,7 @@ use crate::lakes::POOL;
 use basin_cli::Status;
 use stage::basins::{JUNIOR_SHORT, RIVER};
 use stage::ordinary::{ORDINARY, ORDINARY_SERIES};
-use stage::{NEVER, blanks, expect, files};
+use stage::{NEVER, blanks, expect, files, front};
 use std::alloc::Global;
 use std::test::Fail;
 
@@ -102,21 +102,6 @@ fn ends_the_same_where_err_fails(rt: HostRuntime) -> Result<(), Fail> {
         expect(rt.alloc(), words, set, (status, "", ""))?;
     }
     Ok(())
-}
-
-/// So many lines of a text, from its first on.
-fn front(alloc: Global, text: &str, count: u64) -> Result<String, Fail> {
-    let mut front = String::new(alloc);
-    let mut left = count;
-    for line in text.lines() {
-        if left == 0 {
-            break;
-        }
-        left -= 1;
-        front.push_str(line)?;
-        front.push_str("\n")?;
-    }
-    Ok(front)
 }
 
 /// Runs a basin, whose text has so many lines, once for each of them with its put failing, and once more.

@@ -1,6 +1,8 @@
-//! The tests of runs, checks, reports and trials, over the program's top call.
+//! The tests of runs, checks, audits, reports and trials, over the program's top call.
 #![tactic(auto)]
 
+#[cfg(test)]
+mod audits;
 #[cfg(test)]
 mod canals;
 #[cfg(test)]

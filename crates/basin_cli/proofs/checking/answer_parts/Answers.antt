@@ -1,14 +1,14 @@
 use Rattle.std.proofs.Common.{◌∙◌, subst, arith, ℕ, List, Option, length, length-take}
 use Rattle.std.specs.Prelude.{IfSome}
 use Rattle.water_edge.specs.Edge.{IsPart}
-use Rattle.basin_cli.proofs.Parts.{finished_whole, next_fed, refused_whole}
+use Rattle.basin_cli.proofs.Parts.{finished_whole, next_fed, refused_whole, still_can}
 use Rattle.basin_cli.proofs.checking.answer_parts.Goals as goal
 
 pub returns-then-count-eq0-clause-answer : goal.returns-then-count-eq0-clause-answer
 returns-then-count-eq0-clause-answer g c =
     let i = c.loop-count.invariant in
     rw (i.basin, i.series) at
-    (finished_whole (g.S.Shelf.told c.args.shelf.now c.args.name.now) c.loop-count.checker c.loop-count.from
+    (finished_whole c.args.question (g.S.Shelf.told c.args.shelf.now c.args.name.now) c.loop-count.checker c.loop-count.from
     c.in-Ok.count
     c.loop-count.part c.read_part.new.into c.finish.result c.if-count-eq0.true (omega (arith, i.part)) i.fed
     (subst (λ (told : Option (List ℕ)). IfSome told
@@ -20,7 +20,7 @@ pub returns-in-Err-feed-clause-answer : goal.returns-in-Err-feed-clause-answer
 returns-in-Err-feed-clause-answer g c =
     let i = c.loop-count.invariant in
     rw (i.basin, i.series) at
-    (refused_whole (g.S.Shelf.told c.args.shelf.now c.args.name.now) c.loop-count.checker c.loop-count.from
+    (refused_whole c.args.question (g.S.Shelf.told c.args.shelf.now c.args.name.now) c.loop-count.checker c.loop-count.from
     c.in-Ok.count
     c.loop-count.part c.read_part.new.into c.in-Err-feed.refuted i.fed
     (subst (λ (told : Option (List ℕ)). IfSome told
@@ -48,6 +48,7 @@ loop-count-preserved g c =
           (i.same.told c.args.name.now) read.part.1)
           fed.stands;
       good = fed.good;
+      can = still_can c.args.question c.loop-count.checker c.feed.new.self fed.audit i.can;
       left = omega (arith, fed.left, i.left, read.part.0, read.length, length-take c.in-Ok.count c.read_part.new.into);
       basin = fed.basin ∙ i.basin;
       series = fed.series ∙ i.series;

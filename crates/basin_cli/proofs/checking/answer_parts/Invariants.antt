@@ -2,6 +2,7 @@ use Rattle.std.proofs.Common.{◌≡◌, ◌+◌, ◌≤◌, length}
 use Rattle.std.specs.Prelude.{IfSome, None}
 use Rattle.cert_check.specs.Pieces.{bytes_left}
 use Rattle.water_edge.specs.Edge.{SameShelf}
+use Rattle.basin_cli.specs.Answer.{CanAnswer}
 use Rattle.basin_cli.proofs.Parts.{IsFed}
 use Rattle.basin_cli.proofs.checking.answer_parts.Given as goal
 
@@ -13,6 +14,7 @@ invariant-loop-count g l = record {
   part : length l.part ≡ 65536;
   fed : IfSome (g.S.Shelf.told l.fn.shelf l.name) (IsFed l.checker l.from);
   good : l.checker.refused ≡ None;
+  can : CanAnswer l.question l.checker;
   left : l.from + bytes_left l.checker ≤ bytes_left l.fn.checker;
   basin : l.checker.basin ≡ l.fn.checker.basin;
   series : l.checker.series ≡ l.fn.checker.series;

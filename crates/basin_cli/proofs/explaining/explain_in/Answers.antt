@@ -1,5 +1,5 @@
 use Rattle.water_model.specs.Hydrology.{run_month}
-use Rattle.basin_cli.proofs.Explained.{last_record, record_fits, record_reaches}
+use Rattle.basin_cli.proofs.Explained.{last_record, record_fits, record_plan, record_reaches}
 use Rattle.basin_cli.proofs.explaining.explain_in.Goals as goal
 
 pub answer-requires-clause-roll : goal.answer-requires-clause-roll
@@ -11,6 +11,15 @@ answer-requires-clause-month g c =
     rw (c.basin.ensures.value, solved.basin, c.month.ensures)
     (record_fits c.args.run.now.basin c.args.run.now.series (run_month c.args.run.now.basin c.args.index)
     c.solve_up_to.new.run.last c.requires.first.valid
+    (last_record c.args.run.now.basin c.args.run.now.series c.solve_up_to.new.run c.args.index solved.basin
+    solved.series solved.done solved.last))
+
+pub answer-requires-clause-plan : goal.answer-requires-clause-plan
+answer-requires-clause-plan g c =
+    let solved = c.solve_up_to.ensures in
+    rw (c.basin.ensures.value, solved.basin, c.month.ensures)
+    (record_plan c.args.run.now.basin c.args.run.now.series (run_month c.args.run.now.basin c.args.index)
+    c.solve_up_to.new.run.last c.requires.first.valid c.requires.first.fits
     (last_record c.args.run.now.basin c.args.run.now.series c.solve_up_to.new.run c.args.index solved.basin
     solved.series solved.done solved.last))
 

@@ -1,12 +1,11 @@
 use Rattle.std.proofs.Common.{rules, subst, ap, ◌∙◌, List, Option, ℕ}
 use Rattle.std.specs.Prelude.{IfSome}
-use Rattle.cert_check.specs.Whole.{text_verdict}
 use Rattle.water_edge.specs.Edge.{Rose}
 use Rattle.basin_cli.specs.Actions.{EndsChecking}
+use Rattle.basin_cli.specs.Answer.{LeavesAnswer}
 use Rattle.basin_cli.specs.Command.{named}
 use Rattle.basin_cli.specs.Ending.{status_of}
-use Rattle.basin_cli.specs.Out.{Leaves, MayWrite}
-use Rattle.basin_cli.specs.Outcome.{answer_line}
+use Rattle.basin_cli.specs.Out.{AsksNot, MayWrite}
 use Rattle.basin_cli.proofs.Judged.{checking_cause, checking_writes, ends_later}
 use Rattle.basin_cli.proofs.Stops.{rose_since}
 use Rattle.basin_cli.proofs.Unread.{unread}
@@ -15,8 +14,10 @@ use Rattle.basin_cli.proofs.top.do_check.Goals as goal
 pub returns-in-Err : goal.returns-in-Err
 returns-in-Err g c = λ count. search (
   rules,
-  unread (named c.args.inputs) c.args.result_name.now (g.S.Shelf.asked c.args.shelf.now)
-      (g.S.Shelf.asked c.read_inputs.new.shelf) c.in-Err.ending
+  unread
+      (AsksNot (named c.args.inputs) c.args.result_name.now (g.S.Shelf.asked c.args.shelf.now)
+      (g.S.Shelf.asked c.read_inputs.new.shelf))
+      c.in-Err.ending
       (λ _. c.read_inputs.ensures.asked c.args.result_name.now),
 )
 
@@ -35,21 +36,22 @@ returns g c = λ count.
     let new = g.K.Sink.taken c.check_file.new.out in
     record {
       cause =
-          checking_cause told files result b series how read write c.in-Ok.ensures.valid c.in-Ok.ensures.fits
+          checking_cause c.args.question told files result b series how read write c.in-Ok.ensures.valid c.in-Ok.ensures.fits
           c.in-Ok.ensures.loaded
-          (ends_later b series (told result) how mid read write (rose_since _ _ _ c.in-Ok.ensures.later)
-          (subst (λ (o : Option (List ℕ)). EndsChecking b series o how mid write) (c.in-Ok.ensures.same.told result)
+          (ends_later c.args.question b series (told result) how mid read write (rose_since _ _ _ c.in-Ok.ensures.later)
+          (subst (λ (o : Option (List ℕ)). EndsChecking c.args.question b series o how mid write) (c.in-Ok.ensures.same.told result)
           c.check_file.ensures.ends));
       can_be_told = search rules;
       writes =
-          checking_writes told files result b series how old new c.in-Ok.ensures.fits c.in-Ok.ensures.loaded
+          checking_writes c.args.question told files result b series how old new c.in-Ok.ensures.fits c.in-Ok.ensures.loaded
           (subst (λ (o : Option (List ℕ)). IfSome o (λ text. MayWrite (status_of how) →
-          Leaves (status_of how) (answer_line b (text_verdict b series text)) old new))
+          LeavesAnswer c.args.question b series text (status_of how) old new))
           (c.in-Ok.ensures.same.told result) c.check_file.ensures.leaves);
       out_stays = c.check_file.ensures.out_stays;
       handed = c.check_file.ensures.handed;
       unread =
-          unread files result (g.S.Shelf.asked c.args.shelf.now) (g.S.Shelf.asked c.check_file.new.shelf) how
+          unread
+          (AsksNot files result (g.S.Shelf.asked c.args.shelf.now) (g.S.Shelf.asked c.check_file.new.shelf)) how
           (λ e not_basin not_series. ap (λ s. g.S.Shelf.asked s result) (c.check_file.ensures.unread e)
           ∙ c.read_inputs.ensures.asked result not_basin not_series);
       idle = search rules;

@@ -20,7 +20,7 @@ returns g c =
           (rw c.as_bytes.ensures.value at c.explain_right.ensures.ends);
       can_be_told = search rules;
       writes =
-          asking_writes told files c.args.month right b series how _ _ c.in-Ok.ensures.fits c.in-Ok.ensures.loaded
+          asking_writes c.args.account told files c.args.month right b series how _ _ c.in-Ok.ensures.fits c.in-Ok.ensures.loaded
           (rw c.as_bytes.ensures.value at c.explain_right.ensures.answers);
       out_stays = c.explain_right.ensures.out_stays;
       handed = c.explain_right.ensures.handed;

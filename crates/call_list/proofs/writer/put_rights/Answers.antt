@@ -14,8 +14,8 @@ loop-right-init g c =
 
 pub put_line-requires : goal.put_line-requires
 put_line-requires g c =
-    rw c.requires.count (order_in_range c.args.calls.now.basin.rights c.by_seniority-order.result.now c.loop-right.right-index
-    c.by_seniority-order.ensures c.loop-right-test.true)
+    rw c.requires.count (order_in_range c.args.calls.now.basin.rights c.by_seniority-order.result.now
+    c.loop-right.right-index c.by_seniority-order.ensures c.loop-right-test.true)
 
 pub returns-in_err-put_line-clause-text : goal.returns-in_err-put_line-clause-text
 returns-in_err-put_line-clause-text g c =
@@ -34,4 +34,10 @@ loop-right-preserved g c =
 
 pub returns-clause-text : goal.returns-clause-text
 returns-clause-text g c =
-    SoFar-whole c.loop-right.invariant (omega (arith, ap length c.requires.order, ap length c.by_seniority-order.ensures, c.loop-right-test.false))
+    SoFar-whole c.loop-right.invariant
+    (omega (
+      arith,
+      ap length c.requires.order,
+      ap length c.by_seniority-order.ensures,
+      c.loop-right-test.false,
+    ))

@@ -1,32 +1,21 @@
-use Rattle.std.proofs.Common.{ℕ, List, [], ◌∷◌, refl, subst}
-use Rattle.std.specs.Prelude.{slice_index}
+use Rattle.std.proofs.Common.{List, [], ◌∷◌, subst}
 use Rattle.water_edge.specs.Edge.{Puts}
-use Rattle.water_edge.proofs.Puts.{Puts-second, Puts-third}
-use Rattle.cut_book.specs.Shortages.{ShortageSeen, shortage, bytes_of, terms_of}
+use Rattle.water_edge.proofs.Puts.{Puts-first}
+use Rattle.std.specs.List.{flat_map}
+use Rattle.cut_cert.specs.Sets.{cut_at}
+use Rattle.cut_book.specs.Book.{account}
+use Rattle.cut_book.specs.Entries.{whole_line}
 use Rattle.cut_book.specs.declared.entry.Entry.{Entry}
-use Rattle.cut_book.specs.declared.entry.Entry.TheVariants as line
-use Rattle.cut_book.proofs.Written.{book_pieces}
 use Rattle.cut_book.proofs.writer.put_book.Goals as goal
-
-pub returns-in_err-put_terms-clause-text : goal.returns-in_err-put_terms-clause-text
-returns-in_err-put_terms-clause-text g c =
-    let s : ShortageSeen = shortage c.args.basin.now c.args.roll.now c.args.month.now c.args.right in
-    let sum : Entry = line.Sum (slice_index s.month.delivered s.right) in
-    let old = g.K.Sink.taken c.args.sink.now in
-    let new = g.K.Sink.taken c.put_terms.new.sink in
-    subst (λ (bytes : List ℕ). Puts old new c.from_residual-in_err-put_terms.result bytes)
-    (book_pieces s c.why.result sum c.why.ensures.value refl c.requires.tight)
-    (Puts-second old (g.K.Sink.taken c.put_entry.new.sink) new c.from_residual-in_err-put_terms.result
-    (bytes_of s (c.why.result ∷ [])) (bytes_of s (terms_of s)) (bytes_of s (sum ∷ []))
-    c.from_residual-in_err-put_terms.ensures.0 c.in_ok-put_entry.ensures.text c.in_err-put_terms.ensures.text)
 
 pub returns-clause-text : goal.returns-clause-text
 returns-clause-text g c =
-    let s : ShortageSeen = shortage c.args.basin.now c.args.roll.now c.args.month.now c.args.right in
+    let b = c.args.basin.now in
+    let m = c.args.month.now in
+    let lines : List Entry = account b m c.args.right (cut_at m.cuts c.args.right) in
     let old = g.K.Sink.taken c.args.sink.now in
-    let new = g.K.Sink.taken c.put_entry-2.new.sink in
-    subst (λ (bytes : List ℕ). Puts old new c.put_entry-2.result bytes)
-    (book_pieces s c.why.result c.sum.result c.why.ensures.value c.sum.ensures c.requires.tight)
-    (Puts-third old (g.K.Sink.taken c.put_entry.new.sink) (g.K.Sink.taken c.put_terms.new.sink) new c.put_entry-2.result
-    (bytes_of s (c.why.result ∷ [])) (bytes_of s (terms_of s)) (bytes_of s (c.sum.result ∷ []))
-    c.in_ok-put_entry.ensures.text c.in_ok-put_terms.ensures.text c.put_entry-2.ensures.text)
+    let new = g.K.Sink.taken c.put_account.new.sink in
+    subst (λ (why : Entry). Puts old new c.put_account.result (flat_map (whole_line b) (why ∷ lines)))
+    c.why.ensures.value
+    (Puts-first (whole_line b) c.why.result lines old (g.K.Sink.taken c.put_entry.new.sink) new c.put_account.result
+    c.in_ok-put_entry.ensures.text c.put_account.ensures.text)

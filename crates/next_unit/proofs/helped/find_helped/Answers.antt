@@ -1,16 +1,10 @@
 use Rattle.std.proofs.Common.{arith}
 use Rattle.rights_roll.proofs.Seniors.{by_seniority_order}
-use Rattle.next_unit.proofs.Helping.{all_helped, none_helped}
+use Rattle.next_unit.proofs.Helping.{all_helped}
 use Rattle.next_unit.proofs.helped.find_helped.Goals as goal
-
-pub loop-place-init : goal.loop-place-init
-loop-place-init c = record {
-  search = c.requires.search;
-  helped = none_helped c.args.basin.now c.args.month.now c.clear.new.helped (omega arith) c.clear.ensures;
-}
 
 pub returns-clause-helped : goal.returns-clause-helped
 returns-clause-helped c =
     all_helped c.args.basin.now c.args.month.now c.loop-place.place c.loop-place.helped
     (by_seniority_order c.args.basin.now.rights c.requires.plan.valid.roll.strict) (omega arith)
-    c.loop-place.invariant.helped (omega arith)
+    c.loop-place.invariant.helped

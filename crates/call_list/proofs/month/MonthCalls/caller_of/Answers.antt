@@ -1,4 +1,4 @@
-use Rattle.std.proofs.Common.{◌≡◌, ℕ, Option, Some, sym, ◌∙◌, subst, arith, ap}
+use Rattle.std.proofs.Common.{◌≡◌, ℕ, Option, Some, sym, ◌∙◌, subst, arith}
 use Rattle.std.proofs.lemmas.Option.{get_or_from_slice_get}
 use Rattle.call_list.specs.Found.{curtailed_for}
 use Rattle.call_list.specs.MonthsCalls.{CallsSeen}
@@ -11,6 +11,9 @@ returns-then-is_senior_to-clause-value c =
     subst (λ (v : CallsSeen). some ≡ curtailed_for v.basin v.month v.found.next c.args.right) c.self.view_is
     (sym (curtailed_by c.self.inside.basin.now c.self.inside.month.now c.self.inside.next.now c.args.right
     c.in_ok-node.node c.in_ok-caller.caller
-    (omega (arith, get_or_from_slice_get c.self.inside.month.now.want c.args.right c.index.result.now 0 c.index.ensures))
+    (omega (
+      arith,
+      get_or_from_slice_get c.self.inside.month.now.want c.args.right c.index.result.now 0 c.index.ensures,
+    ))
     (sym c.taking_node.ensures.value ∙ c.in_ok-node.was) c.in_ok-caller.was
     (sym c.is_senior_to.ensures ∙ c.if-is_senior_to.true)))

@@ -1,0 +1,97 @@
+-- A text is written month by month: its head, the lines of each month, and its tail.
+use Rattle.std.proofs.Common.{◌≡◌, ℕ, ◌+◌, ◌-◌, ◌≤◌, sym, ap, ◌∙◌, subst, arith, inl, inr, List, [], ◌∷◌, ◌++◌}
+use Rattle.std.proofs.Common.{length, take, drop, Option, Result, length-append, append_assoc, append-nil}
+use Rattle.std.specs.Io.KnownBytes.{Appends}
+use Rattle.std.specs.List.{flat_map}
+use Rattle.std.proofs.KnownBytes.{Appends-trans}
+use Rattle.std.proofs.lemmas.Grind.{flat_map-append}
+use Rattle.std.proofs.lemmas.List.{take-append-drop, take-append-le}
+use Rattle.std.proofs.Math.Seq.{take-append-add}
+use Rattle.water_edge.proofs.Puts.{PutsFront}
+use Rattle.water_edge.specs.Edge.{Puts}
+use Rattle.basin_cli.specs.Listed.{IsFrontOf, begun_with}
+use Rattle.basin_cli.proofs.Written.{all_but_last, front_behind}
+
+-- the lines of one month more
+pub begun_more : {X : Type 0} (head : List ℕ) (lines : X → List ℕ) (months : List X) (e : X) →
+    begun_with head lines (months ++ e ∷ []) ≡ begun_with head lines months ++ lines e
+begun_more head lines months e =
+    ap (λ text. head ++ text)
+    (flat_map-append lines months (e ∷ []) ∙ ap (λ text. flat_map lines months ++ text) (append-nil (lines e)))
+    ∙ sym (append_assoc head (flat_map lines months) (lines e))
+
+-- before the first month stands the head
+pub begun_none : {X : Type 0} (head : List ℕ) (lines : X → List ℕ) → begun_with head lines [] ≡ head
+begun_none head lines = append-nil head
+
+pub month_begun : {X : Type 0} (head : List ℕ) (lines : X → List ℕ) (months : List X) (e : X)
+    (start mid now : Option (List ℕ)) →
+    Appends start mid (begun_with head lines months) → Appends mid now (lines e) →
+    Appends start now (begun_with head lines (months ++ e ∷ []))
+month_begun head lines months e start mid now before puts =
+    subst (λ bytes. Appends start now bytes) (sym (begun_more head lines months e))
+    (Appends-trans start mid now (begun_with head lines months) (lines e) before puts)
+
+pub head_begun : {X : Type 0} (head : List ℕ) (lines : X → List ℕ) (start now : Option (List ℕ)) →
+    Appends start now head → Appends start now (begun_with head lines [])
+head_begun head lines start now puts = subst (λ bytes. Appends start now bytes) (sym (begun_none head lines)) puts
+
+-- a front of the lines of a month was put
+pub month_front : {X : Type 0} (head tail : List ℕ) (lines : X → List ℕ) (months : List X) (e : X) (are_all : Type 0)
+    (start mid now : Option (List ℕ)) →
+    Appends start mid (begun_with head lines months) → PutsFront mid now (lines e) →
+    IsFrontOf head tail lines (months ++ e ∷ []) are_all start now
+month_front head tail lines months e are_all start mid now before front = record {
+  count = length (begun_with head lines months) + front.0;
+  whole = λ _. rw (all_but_last months e) (omega arith);
+  last = inr (rw (begun_more head lines months e)
+      (omega (arith, front.1, length-append (begun_with head lines months) (lines e))));
+  text =
+      rw (begun_more head lines months e)
+      (front_behind start mid now (begun_with head lines months) (lines e) tail front.0 front.1 before front.2);
+}
+
+-- a front of the head
+pub head_front : {X : Type 0} (head tail : List ℕ) (lines : X → List ℕ) (are_all : Type 0)
+    (start now : Option (List ℕ)) →
+    PutsFront start now head → IsFrontOf head tail lines [] are_all start now
+head_front head tail lines are_all start now front = record {
+  count = front.0;
+  whole = λ some. absurd (omega (arith, some));
+  last = inr (rw (begun_none head lines) front.1);
+  text = rw (begun_none head lines) (rw (take-append-le front.0 head tail front.1) front.2);
+}
+
+-- what is begun with some of the months is no longer than with all
+begun_grows : {X : Type 0} (head : List ℕ) (lines : X → List ℕ) (months : List X) (n : ℕ) →
+    length (begun_with head lines (take n months)) ≤ length (begun_with head lines months)
+begun_grows head lines months n =
+    omega (
+      arith,
+      ap (λ es. length (begun_with head lines es)) (sym (take-append-drop n months)),
+      ap length (ap (λ text. head ++ text) (flat_map-append lines (take n months) (drop n months))
+          ∙ sym (append_assoc head (flat_map lines (take n months)) (flat_map lines (drop n months)))),
+      length-append (begun_with head lines (take n months)) (flat_map lines (drop n months)),
+    )
+
+-- a front of the tail
+pub tail_front : {X : Type 0} (head tail : List ℕ) (lines : X → List ℕ) (months : List X) (are_all : Type 0)
+    (start mid now : Option (List ℕ)) → are_all →
+    Appends start mid (begun_with head lines months) → PutsFront mid now tail →
+    IsFrontOf head tail lines months are_all start now
+tail_front head tail lines months are_all start mid now all before front = record {
+  count = length (begun_with head lines months) + front.0;
+  whole = λ _. (let less = begun_grows head lines months (length months - 1) in omega (arith, less));
+  last = inl all;
+  text = rw (take-append-add (begun_with head lines months) tail front.0)
+      (Appends-trans start mid now (begun_with head lines months) (take front.0 tail) before front.2);
+}
+
+-- a text of three things that are others by name alone
+pub same_text : {X Y Z E : Type 0} (text : X → Y → Z → List ℕ) (x a : X) (y b : Y) (z c : Z)
+    (old new : Option (List ℕ)) (r : Result (Unit {0}) E) → x ≡ a → y ≡ b → z ≡ c → Puts old new r (text x y z) →
+    Puts old new r (text a b c)
+same_text {X = X} {Y = Y} {Z = Z} text x a y b z c old new r one two three puts =
+    subst (λ (k : X). Puts old new r (text k b c)) one
+    (subst (λ (k : Y). Puts old new r (text x k c)) two
+    (subst (λ (k : Z). Puts old new r (text x y k)) three puts))

@@ -1,0 +1,116 @@
+-- The set of a right that cuts keep.
+use Rattle.std.proofs.Common.{◌≡◌, ℕ, ◌+◌, ◌<◌, ◌≤◌, Bool, true, false, refl, sym, ◌∙◌, ap, subst, arith}
+use Rattle.std.proofs.Common.{List, [], length, replicate, inl, inr}
+use Rattle.std.proofs.lemmas.Bool.{cases_eq}
+use Rattle.std.proofs.lemmas.List.{ext_get_or, get_or-set_same, get_or-set_other, length-map}
+use Rattle.std.proofs.lemmas.List.{length-replicate, length-set}
+use Rattle.std.specs.Prelude.{slice_set, unwrap_or, IfSome, Option, Some, None}
+use Rattle.water_model.specs.CutSets.{CutSets, set_of, with_set, without_sets}
+use Rattle.water_model.specs.Lookups.{has}
+use Rattle.water_model.specs.declared.types.Basin.{Basin}
+use Rattle.water_model.specs.declared.types.MonthRecord.{MonthRecord}
+use Rattle.water_model.proofs.SetEntries.{emptied, set_of_with}
+use Rattle.plan_residual.proofs.Queues.{nowhere}
+use Rattle.plan_residual.specs.Core.{IsCore}
+use Rattle.call_list.specs.Helpers.{HoldsCore, HoldsFront, HoldsSet}
+
+-- before the first node
+pub front_none : (c : CutSets) (r : ℕ) (set : List Bool) → length set ≡ c.nodes →
+    set_of c r ≡ Some (replicate c.nodes false) → HoldsFront c c r set 0
+front_none c r set sized is = record {
+  front = replicate c.nodes false;
+  holds = record { rights = refl; nodes = refl; is = is };
+  sized = length-replicate c.nodes false ∙ sym sized;
+  told = λ n l. absurd (omega arith);
+  rest = λ n l. nowhere c.nodes n;
+}
+
+-- one node more that the set doesn't have
+pub front_skip : (before now : CutSets) (r : ℕ) (set : List Bool) (k : ℕ) → has set k ≡ false →
+    HoldsFront before now r set k → HoldsFront before now r set (k + 1)
+front_skip before now r set k none so = record {
+  front = so.front;
+  holds = so.holds;
+  sized = so.sized;
+  told = λ n l. elim (cases_eq n k) [
+    | inl same ↦ ap (has so.front) same ∙ (so.rest k (omega arith) ∙ (sym none ∙ ap (has set) (sym same)))
+    | inr other ↦ so.told n (omega arith)
+  ];
+  rest = λ n l. so.rest n (omega arith);
+}
+
+-- and one that it has
+pub front_more : (before now next : CutSets) (r : ℕ) (set : List Bool) (k : ℕ) → r < length before.sets →
+    k < length set → has set k ≡ true → HoldsFront before now r set k →
+    IfSome (set_of now r) (λ old. next ≡ with_set now r (Some (slice_set old k true))) →
+    HoldsFront before next r set (k + 1)
+front_more before now next r set k l below on so added = record {
+  front = slice_set so.front k true;
+  holds = record {
+    rights = rw done (length-set now.sets r (Some (slice_set so.front k true)) ∙ so.holds.rights);
+    nodes = rw done so.holds.nodes;
+    is = rw done (set_of_with now r (Some (slice_set so.front k true)) (omega (arith, so.holds.rights)));
+  };
+  sized = length-set so.front k true ∙ so.sized;
+  told = λ n m. elim (cases_eq n k) [
+    | inl same ↦
+        ap (has (slice_set so.front k true)) same
+        ∙ (get_or-set_same so.front k true false (omega (arith, so.sized)) ∙ (sym on ∙ ap (has set) (sym same)))
+    | inr other ↦ get_or-set_other so.front k n true false other ∙ so.told n (omega arith)
+  ];
+  rest = λ n m.
+      get_or-set_other so.front k n true false (λ same. absurd (omega arith)) ∙ so.rest n (omega arith);
+}
+  where
+    done : next ≡ with_set now r (Some (slice_set so.front k true))
+    done = subst (λ (o : Option (List Bool)). IfSome o (λ old. next ≡ with_set now r (Some (slice_set old k true))))
+        so.holds.is added
+
+-- all nodes
+pub front_whole : (before now : CutSets) (r : ℕ) (set : List Bool) (k : ℕ) → length set ≤ k →
+    HoldsFront before now r set k → HoldsSet before now r set
+front_whole before now r set k all so = subst (λ (xs : List Bool). HoldsSet before now r xs) same so.holds
+  where
+    same : so.front ≡ set
+    same = ext_get_or false so.front set so.sized (λ i l. so.told i (omega (arith, so.sized)))
+
+-- there are as many rights where all sets were given up
+pub cleared_size : (c d : CutSets) → d ≡ without_sets c → length d.sets ≡ length c.sets
+cleared_size c d cleared = rw cleared (length-map {B = Option (List Bool)} c.sets (λ _. None))
+
+-- and a right was then given the empty set
+pub begun : (c d e : CutSets) (r : ℕ) → d ≡ without_sets c → e ≡ with_set d r (Some (replicate d.nodes false)) →
+    r < length c.sets → HoldsSet c e r (replicate e.nodes false)
+begun c d e r cleared given l = record {
+  rights = rw given (length-set d.sets r (Some (replicate d.nodes false)) ∙ cleared_size c d cleared);
+  nodes = ap (λ (x : CutSets). x.nodes) given ∙ ap (λ (x : CutSets). x.nodes) cleared;
+  is = rw given (set_of_with d r (Some (replicate d.nodes false)) (omega (arith, cleared_size c d cleared)));
+}
+
+-- no right has a set where all were given up
+pub cleared_none : (c d : CutSets) (r : ℕ) → d ≡ without_sets c → set_of d r ≡ None
+cleared_none c d r cleared = rw cleared (emptied c.sets r)
+
+-- the later set stays
+pub later_set : (c d e : CutSets) (r : ℕ) (before set : List Bool) → HoldsSet c d r before → HoldsSet d e r set →
+    HoldsSet c e r set
+later_set c d e r before set first later = record {
+  rights = later.rights ∙ first.rights;
+  nodes = later.nodes ∙ first.nodes;
+  is = later.is;
+}
+
+-- a core that is kept
+pub core_kept : (b : Basin) (m : MonthRecord) (r : ℕ) (old new : CutSets) (core : List Bool) → r < length b.rights →
+    length old.sets ≡ length b.rights → old.nodes ≡ length b.nodes → IsCore b m r core → HoldsSet old new r core →
+    HoldsCore b m r new
+core_kept b m r old new core l rights nodes is_core held = record {
+  cut = record {
+    in_range = l;
+    rights = held.rights ∙ rights;
+    nodes = held.nodes ∙ nodes;
+    held = rw held.is refl;
+  };
+  is_core = subst (λ (set : List Bool). IsCore b m r set)
+      (sym (ap (λ (o : Option (List Bool)). unwrap_or o []) held.is)) is_core;
+}

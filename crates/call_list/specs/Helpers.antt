@@ -1,0 +1,39 @@
+-- What contracts see of a finder of help.
+use Rattle.std.specs.Prelude.{◌≡◌, ℕ, ◌<◌, ◌≤◌, Bool, false, List, length, Some}
+use Rattle.cut_cert.specs.Sets.{HasCut, cut_at}
+use Rattle.water_model.specs.CutSets.{CutSets, set_of}
+use Rattle.water_model.specs.Lookups.{has}
+use Rattle.water_model.specs.declared.types.Basin.{Basin}
+use Rattle.water_model.specs.declared.types.MonthRecord.{MonthRecord}
+use Rattle.plan_residual.specs.Core.{IsCore}
+use Rattle.plan_residual.specs.Rows.{SearchSeen, IsSearchOf}
+
+-- its search through the network, and the cuts in which it keeps a core
+pub record HelpFinderSeen : Type 0 where
+  pub search : SearchSeen
+  pub cuts : CutSets
+
+-- a finder for the months of a basin
+pub record IsHelpFinderOf (b : Basin) (finder : HelpFinderSeen) : Type 0 where
+  pub search : IsSearchOf b finder.search
+  pub rights : length finder.cuts.sets ≡ length b.rights
+  pub nodes : finder.cuts.nodes ≡ length b.nodes
+
+-- the set of a right in these cuts is its core
+pub record HoldsCore (b : Basin) (m : MonthRecord) (right : ℕ) (cuts : CutSets) : Type 0 where
+  pub cut : HasCut b cuts right
+  pub is_core : IsCore b m right (cut_at cuts right)
+
+-- cuts of as many rights and nodes have this set of a right
+pub record HoldsSet (before now : CutSets) (right : ℕ) (set : List Bool) : Type 0 where
+  pub rights : length now.sets ≡ length before.sets
+  pub nodes : now.nodes ≡ before.nodes
+  pub is : set_of now right ≡ Some set
+
+-- the set of a right has its first nodes as this set has them, and no other yet
+pub record HoldsFront (before now : CutSets) (right : ℕ) (set : List Bool) (done : ℕ) : Type 0 where
+  pub front : List Bool
+  pub holds : HoldsSet before now right front
+  pub sized : length front ≡ length set
+  pub told : (n : ℕ) → n < done → has front n ≡ has set n
+  pub rest : (n : ℕ) → done ≤ n → has front n ≡ false

@@ -1,0 +1,263 @@
+//! Where one more unit would help a short right, one `put` for each line.
+ghost use Rattle.std.specs.Prelude.{◌≡◌, ℕ, ◌<◌, ◌≤◌, Some, List, IfOk, IfSome, IsErr, false, length, replicate, slice_index};
+ghost use Rattle.std.specs.List.{flat_map};
+ghost use Rattle.std.specs.Option.{option_to_list};
+ghost use Rattle.cut_cert.specs.Sets.{HasCut, cut_at};
+ghost use Rattle.rights_roll.specs.Rolls.{IsRollOf};
+ghost use Rattle.water_edge.specs.Edge.{HasCause, Puts};
+ghost use Rattle.water_model.specs.CutSets.{set_of};
+ghost use Rattle.water_model.specs.History.{HasReaches, IsShort};
+ghost use Rattle.water_model.specs.Places.{places_of};
+ghost use Rattle.water_model.specs.Valid.{IsValidBasin};
+ghost use Rattle.result_text.specs.Range.{FitsText};
+ghost use Rattle.plan_residual.specs.Residual.{HasPlan};
+ghost use Rattle.call_list.specs.Entries.{IsOfBasin, whole_line};
+ghost use Rattle.call_list.specs.Helping.{IsHelpingText, helping_lines, link_lines, node_lines};
+ghost use Rattle.call_list.specs.Helpers.{HoldsCore, HoldsSet, IsHelpFinderOf};
+
+use crate::entry::Entry;
+use crate::writer::put_entry;
+use cut_book::put_account;
+use cut_cert::holds;
+use plan_residual::ResidualSearch;
+use rights_roll::roll::Roll;
+use std::alloc::{AllocError, Global};
+use std::marker::Model;
+use water_edge::{Sink, SinkFailed};
+use water_model::cut_list::CutList;
+use water_model::types::{Basin, MonthRecord};
+
+/// What it takes to tell where one more unit would help a right: the search through a month's residual network, and
+/// cuts that keep the core that was found. All memory for the basin's months is taken when it is opened.
+#[derive(Drop)]
+pub struct HelpFinder {
+    search: ResidualSearch,
+    cuts: CutList,
+}
+
+impl Model for HelpFinder {
+    ghost use Rattle.call_list.specs.Helpers.{HelpFinderSeen};
+
+    ghost Value = { HelpFinderSeen };
+
+    ghost view = { λ f. record { search = f.search; cuts = f.cuts } };
+}
+
+/// Adds the nodes of a set to a right's empty one.
+fn mark(cuts: &mut CutList, right: u32, set: &[bool])
+    requires right { right < length cuts.old.sets }
+    requires nodes { length set.now ≡ cuts.old.nodes }
+    requires few { length set.now ≤ 2000 }
+    requires empty { set_of cuts.old right ≡ Some (replicate cuts.old.nodes false) }
+    ensures { HoldsSet cuts.old cuts.new right set.now }
+{
+    for node in 0..set.len() {
+        if set[node] {
+            cuts.add(right, node as u32);
+        }
+    }
+}
+
+/// Keeps a set as a right's, and gives up all others.
+fn keep(cuts: &mut CutList, right: u32, set: &[bool])
+    requires right { right < length cuts.old.sets }
+    requires nodes { length set.now ≡ cuts.old.nodes }
+    requires few { length set.now ≤ 2000 }
+    ensures { HoldsSet cuts.old cuts.new right set.now }
+{
+    cuts.clear();
+    cuts.begin(right);
+    mark(cuts, right, set);
+}
+
+impl HelpFinder {
+    /// Takes the memory for a basin. Refused only where memory runs out; no other call takes memory.
+    pub fn open(alloc: Global, basin: &Basin) -> Result<HelpFinder, AllocError>
+        requires { IsValidBasin basin.now }
+        ensures { IfOk result (IsHelpFinderOf basin.now) }
+    {
+        let search = ResidualSearch::open(alloc, basin)?;
+        let cuts = CutList::open(alloc, basin.rights.len() as u32, basin.nodes.len() as u32)?;
+        Ok(HelpFinder { search, cuts })
+    }
+
+    /// Finds the core of a right, and keeps it as the right's set.
+    fn find_core(&mut self, basin: &Basin, roll: &Roll, month: &MonthRecord, right: u32)
+        requires finder { IsHelpFinderOf basin.now self.old }
+        requires plan { HasPlan basin.now month.now }
+        requires roll { IsRollOf basin.now.rights roll.now }
+        requires right { right < length basin.now.rights }
+        ensures finder { IsHelpFinderOf basin.now self.new }
+        ensures core { HoldsCore basin.now month.now right self.new.cuts }
+    {
+        self.search.find_core(basin, roll, month, right);
+        keep(&mut self.cuts, right, self.search.core());
+    }
+
+    /// The cuts that keep the core which was found last.
+    fn cuts(&self) -> &CutList
+        ensures { result.now ≡ self.now.cuts }
+    {
+        &self.cuts
+    }
+}
+
+/// The line of a node, if it is in the right's core.
+fn node_line(basin: &Basin, core: &CutList, right: u32, node: u32) -> Option<Entry>
+    requires core { HasCut basin.now core.now right }
+    requires node { node < length basin.now.nodes }
+    ensures lines { option_to_list result ≡ node_lines (cut_at core.now right) node }
+    ensures named { IfSome result (IsOfBasin basin.now) }
+{
+    if holds(core, right, node) {
+        Some(Entry::At { node })
+    } else {
+        None
+    }
+}
+
+/// The line of a link, if it leads from outside the right's reach into its core.
+fn link_line(basin: &Basin, reach: &CutList, core: &CutList, right: u32, link: u32) -> Option<Entry>
+    requires basin { IsValidBasin basin.now }
+    requires reach { HasCut basin.now reach.now right }
+    requires core { HasCut basin.now core.now right }
+    requires link { link < length basin.now.links }
+    ensures lines { option_to_list result
+        ≡ link_lines basin.now (cut_at reach.now right) (cut_at core.now right) link }
+    ensures named { IfSome result (IsOfBasin basin.now) }
+{
+    let ends = &basin.links[link as usize];
+    if !holds(reach, right, ends.from) && holds(core, right, ends.to) {
+        Some(Entry::Carry { link })
+    } else {
+        None
+    }
+}
+
+/// Puts a line, if there is one.
+fn put_line<K: Sink>(sink: &mut K, basin: &Basin, line: Option<Entry>) -> Result<(), SinkFailed>
+    requires basin { IsValidBasin basin.now }
+    requires line { IfSome line (IsOfBasin basin.now) }
+    ensures text { Puts (K.taken sink.old) (K.taken sink.new) result
+        (flat_map (whole_line basin.now) (option_to_list line)) }
+    ensures cause { HasCause (K.faults sink.old) (K.faults sink.new) (IsErr result) }
+{
+    match line {
+        Some(entry) => put_entry(sink, basin, entry),
+        None => Ok(()),
+    }
+}
+
+/// Puts the lines of the nodes of a right's core.
+fn put_nodes<K: Sink>(
+    sink: &mut K,
+    basin: &Basin,
+    core: &CutList,
+    right: u32,
+) -> Result<(), SinkFailed>
+    requires basin { IsValidBasin basin.now }
+    requires core { HasCut basin.now core.now right }
+    ensures text { Puts (K.taken sink.old) (K.taken sink.new) result
+        (flat_map (whole_line basin.now)
+        (flat_map (node_lines (cut_at core.now right)) (places_of basin.now.nodes))) }
+    ensures cause { HasCause (K.faults sink.old) (K.faults sink.new) (IsErr result) }
+{
+    for node in 0..basin.nodes.len() as u32 {
+        put_line(sink, basin, node_line(basin, core, right, node))?;
+    }
+    Ok(())
+}
+
+/// Puts the lines of the links that lead from outside a right's reach into its core.
+fn put_links<K: Sink>(
+    sink: &mut K,
+    basin: &Basin,
+    reach: &CutList,
+    core: &CutList,
+    right: u32,
+) -> Result<(), SinkFailed>
+    requires basin { IsValidBasin basin.now }
+    requires reach { HasCut basin.now reach.now right }
+    requires core { HasCut basin.now core.now right }
+    ensures text { Puts (K.taken sink.old) (K.taken sink.new) result
+        (flat_map (whole_line basin.now)
+        (flat_map (link_lines basin.now (cut_at reach.now right) (cut_at core.now right))
+        (places_of basin.now.links))) }
+    ensures cause { HasCause (K.faults sink.old) (K.faults sink.new) (IsErr result) }
+{
+    for link in 0..basin.links.len() as u32 {
+        put_line(sink, basin, link_line(basin, reach, core, right, link))?;
+    }
+    Ok(())
+}
+
+/// The first line: what a right got and wanted.
+fn first_line(month: &MonthRecord, right: u32) -> Entry
+    requires delivered { right < length month.now.delivered }
+    requires want { right < length month.now.want }
+    ensures { result ≡ Entry.Where month.now.month right
+        (slice_index month.now.delivered right) (slice_index month.now.want right) }
+{
+    Entry::Where {
+        month: month.month,
+        right,
+        amount: month.delivered[right as usize],
+        want: month.want[right as usize],
+    }
+}
+
+/// Puts what a right got and wanted, the nodes of its core, and the links that lead from outside its reach into that.
+fn put_places<K: Sink>(
+    sink: &mut K,
+    basin: &Basin,
+    month: &MonthRecord,
+    core: &CutList,
+    right: u32,
+) -> Result<(), SinkFailed>
+    requires basin { IsValidBasin basin.now }
+    requires month { FitsText basin.now month.now }
+    requires reach { HasCut basin.now month.now.cuts right }
+    requires core { HasCut basin.now core.now right }
+    ensures text { Puts (K.taken sink.old) (K.taken sink.new) result
+        (flat_map (whole_line basin.now)
+        (helping_lines basin.now month.now right (cut_at month.now.cuts right) (cut_at core.now right))) }
+    ensures cause { HasCause (K.faults sink.old) (K.faults sink.new) (IsErr result) }
+{
+    put_entry(sink, basin, first_line(month, right))?;
+    put_nodes(sink, basin, core, right)?;
+    put_links(sink, basin, &month.cuts, core, right)
+}
+
+/// Puts where one more unit would help a short right of a month whose sets are the reaches: what it got and wanted; each
+/// node where one more unit of water would help it, which are the nodes of its core; each link whose carry of one more
+/// unit would help it, which are those that lead from outside its reach into the core; and the account of the core, the
+/// shortest that shows why it got no more.
+///
+/// Each line is one `put`. `SinkFailed` comes only where the sink counted a fault; a front of the text was then put. The
+/// cost is linear in nodes, links and rights, and no memory is taken.
+pub fn put_helping<K: Sink>(
+    sink: &mut K,
+    finder: &mut HelpFinder,
+    basin: &Basin,
+    roll: &Roll,
+    month: &MonthRecord,
+    right: u32,
+) -> Result<(), SinkFailed>
+    requires finder { IsHelpFinderOf basin.now finder.old }
+    requires basin { IsValidBasin basin.now }
+    requires roll { IsRollOf basin.now.rights roll.now }
+    requires month { FitsText basin.now month.now }
+    requires plan { HasPlan basin.now month.now }
+    requires reaches { HasReaches basin.now month.now }
+    requires right { right < length basin.now.rights }
+    requires short { IsShort month.now right }
+    ensures text { (text : List ℕ) × IsHelpingText basin.now month.now right text ×
+        Puts (K.taken sink.old) (K.taken sink.new) result text }
+    ensures cause { HasCause (K.faults sink.old) (K.faults sink.new) (IsErr result) }
+    ensures finder { IsHelpFinderOf basin.now finder.new }
+{
+    finder.find_core(basin, roll, month, right);
+    let core = finder.cuts();
+    put_places(sink, basin, month, core, right)?;
+    put_account(sink, basin, roll, month, core, right)
+}

@@ -1,0 +1,230 @@
+-- What is known of a link by whose the next unit at its head would be, before any search for a core.
+use Rattle.std.proofs.Common.{◌≡◌, ℕ, zero, suc, ◌<◌, Bool, true, false, refl, sym, ◌∙◌, ap, arith, List, [], ◌∷◌}
+use Rattle.std.proofs.Common.{◌+◌, ◌≤◌, length, subst, inl, inr}
+use Rattle.std.proofs.lemmas.Bool.{and_parts, and_from, both_ways, cases_eq, false_from_ne_true}
+use Rattle.std.proofs.lemmas.List.{get_or-set_same, get_or-set_other, length-set}
+use Rattle.std.specs.Prelude.{◌&&◌, ◌⊎◌, ◌≢◌, Option, Some, None, slice_index_or, slice_set}
+use Rattle.cut_cert.specs.Sets.{cut_at}
+use Rattle.water_model.specs.Lookups.{has}
+use Rattle.water_model.specs.Basin.{head_of, tail_of, taking_node, instream_link, is_senior}
+use Rattle.water_model.specs.Cuts.{IsCut, IsReach, separates, node_within}
+use Rattle.water_model.specs.History.{HasReaches}
+use Rattle.water_model.specs.declared.types.Basin.{Basin}
+use Rattle.water_model.specs.declared.types.MonthRecord.{MonthRecord}
+use Rattle.water_model.proofs.Seniority.{senior_total}
+use Rattle.water_model.proofs.Sets.{has_below}
+use Rattle.plan_residual.specs.Next.{CouldUseAt, IsNextAt, IsFreeAt}
+use Rattle.plan_residual.specs.Residual.{HasPlan, IsClosed}
+use Rattle.plan_residual.specs.Slack.{others}
+use Rattle.plan_residual.specs.Sweep.{IsShortRight}
+use Rattle.plan_residual.proofs.Along.{apart_from_closed, closed_from_apart}
+use Rattle.plan_residual.proofs.Closed.{in_others, not_in_set, tight_cuts_hold_none_reached}
+use Rattle.plan_residual.proofs.Closed.{closed_sets_leave_tight_cuts}
+use Rattle.plan_residual.proofs.Sweeping.{closed_for_junior}
+use Rattle.plan_residual.proofs.Terms.{length-others}
+use Rattle.next_unit.specs.Helped.{AreHelpedTo, AreToldOf, HasRoomForAll, HelpsNoneTo, IsFirstHelped, IsHelpedTo}
+use Rattle.next_unit.specs.Laws.{CarryHelpsRight}
+use Rattle.next_unit.proofs.Exact.{rights_have_cores, carry_helps_exactly_into_core}
+use Rattle.next_unit.proofs.Helping.{helped_is_short, short_has_reach}
+
+-- the nodes that two sets have in common
+abbrev common : List Bool → List Bool → List Bool
+common [] ys = []
+common (x ∷ xs) [] = []
+common (x ∷ xs) (y ∷ ys) = (x && y) ∷ common xs ys
+
+in_common : (xs ys : List Bool) (n : ℕ) → length xs ≡ length ys → has (common xs ys) n ≡ has xs n && has ys n
+in_common [] ys n e = refl
+in_common (x ∷ xs) [] n e = absurd (omega arith)
+in_common (x ∷ xs) (y ∷ ys) zero e = refl
+in_common (x ∷ xs) (y ∷ ys) (suc n) e = in_common xs ys n (omega arith)
+
+length-common : (xs ys : List Bool) → length xs ≡ length ys → length (common xs ys) ≡ length xs
+length-common [] ys e = refl
+length-common (x ∷ xs) [] e = absurd (omega arith)
+length-common (x ∷ xs) (y ∷ ys) e = ap suc (length-common xs ys (omega arith))
+
+-- what two closed sets have in common is closed
+closed_common : (b : Basin) (m : MonthRecord) (r : ℕ) (xs ys : List Bool) → length xs ≡ length ys →
+    IsClosed b m r xs → IsClosed b m r ys → IsClosed b m r (common xs ys)
+closed_common b m r xs ys len one other = record {
+  outlets = λ n l out. in_both n (one.outlets n l out) (other.outlets n l out);
+  juniors = λ s l senior takes.
+      of_node (taking_node b s) (one.juniors s l senior takes) (other.juniors s l senior takes);
+  own = λ e l is. in_both (head_of b e) (one.own e l is) (other.own e l is);
+  forward = λ e l rises from. (let each = of_both (tail_of b e) from in
+      in_both (head_of b e) (one.forward e l rises each.0) (other.forward e l rises each.1));
+  backward = λ e l falls from. (let each = of_both (head_of b e) from in
+      in_both (tail_of b e) (one.backward e l falls each.0) (other.backward e l falls each.1));
+}
+  where
+    in_both : (n : ℕ) → has xs n ≡ true → has ys n ≡ true → has (common xs ys) n ≡ true
+    in_both n h i = in_common xs ys n len ∙ and_from (has xs n) (has ys n) h i
+
+    of_both : (n : ℕ) → has (common xs ys) n ≡ true → (has xs n ≡ true) × (has ys n ≡ true)
+    of_both n h = and_parts (has xs n) (has ys n) (sym (in_common xs ys n len) ∙ h)
+
+    of_node : (o : Option ℕ) → node_within o xs ≡ true → node_within o ys ≡ true →
+        node_within o (common xs ys) ≡ true
+    of_node None h i = h
+    of_node (Some n) h i = in_both n h i
+
+-- the reach of a short right lies within that of each short diversion or zone that is junior to it
+pub reach_within : (b : Basin) (m : MonthRecord) (r s : ℕ) (one other : List Bool) → HasPlan b m →
+    IsShortRight b m r → IsShortRight b m s → is_senior b r s ≡ true → instream_link b s ≡ None →
+    IsReach b m.month m.supply m.delivered r one → IsReach b m.month m.supply m.delivered s other →
+    (n : ℕ) → has one n ≡ true → has other n ≡ true
+reach_within b m r s one other given short short' senior none first second n h =
+    second.contains (others set)
+    (closed_sets_leave_tight_cuts b m s set given short'.in_range short'.short closed cut) n
+    (left one n (has_below one n h) first.is_tight.is_cut.one_each
+    (λ i. both_ways (has one n) (not_in_set one n (parts n i).0) h))
+  where
+    set : List Bool
+    set = common (others one) (others other)
+
+    len : length (others one) ≡ length (others other)
+    len = omega (
+      arith,
+      length-others one,
+      length-others other,
+      first.is_tight.is_cut.one_each,
+      second.is_tight.is_cut.one_each,
+    )
+
+    sized : length set ≡ length b.nodes
+    sized = omega (
+      arith,
+      length-common (others one) (others other) len,
+      length-others one,
+      first.is_tight.is_cut.one_each,
+    )
+
+    parts : (k : ℕ) → has set k ≡ true → (has (others one) k ≡ true) × (has (others other) k ≡ true)
+    parts k i = and_parts (has (others one) k) (has (others other) k)
+        (sym (in_common (others one) (others other) k len) ∙ i)
+
+    left : (c : List Bool) (k : ℕ) → k < length c → length c ≡ length b.nodes → (has set k ≡ true → ⊥) →
+        has (others set) k ≡ true
+    left c k l e out = in_others set k (omega (arith, l, e, sized)) (false_from_ne_true (has set k) out)
+
+    no_link : (e : ℕ) → None ≡ Some e → ⊥
+    no_link e i = cc
+
+    closed : IsClosed b m s set
+    closed = closed_common b m s (others one) (others other) len
+        (closed_from_apart b m s (others one)
+        (closed_for_junior b m r s (others one) given short senior
+        (apart_from_closed b m r (others one)
+        (tight_cuts_hold_none_reached b m r one given short.in_range short.short first.is_tight)))
+        (λ e l on. absurd (no_link e (sym none ∙ on))))
+        (tight_cuts_hold_none_reached b m s other given short'.in_range short'.short second.is_tight)
+
+    of_node : (o : Option ℕ) → node_within o other ≡ true → node_within o (others set) ≡ true
+    of_node None i = i
+    of_node (Some k) i = left other k (has_below other k i) second.is_tight.is_cut.one_each
+        (λ j. both_ways (has other k) (not_in_set other k (parts k j).1) i)
+
+    by_link : (o : Option ℕ) → o ≡ None → separates b (taking_node b s) o other ≡ true →
+        separates b (taking_node b s) o (others set) ≡ true
+    by_link None e i = of_node (taking_node b s) i
+    by_link (Some link) e i = absurd (no_link link (sym e))
+
+    cut : IsCut b s (others set)
+    cut = record {
+      one_each = length-others set ∙ sized;
+      separates = by_link (instream_link b s) none second.is_tight.is_cut.separates;
+    }
+
+-- carry that helps a right leads from outside its reach to where it could use a unit
+record LeadsTo (b : Basin) (m : MonthRecord) (link s : ℕ) : Type 0 where
+  outside : has (cut_at m.cuts s) (tail_of b link) ≡ false
+  uses : CouldUseAt b m (head_of b link) s
+
+-- a link of a month whose sets are the reaches
+module _ (b : Basin) (m : MonthRecord) (link : ℕ) (given : HasPlan b m) (reaches : HasReaches b m)
+    (room : HasRoomForAll b m) (below : link < length b.links) where
+  leads : (s : ℕ) → s < length b.rights → CarryHelpsRight b m link s → LeadsTo b m link s
+  leads s l helps =
+      let short = helped_is_short b m link s l helps in
+      let core = rights_have_cores b m s given l in
+      let both = (carry_helps_exactly_into_core b m s core.0 (cut_at m.cuts s) link given l short
+      (short_has_reach b m s reaches l short) (room.each s l short) core.1 below).0 helps in
+      record {
+        outside = both.0;
+        uses = record { in_range = l; short = short; core = core.0; is_core = core.1; here = both.1 };
+      }
+
+  -- where nobody could use a unit at its head, nobody is helped
+  pub free_head : IsFreeAt b m (head_of b link) → HelpsNoneTo b m 0 link
+  free_head free = record {
+    before = λ i l. absurd (omega arith);
+    instream = λ s l on helps. free s (leads s l helps).uses;
+  }
+
+  -- where the reach of the right whose unit it would be does not hold its tail, that right is helped
+  pub outside_reach : (r : ℕ) → IsNextAt b m (head_of b link) r → has (cut_at m.cuts r) (tail_of b link) ≡ false →
+      IsFirstHelped b m link r
+  outside_reach r next outside =
+      let uses = next.uses in
+      record {
+        in_range = uses.in_range;
+        helps = (carry_helps_exactly_into_core b m r uses.core (cut_at m.cuts r) link given uses.in_range uses.short
+            (short_has_reach b m r reaches uses.in_range uses.short) (room.each r uses.in_range uses.short)
+            uses.is_core below).1 (outside, uses.here);
+        first = λ s l senior helps. next.first s senior (leads s l helps).uses;
+      }
+
+  -- where it does, no diversion or zone is helped
+  pub within_reach : (r : ℕ) → IsNextAt b m (head_of b link) r → has (cut_at m.cuts r) (tail_of b link) ≡ true →
+      HelpsNoneTo b m 0 link
+  within_reach r next within = record {
+    before = λ i l. absurd (omega arith);
+    instream = λ s l on helps. by_order s l on (leads s l helps) (cases_eq s r);
+  }
+    where
+      by_order : (s : ℕ) → s < length b.rights → instream_link b s ≡ None → LeadsTo b m link s → (s ≡ r) ⊎ (s ≢ r) → ⊥
+      by_order s l on to (inl same) =
+          both_ways (has (cut_at m.cuts s) (tail_of b link)) to.outside
+          (ap (λ q. has (cut_at m.cuts q) (tail_of b link)) same ∙ within)
+      by_order s l on to (inr differ) = elim (senior_total b.rights given.valid.roll.strict s r l next.uses.in_range
+          differ) [
+            | inl above ↦ next.first s above to.uses
+            | inr senior ↦
+                both_ways (has (cut_at m.cuts s) (tail_of b link)) to.outside
+                (reach_within b m r s (cut_at m.cuts r) (cut_at m.cuts s) given
+                (record { in_range = next.uses.in_range; short = next.uses.short })
+                (record { in_range = l; short = to.uses.short }) senior on
+                (short_has_reach b m r reaches next.uses.in_range next.uses.short)
+                (short_has_reach b m s reaches l to.uses.short) (tail_of b link) within)
+          ]
+
+-- before the first link is told
+pub none_told_of : (b : Basin) (m : MonthRecord) (helped : List (Option ℕ)) → length helped ≡ length b.links →
+    AreToldOf b m helped 0
+none_told_of b m helped count = record { count = count; each = λ e l. absurd (omega arith) }
+
+-- one link more
+pub one_told_of : (b : Basin) (m : MonthRecord) (helped : List (Option ℕ)) (link : ℕ) (answer : Option ℕ) →
+    link < length b.links → AreToldOf b m helped link → IsHelpedTo b m 0 link answer →
+    AreToldOf b m (slice_set helped link answer) (link + 1)
+one_told_of b m helped link answer l now here = record {
+  count = length-set helped link answer ∙ now.count;
+  each = λ e k. elim (cases_eq e link) [
+    | inl same ↦ subst (λ (o : Option ℕ). IsHelpedTo b m 0 e o) (sym (at e same))
+        (subst (λ f. IsHelpedTo b m 0 f answer) (sym same) here)
+    | inr other ↦
+        subst (λ (o : Option ℕ). IsHelpedTo b m 0 e o)
+        (sym (get_or-set_other helped link e answer None other)) (now.each e (omega arith))
+  ];
+}
+  where
+    at : (e : ℕ) → e ≡ link → slice_index_or (slice_set helped link answer) e None ≡ answer
+    at e same =
+        ap (λ i. slice_index_or (slice_set helped link answer) i None) same
+        ∙ get_or-set_same helped link answer None (omega (arith, now.count, l))
+
+-- all links are told
+pub all_told_of : (b : Basin) (m : MonthRecord) (helped : List (Option ℕ)) (links : ℕ) → length b.links ≤ links →
+    AreToldOf b m helped links → AreHelpedTo b m 0 helped
+all_told_of b m helped links all now = record { count = now.count; each = λ e l. now.each e (omega arith) }
