@@ -1,0 +1,216 @@
+"""What the script ./basin answers to words: tried with the program as the proved one, by the quick way, and without
+Python."""
+import os
+import re
+import shutil
+import signal
+import subprocess
+import time
+
+from hints import HERE, load
+
+ROOT = os.path.join(HERE, "..")
+VALLEY, WEIR = "examples/valley.toml examples/valley.csv", "examples/weir.toml examples/weir.csv"
+USAGE = "usage: basin_cli COMMAND WORDS"
+# Words, the status, the program's line, and what the script says behind it.
+ANSWERS = (
+    ("chek examples/weir.toml", 2, USAGE, "there is no command chek; did you mean check?"),
+    ("examples/weir.toml", 2, USAGE,
+    "there is no command examples/weir.toml; a command comes first, as ./basin run examples/weir.toml"),
+    ("Union", 2, USAGE, "there is no command Union"),
+    ("run", 2, USAGE, "BASIN is missing"),
+    ("run examples/weir.toml - more", 2, USAGE, "more is too much"),
+    ("check examples/weir.toml examples/weir.result", 2, USAGE,
+    "SERIES is missing; - stands for a basin that needs none"),
+    ("why examples/valley.toml 1982-07 oldfields", 2, USAGE, "SERIES is missing; - stands for a basin that needs none"),
+    (f"why {VALLEY} 1982-07 old fields", 2, USAGE, "a name has no blanks: RIGHT is one word; did you mean oldfields?"),
+    (f"why {VALLEY} 2002-8 oldfields", 2, USAGE, "MONTH is 2002-8: write 2002-08"),
+    (f"why {VALLEY} Aug-2002 oldfields", 2, USAGE, "MONTH is Aug-2002: write 2002-08"),
+    (f"why {VALLEY} oldfields 1982-07", 2, USAGE, "MONTH is oldfields: MONTH comes before RIGHT"),
+    (f"why {VALLEY} 1982-07 Oldfields", 9, "script: NoSuchName 0",
+    "no right is named Oldfields; did you mean oldfields?"),
+    (f"why {VALLEY} 1982-07 lake", 9, "script: NoSuchName 0", "no right is named lake: lake is the name of a node"),
+    (f"why {VALLEY} 2002-08 oldfields", 9, "script: OutsideRun 0",
+    "2002-08 is outside the run: the run has the months 1981-10 to 1991-09"),
+    ("trial 7 1", 2, USAGE, "SIZE is 1: write a whole number from 2 to 2,000"),
+    ("trial x 9", 2, USAGE, "NUMBER is x: write a whole number from 0 to 4,294,967,295"),
+    ("run examples/vally.toml -", 5, "read: BASIN",
+    "BASIN is examples/vally.toml: there is no such file; did you mean valley.toml?"),
+    ("run examples/weir.toml examples", 5, "read: SERIES", "SERIES is examples: this is a folder, and no file"),
+    (f"check {WEIR} nowhere/weir.result", 5, "read: RESULT",
+    "RESULT is nowhere/weir.result: there is no such file; there is no folder nowhere"),
+    ("run bad.toml -", 3, "basin: NoSuchName link 1",
+    'bad.toml:13: link 1 (river): to: no node is named "Sea"; did you mean sea?  [NoSuchName]'),
+    ("run examples/weir.toml bad.csv", 4, "series: BadMonth 2",
+    "bad.csv:2: the month is 1960-7: write 1960-07  [BadMonth]"),
+    (f"ensemble {WEIR}", 3, "basin: PartYear top 0",
+    "an ensemble needs whole years: months is 2, and has to be 12, 24, 36 or the like"),
+    (f"compare examples/weir.toml {VALLEY}", 3, "basin2: OtherRun top 0",
+    "the two basins run over other months: 1960-07 for 2 months and 1981-10 for 120 months; let first_month and "
+    "months be the same"),
+    (f"compare examples/valley.toml bad.toml {VALLEY.split()[1]}", 3, "basin2: NoSuchName link 1",
+    'bad.toml:13: link 1 (river): to: no node is named "Sea"; did you mean sea?  [NoSuchName]'),
+    (f"edit {VALLEY} bad-script", 9, "script: OutsideRun 2",
+    "bad-script:2: show 2002-08: the run has the months 1981-10 to 1991-09"),
+)
+# Words that are answered without a refusal: the status, and a part of what is written.
+GOOD = (
+    ("", 0, "./basin run BASIN [SERIES]"), ("help", 0, "./basin run BASIN [SERIES]"), ("-h", 0, "Here: "),
+    ("--help", 0, "./basin check BASIN SERIES RESULT"),
+    ("help why", 0, "./basin why BASIN SERIES MONTH RIGHT"), ("--version", 0, "toolchain: a kit"),
+    ("--version", 0, "Here: "),
+    (f"check {WEIR} examples/weir.result", 0, "checked 2"), (f"check {WEIR} examples/weir-forged.txt", 1,
+    "refuted 18 Balance"), (f"check {WEIR} /dev/stdin", 0, "checked 2"),
+)
+# Stands for `rt` of the toolchain: `rt try` runs the program in a folder of its own, as the real one does, and marks
+# that it was started.
+RT = """#!/usr/bin/env bash
+[ "$1" = version ] && { echo 'a kit'; exit; }
+touch "$STARTED"
+room="$(mktemp -d)"; shift
+while [ "$1" = --data ]; do cp "${2#*=}" "$room/${2%%=*}"; shift 2; done
+shift
+cd "$room" && "$PROGRAM" "$@" >out 2>err; status=$?
+cat out; cat err >&2; printf 'checked: nothing\\n\\nrun=ended status=%s kit\\n' "$status" >&2
+rm -rf "$room"
+"""
+BAD = """format = 1
+first_month = "1900-01"
+months = 12
+[[node]]
+name = "spring"
+inflow = 80
+[[node]]
+name = "sea"
+outlet = true
+[[link]]
+name = "river"
+from = "spring"
+to = "Sea"
+"""
+
+
+class Place:
+    """A copy of the script beside this folder, with a toolchain that stands for the real one."""
+
+    def __init__(self, program, room):
+        self.folder, self.program, self.started = os.path.join(room, "place"), program, os.path.join(room, "started")
+        os.makedirs(os.path.join(self.folder, "bin"))
+        os.makedirs(os.path.join(self.folder, "crates", "basin"))
+        for name in ("basin", "crates.txt", "HANDLES"):
+            shutil.copy(os.path.join(ROOT, name), self.folder)
+        for name in ("lint", "second-check", "examples", "docs"):
+            os.symlink(os.path.realpath(os.path.join(ROOT, name)), os.path.join(self.folder, name))
+        for name, text in (("bin/rt", RT), ("KIT-ID", "a kit\n"), ("bad.toml", BAD),
+                ("bad.csv", "month,node,amount\n1960-7,upper,5\n"),
+                ("bad-script", "river-edit 1\nshow 2002-08\ndone\n")):
+            with open(os.path.join(self.folder, name), "w", encoding="ascii") as file:
+                file.write(text)
+        os.chmod(os.path.join(self.folder, "bin", "rt"), 0o755)
+        self.without_python = self.tools(os.path.join(room, "tools"))
+
+    def tools(self, folder):
+        """A folder with all commands of the machine but Python."""
+        os.makedirs(folder)
+        for path in os.environ["PATH"].split(os.pathsep):
+            for name in os.listdir(path) if os.path.isdir(path) else ():
+                if not name.startswith("python") and not os.path.lexists(os.path.join(folder, name)):
+                    os.symlink(os.path.join(path, name), os.path.join(folder, name))
+        return folder
+
+    def start(self, words, path=None, **more):
+        path = os.path.join(self.folder, "bin") + os.pathsep + (path or os.environ["PATH"])
+        more = {"stdin": subprocess.DEVNULL} | more
+        return subprocess.Popen(["./basin", *words], cwd=self.folder,
+            env=os.environ | {"PATH": path, "PROGRAM": self.program, "STARTED": self.started},
+                                stdout=subprocess.PIPE, stderr=subprocess.PIPE, **more)
+
+    def answer(self, words, path=None, **more):
+        """The status, what is written, and the lines on standard error."""
+        started = self.start(words, path, **more)
+        out, err = started.communicate(timeout=60)
+        return started.returncode, out.decode(), err.decode().splitlines()
+
+    def keep(self, program):
+        return self.answer(["keep", program])[0] == 0
+
+
+def try_proved(place, tried):
+    for at, (words, status, line, said) in enumerate(ANSWERS):
+        answer = place.answer(words.split())
+        tried(f"./basin {words}", answer[0] == status and answer[2][:1] == [line] and "  " + said in answer[2][1:],
+            str(answer))
+        if at % 5 == 0:
+            bare = place.answer(words.split(), place.without_python)
+            tried(f"./basin {words} without Python", bare[0] == status and bare[2] == [line], str(bare))
+    for words, status, part in GOOD:
+        with open(os.path.join(place.folder, "examples", "weir.result"), "rb") as file:
+            answer = place.answer(words.split(), stdin=file)
+        tried(f"./basin {words}", answer[0] == status and part in answer[1] and answer[2] == [], str(answer))
+    closed = place.answer(["check", *WEIR.split(), "examples/weir.result"], preexec_fn=lambda: os.close(0))
+    tried("./basin with standard input closed", closed[:2] == (0, "checked 2\n"), str(closed))
+
+
+def is_miscounted(said):
+    """Whether an answer is to an unknown command or to a wrong number of words."""
+    return "no command" in said or "is missing" in said or "too much" in said
+
+
+def try_quick(place, tried):
+    """By the quick way words that are no command start nothing; else the answers are those of the proved program."""
+    for at, (words, status, line, said) in enumerate(ANSWERS):
+        if not is_miscounted(said) and at % 4:
+            continue
+        answer = place.answer(words.split())
+        is_right = answer[0] == status and line in answer[2] and "  " + said in answer[2][answer[2].index(line) + 1:]
+        tried(f"./basin {words} by the quick way", is_right, str(answer))
+        tried(f"whether ./basin {words} starts something", os.path.exists(place.started) != is_miscounted(said))
+        if os.path.exists(place.started):
+            os.remove(place.started)
+    quick = place.answer(["check", *WEIR.split(), "examples/weir.result"])
+    tried("./basin check by the quick way", quick[:2] == (0, "checked 2\n") and len(quick[2]) == 2, str(quick))
+
+
+def try_signals(place, tried, room):
+    """A signal to the script ends the program."""
+    waiting = os.path.join(room, "waiting")
+    with open(waiting, "w", encoding="ascii") as file:
+        file.write('#!/bin/sh\necho $$ >"$STARTED"\nexec sleep 50\n')
+    os.chmod(waiting, 0o755)
+    for number in (signal.SIGTERM, signal.SIGINT):
+        if os.path.exists(place.started):
+            os.remove(place.started)
+        tried("a program is kept", place.keep(waiting))
+        started = place.start(["run", "examples/weir.toml"])
+        until = time.monotonic() + 20
+        while time.monotonic() < until and not (os.path.exists(place.started) and os.path.getsize(place.started)):
+            time.sleep(0.05)
+        with open(place.started, encoding="ascii") as file:
+            child = int(file.read())
+        started.send_signal(number)
+        started.communicate(timeout=30)
+        tried(f"signal {number} ends the script and the program",
+            started.returncode == 128 + number and not os.path.exists(f"/proc/{child}"), str(started.returncode))
+
+
+def try_screen(tried):
+    """Each command of docs/FORMATS.md has its line on the screen of help, by which the script counts words."""
+    with open(os.path.join(ROOT, "docs", "FORMATS.md"), encoding="utf-8") as file:
+        table = re.search(r"(?s)\n## The commands\n(.*?)\n## ", file.read())[1]
+    shapes = [words.split() for row in re.findall(r"(?m)^\| (`.*?) \|", table) for words in re.findall(r"`(.*?)`", row)]
+    known = load("lint", "answer").commands()
+    for command, *words in shapes:
+        fits = [of for of in (known.get(command, []),) if [word.strip("[]") for word in of][:len(words)] == words]
+        tried(f"the screen has {command} {' '.join(words)}", fits and all(w[0] == "[" for w in fits[0][len(words):]))
+    tried("the commands are found", len(shapes) >= 9)
+
+
+def try_answers(program, room, tried):
+    """Tries all of it, and answers how many words were tried."""
+    try_screen(tried)
+    place = Place(program, room)
+    try_quick(place, tried)
+    tried("the program is kept", place.keep(program))
+    try_proved(place, tried)
+    try_signals(place, tried, room)
+    return len(ANSWERS) + len(GOOD)
