@@ -218,6 +218,12 @@ def out_of_range(d):
             if kind and second.KINDS[kind](value) and not second.is_in_range(kind, value, least, most):
                 text, item = why_out(kind, value, least, most)
                 d.tell("OutOfRange", table, number, entry, key, f"{key} {text}", item)
+        if table == "top":
+            late_end(d)
+
+
+def late_end(d):
+    """A run that ends too late is a fault of the top, and comes before those of the tables."""
     top, months = d.tree, d.good(d.tree, "months")
     first = d.good(top, "first_month")
     first = second.read_month(first) if second.KINDS["month"](first) else None
