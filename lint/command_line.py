@@ -177,6 +177,8 @@ def try_signals(place, tried, room):
     with open(waiting, "w", encoding="ascii") as file:
         file.write('#!/bin/sh\necho $$ >"$STARTED"\nexec sleep 50\n')
     os.chmod(waiting, 0o755)
+    # (where these tests run in the background SIGINT is ignored, and would be by what they start)
+    signal.signal(signal.SIGINT, signal.default_int_handler)
     for number in (signal.SIGTERM, signal.SIGINT):
         if os.path.exists(place.started):
             os.remove(place.started)
