@@ -17,12 +17,14 @@ use std::alloc::{AllocError, Global};
 use std::marker::Model;
 use water_model::types::{Basin, MonthRecord};
 
-/// What a list of calls is found with: the search through a month's residual network, and what was found in the last
-/// month, by node the right to which one more unit of water there would go, and by link the most senior right that one
-/// more unit of carry on it would help. All memory for the basin's months is taken when it is opened.
+/// What a list of calls is found with: the search through a month's residual network, a list of links that are still to
+/// be decided, and what was found in the last month, by node the right to which one more unit of water there would go,
+/// and by link the most senior right that one more unit of carry on it would help. All memory for the basin's months is
+/// taken when it is opened.
 #[derive(Drop)]
 pub struct CallFinder {
     search: ResidualSearch,
+    undecided: Vec<u32>,
     next: Vec<Option<u32>>,
     helped: Vec<Option<u32>>,
 }
@@ -32,7 +34,11 @@ impl Model for CallFinder {
 
     ghost Value = { FinderSeen };
 
-    ghost view = { λ f. record { search = f.search; found = record { next = f.next.items; helped = f.helped.items } } };
+    ghost view = { λ f. record {
+      search = f.search;
+      undecided = f.undecided.items;
+      found = record { next = f.next.items; helped = f.helped.items };
+    } };
 }
 
 impl CallFinder {
@@ -43,18 +49,20 @@ impl CallFinder {
         ensures { IfOk result (IsFinderOf basin.now) }
     {
         let search = ResidualSearch::open(alloc, basin)?;
+        let undecided = vec![in alloc; 0; basin.links.len()]?;
         let next = vec![in alloc; None; basin.nodes.len()]?;
         let helped = vec![in alloc; None; basin.links.len()]?;
         Ok(CallFinder {
             search,
+            undecided,
             next,
             helped,
         })
     }
 
     /// Finds what one more unit of water at each node, and one more unit of carry on each link, would do in a month
-    /// whose sets are the reaches. It replaces what was found before. A core is searched for each short
-    /// instream right.
+    /// whose sets are the reaches. It replaces what was found before. The cost is linear in nodes, links and rights, but
+    /// for the short instream rights whose reach a full link enters that could help them: for each a core is searched.
     pub fn find(&mut self, basin: &Basin, roll: &Roll, month: &MonthRecord)
         requires finder { IsFinderOf basin.now self.old }
         requires plan { HasPlan basin.now month.now }
@@ -67,8 +75,9 @@ impl CallFinder {
         self.search
             .find_next(basin, roll, month, self.next.as_mut_slice());
         let next = self.next.as_slice();
+        let rest = self.undecided.as_mut_slice();
         let helped = self.helped.as_mut_slice();
-        find_helped(&mut self.search, basin, roll, month, next, helped);
+        find_helped(&mut self.search, basin, roll, month, next, rest, helped);
     }
 
     /// The month with what was found in it, as it is put into a list.

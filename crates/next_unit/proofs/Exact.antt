@@ -28,7 +28,7 @@ supply_helps_exactly_in_core b m r core cut node given l short tight room is_cor
 )
 
 -- with more carry a link that helps enters each tight cut
-must_enter : (b : Basin) (m : MonthRecord) (r link : ℕ) (cut : List Bool) → r < length b.rights →
+pub must_enter : (b : Basin) (m : MonthRecord) (r link : ℕ) (cut : List Bool) → r < length b.rights →
     IsTight b m.month m.supply m.delivered r cut → CarryHelpsRight b m link r → enters b cut link ≡ true
 must_enter b m r link cut l tight h = true_from_ne_false (enters b cut link) (λ past.
     more_than _ _ h.more

@@ -3,7 +3,7 @@ use Rattle.std.proofs.Common.{◌≡◌, ℕ, ◌+◌, ◌<◌, ◌≤◌, true,
 use Rattle.std.proofs.Common.{length, get_or, inl, inr}
 use Rattle.std.proofs.lemmas.Bool.{cases_eq, cases_lt, ltb-true}
 use Rattle.std.proofs.lemmas.List.{get_or-set_same, get_or-set_other, length-set}
-use Rattle.std.specs.Prelude.{Option, Some, None, slice_index_or, slice_set, unwrap_or, is_some}
+use Rattle.std.specs.Prelude.{Option, Some, None, slice_index, slice_index_or, slice_set, unwrap_or, is_some}
 use Rattle.water_model.specs.Basin.{instream_link}
 use Rattle.water_model.specs.Cuts.{IsReach}
 use Rattle.water_model.specs.History.{HasReaches, IsShort}
@@ -19,7 +19,7 @@ use Rattle.plan_residual.specs.Reaches.{HasReach}
 use Rattle.plan_residual.specs.Sweep.{right_at}
 use Rattle.next_unit.specs.Core.{raised_carry}
 use Rattle.next_unit.specs.Helped.{IsFirstHelped, IsHelped, AreHelped, HelpsNoneTo, IsHelpedTo, AreHelpedTo}
-use Rattle.next_unit.specs.Helped.{AreBeingHelped}
+use Rattle.next_unit.specs.Helped.{AreBeingHelped, AreUndecided, HelpNot}
 use Rattle.next_unit.specs.Laws.{CarryHelpsRight}
 
 -- a right that could get more is short
@@ -82,45 +82,110 @@ now_helped b m place link right o within at helps now = record {
     in_range : right < length b.rights
     in_range = subst (λ (q : ℕ). q < length b.rights) at (o.below place within)
 
--- all links were gone over for a right
-pub all_told : (b : Basin) (m : MonthRecord) (place : ℕ) (helped : List (Option ℕ)) (links : ℕ) →
-    length b.links ≤ links → AreBeingHelped b m place helped links → AreHelpedTo b m (place + 1) helped
-all_told b m place helped links all now = record {
-  count = now.count;
-  each = λ e l. now.told e (omega arith);
-}
+-- what is so of one place more is so without it
+earlier : (b : Basin) (m : MonthRecord) (place link : ℕ) (answer : Option ℕ) →
+    IsHelpedTo b m (place + 1) link answer → IsHelpedTo b m place link answer
+earlier b m place link None now = record { before = λ i l. now.before i (omega arith); instream = now.instream }
+earlier b m place link (Some r) now = now
 
--- before the first link
-pub none_told : (b : Basin) (m : MonthRecord) (place : ℕ) (helped : List (Option ℕ)) → AreHelpedTo b m place helped →
-    AreBeingHelped b m place helped 0
-none_told b m place helped now = record {
-  count = now.count;
-  told = λ e l. absurd (omega arith);
-  rest = λ e low l. now.each e l;
+-- what is decided is so at each place
+decided_to : (b : Basin) (m : MonthRecord) (place link : ℕ) (answer : Option ℕ) →
+    ((i : ℕ) → i < place → right_at b i < length b.rights) → IsHelped b m link answer →
+    IsHelpedTo b m place link answer
+decided_to b m place link None below none = record {
+  before = λ i l. none (right_at b i) (below i l);
+  instream = λ s l on. none s l;
 }
+decided_to b m place link (Some r) below now = now
 
--- one link more
-pub one_told : (b : Basin) (m : MonthRecord) (place : ℕ) (helped : List (Option ℕ)) (link : ℕ) (answer : Option ℕ) →
-    link < length b.links → AreBeingHelped b m place helped link → IsHelpedTo b m (place + 1) link answer →
-    AreBeingHelped b m place (slice_set helped link answer) (link + 1)
-one_told b m place helped link answer l now here = record {
-  count = length-set helped link answer ∙ now.count;
-  told = λ e k. elim (cases_eq e link) [
-    | inl same ↦ subst (λ (o : Option ℕ). IsHelpedTo b m (place + 1) e o) (sym (at e same)) (subst (λ f. IsHelpedTo b m
-        (place + 1) f answer) (sym same) here)
-    | inr other ↦
-        subst (λ (o : Option ℕ). IsHelpedTo b m (place + 1) e o)
-        (sym (get_or-set_other helped link e answer None other)) (now.told e (omega arith))
+-- all undecided links were gone over for a right
+pub all_told : (b : Basin) (m : MonthRecord) (place : ℕ) (helped : List (Option ℕ)) (undecided : List ℕ)
+    (count done : ℕ) → IsSeniorityOrder b.rights (seniors_first b) → place < length b.rights → count ≤ done →
+    AreUndecided b m helped undecided count → AreBeingHelped b m place helped undecided done →
+    AreHelpedTo b m (place + 1) helped
+all_told b m place helped undecided count done o l all lists now = record {
+  count = now.each.count;
+  each = λ e k. elim (lists.each e k) [
+    | inl decided ↦ decided_to b m (place + 1) e (slice_index_or helped e None)
+        (λ i below. o.below i (omega arith)) decided
+    | inr at ↦ subst (λ (f : ℕ). IsHelpedTo b m (place + 1) f (slice_index_or helped f None)) at.2
+        (now.told at.0 (let below = at.1 in omega arith))
   ];
-  rest = λ e low k.
-      subst (λ (o : Option ℕ). IsHelpedTo b m place e o)
-      (sym (get_or-set_other helped link e answer None (λ same. absurd (omega arith)))) (now.rest e (omega arith) k);
 }
-  where
-    at : (e : ℕ) → e ≡ link → slice_index_or (slice_set helped link answer) e None ≡ answer
-    at e same =
-        ap (λ i. slice_index_or (slice_set helped link answer) i None) same
-        ∙ get_or-set_same helped link answer None (omega (arith, now.count, l))
+
+-- before the first of them
+pub none_told : (b : Basin) (m : MonthRecord) (place : ℕ) (helped : List (Option ℕ)) (undecided : List ℕ) →
+    AreHelpedTo b m place helped → AreBeingHelped b m place helped undecided 0
+none_told b m place helped undecided now = record { each = now; told = λ j l. absurd (omega arith) }
+
+-- one of them more
+module _ (b : Basin) (m : MonthRecord) (place : ℕ) (helped : List (Option ℕ)) (undecided : List ℕ) (count j : ℕ)
+    (answer : Option ℕ) (listed : j < count) (lists : AreUndecided b m helped undecided count)
+    (counted : length helped ≡ length b.links) where
+  abbrev link : ℕ
+  link = slice_index undecided j
+
+  at : (e : ℕ) → e ≡ link → slice_index_or (slice_set helped link answer) e None ≡ answer
+  at e same =
+      ap (λ i. slice_index_or (slice_set helped link answer) i None) same
+      ∙ get_or-set_same helped link answer None (let l = lists.links.1 j listed in omega (arith, l, counted))
+
+  elsewhere : (e : ℕ) → (e ≡ link → ⊥) →
+      slice_index_or (slice_set helped link answer) e None ≡ slice_index_or helped e None
+  elsewhere e other = get_or-set_other helped link e answer None other
+
+  pub still_undecided : AreUndecided b m (slice_set helped link answer) undecided count
+  still_undecided = record {
+    links = lists.links;
+    each = λ e k. elim (cases_eq e link) [
+      | inl same ↦ inr (j, listed, sym same)
+      | inr other ↦ elim (lists.each e k) [
+        | inl decided ↦ inl (subst (λ (o : Option ℕ). IsHelped b m e o) (sym (elsewhere e other)) decided)
+        | inr at ↦ inr at
+      ]
+    ];
+  }
+
+  pub one_told : AreBeingHelped b m place helped undecided j → IsHelpedTo b m (place + 1) link answer →
+      AreBeingHelped b m place (slice_set helped link answer) undecided (j + 1)
+  one_told now here = record {
+    each = record {
+      count = length-set helped link answer ∙ now.each.count;
+      each = λ e k. elim (cases_eq e link) [
+        | inl same ↦ subst (λ (o : Option ℕ). IsHelpedTo b m place e o) (sym (at e same))
+            (earlier b m place e answer (subst (λ f. IsHelpedTo b m (place + 1) f answer) (sym same) here))
+        | inr other ↦ subst (λ (o : Option ℕ). IsHelpedTo b m place e o) (sym (elsewhere e other)) (now.each.each e k)
+      ];
+    };
+    told = λ i k. elim (cases_eq (slice_index undecided i) link) [
+      | inl same ↦ subst (λ (o : Option ℕ). IsHelpedTo b m (place + 1) (slice_index undecided i) o)
+          (sym (at (slice_index undecided i) same))
+          (subst (λ f. IsHelpedTo b m (place + 1) f answer) (sym same) here)
+      | inr other ↦ subst (λ (o : Option ℕ). IsHelpedTo b m (place + 1) (slice_index undecided i) o)
+          (sym (elsewhere (slice_index undecided i) other)) (now.told i (before i k other))
+    ];
+  }
+    where
+      before : (i : ℕ) → i < j + 1 → (slice_index undecided i ≡ link → ⊥) → i < j
+      before i k other = elim (cases_lt i j) [
+        | inl below ↦ below
+        | inr above ↦ absurd (other (ap (slice_index undecided) (let same : i ≡ j = omega arith in same)))
+      ]
+
+-- a right that none of them would help is helped by no link
+pub no_more : (b : Basin) (m : MonthRecord) (place : ℕ) (helped : List (Option ℕ)) (undecided : List ℕ) (count : ℕ) →
+    IsSeniorityOrder b.rights (seniors_first b) → place < length b.rights →
+    HelpNot b m undecided count (right_at b place) → AreUndecided b m helped undecided count → AreHelpedTo b m place helped → AreHelpedTo b m (place + 1) helped
+no_more b m place helped undecided count o l none lists now = record {
+  count = now.count;
+  each = λ e k. elim (lists.each e k) [
+    | inl decided ↦ decided_to b m (place + 1) e (slice_index_or helped e None)
+        (λ i below. o.below i (omega arith)) decided
+    | inr at ↦ still_helped b m place e (slice_index_or helped e None)
+        (λ so_far helps. none at.0 at.1
+        (subst (λ (f : ℕ). CarryHelpsRight b m f (right_at b place)) (sym at.2) helps)) (now.each e k)
+  ];
+}
 
 -- a right that isn't short is helped by no link
 pub nobody_more : (b : Basin) (m : MonthRecord) (place : ℕ) (helped : List (Option ℕ)) →

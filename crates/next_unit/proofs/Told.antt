@@ -3,7 +3,7 @@ use Rattle.std.proofs.Common.{◌≡◌, ℕ, zero, suc, ◌<◌, Bool, true, fa
 use Rattle.std.proofs.Common.{◌+◌, ◌≤◌, length, subst, inl, inr}
 use Rattle.std.proofs.lemmas.Bool.{and_parts, and_from, both_ways, cases_eq, false_from_ne_true}
 use Rattle.std.proofs.lemmas.List.{get_or-set_same, get_or-set_other, length-set}
-use Rattle.std.specs.Prelude.{◌&&◌, ◌⊎◌, ◌≢◌, Option, Some, None, slice_index_or, slice_set}
+use Rattle.std.specs.Prelude.{◌&&◌, ◌⊎◌, ◌≢◌, Option, Some, None, is_some, slice_index, slice_index_or, slice_set}
 use Rattle.cut_cert.specs.Sets.{cut_at}
 use Rattle.water_model.specs.Lookups.{has}
 use Rattle.water_model.specs.Basin.{head_of, tail_of, taking_node, instream_link, is_senior}
@@ -14,7 +14,7 @@ use Rattle.water_model.specs.declared.types.MonthRecord.{MonthRecord}
 use Rattle.water_model.proofs.Seniority.{senior_total}
 use Rattle.water_model.proofs.Sets.{has_below}
 use Rattle.plan_residual.specs.Next.{CouldUseAt, IsNextAt, IsFreeAt}
-use Rattle.plan_residual.specs.Residual.{HasPlan, IsClosed}
+use Rattle.plan_residual.specs.Residual.{HasPlan, IsClosed, can_rise}
 use Rattle.plan_residual.specs.Slack.{others}
 use Rattle.plan_residual.specs.Sweep.{IsShortRight}
 use Rattle.plan_residual.proofs.Along.{apart_from_closed, closed_from_apart}
@@ -22,10 +22,12 @@ use Rattle.plan_residual.proofs.Closed.{in_others, not_in_set, tight_cuts_hold_n
 use Rattle.plan_residual.proofs.Closed.{closed_sets_leave_tight_cuts}
 use Rattle.plan_residual.proofs.Sweeping.{closed_for_junior}
 use Rattle.plan_residual.proofs.Terms.{length-others}
-use Rattle.next_unit.specs.Helped.{AreHelpedTo, AreToldOf, HasRoomForAll, HelpsNoneTo, IsFirstHelped, IsHelpedTo}
+use Rattle.next_unit.specs.Helped.{AreHelpedTo, AreToldOf, AreUndecided, HasRoomForAll, HelpsNoneTo, IsFirstHelped}
+use Rattle.next_unit.specs.Helped.{IsHelped, IsHelpedTo}
 use Rattle.next_unit.specs.Laws.{CarryHelpsRight}
 use Rattle.next_unit.proofs.Exact.{rights_have_cores, carry_helps_exactly_into_core}
 use Rattle.next_unit.proofs.Helping.{helped_is_short, short_has_reach}
+use Rattle.next_unit.proofs.Least.{core_within}
 
 -- the nodes that two sets have in common
 abbrev common : List Bool → List Bool → List Bool
@@ -155,7 +157,20 @@ module _ (b : Basin) (m : MonthRecord) (link : ℕ) (given : HasPlan b m) (reach
         uses = record { in_range = l; short = short; core = core.0; is_core = core.1; here = both.1 };
       }
 
-  -- where nobody could use a unit at its head, nobody is helped
+  -- nobody is helped by one that is not full
+  pub not_full : can_rise b m link ≡ true → IsHelped b m link None
+  not_full rises s l helps =
+      let to = leads s l helps in
+      both_ways (has (cut_at m.cuts s) (tail_of b link)) to.outside
+      (core_within b m s to.uses.core (cut_at m.cuts s) given l to.uses.short
+      (short_has_reach b m s reaches l to.uses.short).is_tight to.uses.is_core (tail_of b link)
+      (to.uses.is_core.upstream.closed.forward link below rises to.uses.here))
+
+  -- nor where nobody could use a unit at its head
+  pub free_link : IsFreeAt b m (head_of b link) → IsHelped b m link None
+  free_link free s l helps = free s (leads s l helps).uses
+
+  -- and so no place has one that is
   pub free_head : IsFreeAt b m (head_of b link) → HelpsNoneTo b m 0 link
   free_head free = record {
     before = λ i l. absurd (omega arith);
@@ -199,32 +214,120 @@ module _ (b : Basin) (m : MonthRecord) (link : ℕ) (given : HasPlan b m) (reach
                 (short_has_reach b m s reaches l to.uses.short) (tail_of b link) within)
           ]
 
+-- a right that was told decides it
+pub told_some : (b : Basin) (m : MonthRecord) (link : ℕ) (told : Option ℕ) → is_some told ≡ true →
+    IsHelpedTo b m 0 link told → IsHelped b m link told
+told_some b m link None h now = cc
+told_some b m link (Some r) h now = now
+
+-- and that there is none
+pub told_none : (b : Basin) (m : MonthRecord) (link : ℕ) (told : Option ℕ) → is_some told ≡ false →
+    IsHelped b m link None → IsHelped b m link told
+told_none b m link None h none = none
+told_none b m link (Some r) h none = cc
+
 -- before the first link is told
-pub none_told_of : (b : Basin) (m : MonthRecord) (helped : List (Option ℕ)) → length helped ≡ length b.links →
-    AreToldOf b m helped 0
-none_told_of b m helped count = record { count = count; each = λ e l. absurd (omega arith) }
+pub none_told_of : (b : Basin) (m : MonthRecord) (helped : List (Option ℕ)) (undecided : List ℕ) →
+    length helped ≡ length b.links → length undecided ≡ length b.links → AreToldOf b m helped undecided 0 0
+none_told_of b m helped undecided one other = record {
+  for_helped = one;
+  for_list = other;
+  few = omega arith;
+  listed = λ j l. absurd (omega arith);
+  each = λ e l. absurd (omega arith);
+  decided = λ e l. absurd (omega arith);
+}
 
 -- one link more
-pub one_told_of : (b : Basin) (m : MonthRecord) (helped : List (Option ℕ)) (link : ℕ) (answer : Option ℕ) →
-    link < length b.links → AreToldOf b m helped link → IsHelpedTo b m 0 link answer →
-    AreToldOf b m (slice_set helped link answer) (link + 1)
-one_told_of b m helped link answer l now here = record {
-  count = length-set helped link answer ∙ now.count;
-  each = λ e k. elim (cases_eq e link) [
+module _ (b : Basin) (m : MonthRecord) (helped : List (Option ℕ)) (undecided : List ℕ) (count link : ℕ)
+    (answer : Option ℕ) (l : link < length b.links) (now : AreToldOf b m helped undecided count link) where
+  at : (e : ℕ) → e ≡ link → slice_index_or (slice_set helped link answer) e None ≡ answer
+  at e same =
+      ap (λ i. slice_index_or (slice_set helped link answer) i None) same
+      ∙ get_or-set_same helped link answer None (omega (arith, now.for_helped, l))
+
+  elsewhere : (e : ℕ) → (e ≡ link → ⊥) →
+      slice_index_or helped e None ≡ slice_index_or (slice_set helped link answer) e None
+  elsewhere e other = sym (get_or-set_other helped link e answer None other)
+
+  told : IsHelpedTo b m 0 link answer → (e : ℕ) → e < link + 1 →
+      IsHelpedTo b m 0 e (slice_index_or (slice_set helped link answer) e None)
+  told here e k = elim (cases_eq e link) [
     | inl same ↦ subst (λ (o : Option ℕ). IsHelpedTo b m 0 e o) (sym (at e same))
         (subst (λ f. IsHelpedTo b m 0 f answer) (sym same) here)
-    | inr other ↦
-        subst (λ (o : Option ℕ). IsHelpedTo b m 0 e o)
-        (sym (get_or-set_other helped link e answer None other)) (now.each e (omega arith))
-  ];
-}
-  where
-    at : (e : ℕ) → e ≡ link → slice_index_or (slice_set helped link answer) e None ≡ answer
-    at e same =
-        ap (λ i. slice_index_or (slice_set helped link answer) i None) same
-        ∙ get_or-set_same helped link answer None (omega (arith, now.count, l))
+    | inr other ↦ subst (λ (o : Option ℕ). IsHelpedTo b m 0 e o) (elsewhere e other) (now.each e (omega arith))
+  ]
+
+  -- which is decided
+  pub one_decided : IsHelpedTo b m 0 link answer → IsHelped b m link answer →
+      AreToldOf b m (slice_set helped link answer) undecided count (link + 1)
+  one_decided here is = record {
+    for_helped = length-set helped link answer ∙ now.for_helped;
+    for_list = now.for_list;
+    few = let few = now.few in omega arith;
+    listed = now.listed;
+    each = told here;
+    decided = λ e k. elim (cases_eq e link) [
+      | inl same ↦ inl (subst (λ (o : Option ℕ). IsHelped b m e o) (sym (at e same))
+          (subst (λ f. IsHelped b m f answer) (sym same) is))
+      | inr other ↦ elim (now.decided e (omega arith)) [
+        | inl before ↦ inl (subst (λ (o : Option ℕ). IsHelped b m e o) (elsewhere e other) before)
+        | inr before ↦ inr before
+      ]
+    ];
+  }
+
+  -- which is listed
+  pub one_listed : IsHelpedTo b m 0 link answer →
+      AreToldOf b m (slice_set helped link answer) (slice_set undecided count link) (count + 1) (link + 1)
+  one_listed here = record {
+    for_helped = length-set helped link answer ∙ now.for_helped;
+    for_list = length-set undecided count link ∙ now.for_list;
+    few = let few = now.few in omega arith;
+    listed = λ j k. elim (cases_eq j count) [
+      | inl same ↦ subst (λ (f : ℕ). f < length b.links) (sym (ap (slice_index (slice_set undecided count link)) same
+          ∙ last)) l
+      | inr other ↦ subst (λ (f : ℕ). f < length b.links) (sym (before j other)) (now.listed j (omega arith))
+    ];
+    each = told here;
+    decided = λ e k. elim (cases_eq e link) [
+      | inl same ↦ inr (count, omega arith, last ∙ sym same)
+      | inr other ↦ elim (now.decided e (omega arith)) [
+        | inl is ↦ inl (subst (λ (o : Option ℕ). IsHelped b m e o) (elsewhere e other) is)
+        | inr is ↦ inr (
+          is.0,
+          (let k = is.1 in omega arith),
+          before is.0 (let k = is.1 in λ same. absurd (omega arith)) ∙ is.2,
+        )
+      ]
+    ];
+  }
+    where
+      last : slice_index (slice_set undecided count link) count ≡ link
+      last = get_or-set_same undecided count link 0 (omega (arith, now.few, now.for_list, l))
+
+      before : (j : ℕ) → (j ≡ count → ⊥) → slice_index (slice_set undecided count link) j ≡ slice_index undecided j
+      before j other = get_or-set_other undecided count j link 0 other
+
+-- the same list and count
+pub told_as : (b : Basin) (m : MonthRecord) (helped : List (Option ℕ)) (undecided list : List ℕ)
+    (count number links : ℕ) → list ≡ undecided → number ≡ count → AreToldOf b m helped undecided count links →
+    AreToldOf b m helped list number links
+told_as b m helped undecided list count number links same equal now = rw (same, equal) now
 
 -- all links are told
-pub all_told_of : (b : Basin) (m : MonthRecord) (helped : List (Option ℕ)) (links : ℕ) → length b.links ≤ links →
-    AreToldOf b m helped links → AreHelpedTo b m 0 helped
-all_told_of b m helped links all now = record { count = now.count; each = λ e l. now.each e (omega arith) }
+pub all_told_of : (b : Basin) (m : MonthRecord) (helped : List (Option ℕ)) (undecided : List ℕ) (count links : ℕ) →
+    length b.links ≤ links → AreToldOf b m helped undecided count links → AreHelpedTo b m 0 helped
+all_told_of b m helped undecided count links all now = record {
+  count = now.for_helped;
+  each = λ e l. now.each e (omega arith);
+}
+
+-- or are listed as undecided
+pub all_decided_of : (b : Basin) (m : MonthRecord) (helped : List (Option ℕ)) (undecided : List ℕ) (count links : ℕ) →
+    length b.links ≤ links → links ≤ length b.links → AreToldOf b m helped undecided count links →
+    AreUndecided b m helped undecided count
+all_decided_of b m helped undecided count links all most now = record {
+  links = (omega (arith, now.few, now.for_list), now.listed);
+  each = λ e l. now.decided e (omega arith);
+}

@@ -1,6 +1,8 @@
 -- Which right one more unit of carry on a link would help.
-use Rattle.std.specs.Prelude.{◌≡◌, ℕ, ◌+◌, ◌<◌, ◌≤◌, List, length, Option, Some, None, IsTrue, slice_index_or}
+use Rattle.std.specs.Prelude.{◌≡◌, ℕ, ◌+◌, ◌<◌, ◌≤◌, ◌⊎◌, Bool, false, List, length, Option, Some, None, IsTrue}
+use Rattle.std.specs.Prelude.{slice_index, slice_index_or}
 use Rattle.water_model.specs.Basin.{instream_link, is_senior}
+use Rattle.water_model.specs.Cuts.{enters}
 use Rattle.water_model.specs.History.{IsShort}
 use Rattle.water_model.specs.declared.types.Basin.{Basin}
 use Rattle.water_model.specs.declared.types.MonthRecord.{MonthRecord}
@@ -38,18 +40,48 @@ pub record AreHelpedTo (b : Basin) (m : MonthRecord) (places : ℕ) (helped : Li
   pub count : length helped ≡ length b.links
   pub each : (e : ℕ) → e < length b.links → IsHelpedTo b m places e (slice_index_or helped e None)
 
--- the first links are told before any search for a core
-pub record AreToldOf (b : Basin) (m : MonthRecord) (helped : List (Option ℕ)) (links : ℕ) : Type 0 where
-  pub count : length helped ≡ length b.links
-  pub each : (e : ℕ) → e < links → IsHelpedTo b m 0 e (slice_index_or helped e None)
+-- the first places of a list have links
+abbrev pub AreLinks : Basin → List ℕ → ℕ → Type 0
+AreLinks b links count = (count ≤ length links) × ((j : ℕ) → j < count → slice_index links j < length b.links)
 
--- the first links are told of one right more than the others
-pub record AreBeingHelped (b : Basin) (m : MonthRecord) (place : ℕ) (helped : List (Option ℕ)) (links : ℕ) :
+-- of each link the right that one more unit of carry on it would help was noted, or that there is none, or it is listed
+-- as undecided
+abbrev pub IsListed : List ℕ → ℕ → ℕ → Type 0
+IsListed undecided count e = (j : ℕ) × (j < count) × (slice_index undecided j ≡ e)
+
+pub record AreUndecided (b : Basin) (m : MonthRecord) (helped : List (Option ℕ)) (undecided : List ℕ) (count : ℕ) :
     Type 0
   where
-    pub count : length helped ≡ length b.links
-    pub told : (e : ℕ) → e < links → IsHelpedTo b m (place + 1) e (slice_index_or helped e None)
-    pub rest : (e : ℕ) → links ≤ e → e < length b.links → IsHelpedTo b m place e (slice_index_or helped e None)
+    pub links : AreLinks b undecided count
+    pub each : (e : ℕ) → e < length b.links →
+        IsHelped b m e (slice_index_or helped e None) ⊎ IsListed undecided count e
+
+-- none of them enters a set
+abbrev pub NoneEnters : Basin → List Bool → List ℕ → ℕ → Type 0
+NoneEnters b cut links count = (j : ℕ) → j < count → enters b cut (slice_index links j) ≡ false
+
+-- one more unit of carry on one of them would not help a right
+abbrev pub HelpNot : Basin → MonthRecord → List ℕ → ℕ → ℕ → Type 0
+HelpNot b m links count right = (j : ℕ) → j < count → CarryHelpsRight b m (slice_index links j) right → ⊥
+
+-- the first links are told before any search for a core, or are listed
+pub record AreToldOf (b : Basin) (m : MonthRecord) (helped : List (Option ℕ)) (undecided : List ℕ) (count links : ℕ) :
+    Type 0
+  where
+    pub for_helped : length helped ≡ length b.links
+    pub for_list : length undecided ≡ length b.links
+    pub few : count ≤ links
+    pub listed : (j : ℕ) → j < count → slice_index undecided j < length b.links
+    pub each : (e : ℕ) → e < links → IsHelpedTo b m 0 e (slice_index_or helped e None)
+    pub decided : (e : ℕ) → e < links →
+        IsHelped b m e (slice_index_or helped e None) ⊎ IsListed undecided count e
+
+-- the first of the undecided links are told of one right more than the others
+pub record AreBeingHelped (b : Basin) (m : MonthRecord) (place : ℕ) (helped : List (Option ℕ)) (undecided : List ℕ)
+    (done : ℕ) : Type 0 where
+  pub each : AreHelpedTo b m place helped
+  pub told : (j : ℕ) → j < done →
+      IsHelpedTo b m (place + 1) (slice_index undecided j) (slice_index_or helped (slice_index undecided j) None)
 
 -- for each short right there is room for one unit more down the rivers
 pub record HasRoomForAll (b : Basin) (m : MonthRecord) : Type 0 where

@@ -1,6 +1,7 @@
 //! Which right one more unit of carry on each link would help.
 ghost use Rattle.std.specs.Prelude.{◌≡◌, ◌+◌, ◌<◌, length, None, slice_index_or};
-ghost use Rattle.cut_cert.specs.Sets.{HasCut};
+ghost use Rattle.std.specs.Bool.{OnFalse, OnTrue};
+ghost use Rattle.cut_cert.specs.Sets.{HasCut, cut_at};
 ghost use Rattle.water_model.specs.Basin.{head_of, instream_link};
 ghost use Rattle.water_model.specs.History.{HasReaches, IsShort};
 ghost use Rattle.water_model.specs.Valid.{IsValidBasin};
@@ -12,12 +13,14 @@ ghost use Rattle.plan_residual.specs.Residual.{HasPlan};
 ghost use Rattle.plan_residual.specs.Rows.{IsSearchOf};
 ghost use Rattle.plan_residual.specs.Sweep.{right_at};
 ghost use Rattle.next_unit.specs.Core.{HasRoomDown};
-ghost use Rattle.next_unit.specs.Helped.{AreHelped, AreHelpedTo, HasRoomForAll, IsHelpedTo};
+ghost use Rattle.next_unit.specs.Helped.{AreHelped, AreHelpedTo, AreLinks, AreUndecided, HasRoomForAll, HelpNot};
+ghost use Rattle.next_unit.specs.Helped.{IsHelped, IsHelpedTo, NoneEnters};
 
 use crate::carry_helps;
 use calls::is_short;
-use cut_cert::holds;
+use cut_cert::{enters, holds};
 use plan_residual::ResidualSearch;
+use plan_residual::steps::can_rise;
 use rights_roll::roll::Roll;
 use water_model::types::{Basin, MonthRecord, RightKind};
 
@@ -66,18 +69,82 @@ fn told_by_next(basin: &Basin, month: &MonthRecord, next: &[Option<u32>], link: 
     }
 }
 
-/// Notes for each link what is told without a search for a core.
-fn begin(basin: &Basin, month: &MonthRecord, next: &[Option<u32>], helped: &mut [Option<u32>])
+/// Whether it isn't decided yet whom one more unit of carry on a link would help: no right was told, but the link is
+/// full, and one more unit at its head would be a right's.
+fn is_undecided(
+    basin: &Basin,
+    month: &MonthRecord,
+    next: &[Option<u32>],
+    told: Option<u32>,
+    link: u32,
+) -> bool
+    requires plan { HasPlan basin.now month.now }
+    requires reaches { HasReaches basin.now month.now }
+    requires room { HasRoomForAll basin.now month.now }
+    requires next { AreNext basin.now month.now next.now }
+    requires link { link < length basin.now.links }
+    requires told { IsHelpedTo basin.now month.now 0 link told }
+    ensures { OnFalse result (IsHelped basin.now month.now link told) }
+{
+    if told.is_some() {
+        return false;
+    }
+    match at_head(basin, next, link) {
+        Some(_) => !can_rise(basin, month, link),
+        None => false,
+    }
+}
+
+/// Notes for each link what is told without a search for a core, and lists the links of which that doesn't decide it.
+/// Answers how many those are.
+fn begin(
+    basin: &Basin,
+    month: &MonthRecord,
+    next: &[Option<u32>],
+    helped: &mut [Option<u32>],
+    undecided: &mut [u32],
+) -> usize
     requires plan { HasPlan basin.now month.now }
     requires reaches { HasReaches basin.now month.now }
     requires room { HasRoomForAll basin.now month.now }
     requires next { AreNext basin.now month.now next.now }
     requires helped { length helped.old ≡ length basin.now.links }
-    ensures { AreHelpedTo basin.now month.now 0 helped.new }
+    requires undecided { length undecided.old ≡ length basin.now.links }
+    ensures length { length undecided.new ≡ length undecided.old }
+    ensures helped { AreHelpedTo basin.now month.now 0 helped.new }
+    ensures undecided { AreUndecided basin.now month.now helped.new undecided.new result }
 {
+    let mut count = 0;
     for link in 0..basin.links.len() as u32 {
-        helped[link as usize] = told_by_next(basin, month, next, link);
+        let told = told_by_next(basin, month, next, link);
+        helped[link as usize] = told;
+        if is_undecided(basin, month, next, told, link) {
+            undecided[count] = link;
+            count += 1;
+        }
     }
+    count
+}
+
+/// Whether one of the undecided links enters a right's reach. No other could help it.
+fn any_enters(
+    basin: &Basin,
+    month: &MonthRecord,
+    right: u32,
+    undecided: &[u32],
+    count: usize,
+) -> bool
+    requires basin { IsValidBasin basin.now }
+    requires cut { HasCut basin.now month.now.cuts right }
+    requires undecided { AreLinks basin.now undecided.now count }
+    ensures { OnFalse result (NoneEnters basin.now (cut_at month.now.cuts right) undecided.now count) }
+{
+    for j in 0..count {
+        if enters(basin, &month.cuts, right, undecided[j]) {
+            return true;
+        }
+    }
+    false
 }
 
 /// The right before, or the one at this place of the order if one more unit of carry on the link would help it.
@@ -113,14 +180,34 @@ fn helped_with(
     }
 }
 
-/// Notes for each link the right at a place of the order, if no senior was noted and one more unit of carry on the link
-/// would help it.
+/// Whether one of the undecided links could help a right: it is short, and one of them enters its reach.
+fn could_be_helped(
+    basin: &Basin,
+    month: &MonthRecord,
+    right: u32,
+    undecided: &[u32],
+    count: usize,
+) -> bool
+    requires plan { HasPlan basin.now month.now }
+    requires reaches { HasReaches basin.now month.now }
+    requires right { right < length basin.now.rights }
+    requires undecided { AreLinks basin.now undecided.now count }
+    ensures yes { OnTrue result (IsShort month.now right) }
+    ensures no { OnFalse result (HelpNot basin.now month.now undecided.now count right) }
+{
+    is_short(month, right) && any_enters(basin, month, right, undecided, count)
+}
+
+/// Notes for each undecided link the right at a place of the order, if no senior was noted and one more unit of carry on
+/// the link would help it.
 fn note_links(
     basin: &Basin,
     roll: &Roll,
     month: &MonthRecord,
     place: usize,
     core: &[bool],
+    undecided: &[u32],
+    count: usize,
     helped: &mut [Option<u32>],
 )
     requires plan { HasPlan basin.now month.now }
@@ -131,22 +218,28 @@ fn note_links(
     requires core { IsCore basin.now month.now (right_at basin.now place) core.now }
     requires cut { HasCut basin.now month.now.cuts (right_at basin.now place) }
     requires reach { HasReach basin.now month.now (right_at basin.now place) }
+    requires undecided { AreUndecided basin.now month.now helped.old undecided.now count }
     requires helped { AreHelpedTo basin.now month.now place helped.old }
-    ensures { AreHelpedTo basin.now month.now (place + 1) helped.new }
+    ensures undecided { AreUndecided basin.now month.now helped.new undecided.now count }
+    ensures helped { AreHelpedTo basin.now month.now (place + 1) helped.new }
 {
-    for link in 0..basin.links.len() as u32 {
+    for j in 0..count {
+        let link = undecided[j];
         let before = helped[link as usize];
         helped[link as usize] = helped_with(basin, roll, month, place, core, link, before);
     }
 }
 
-/// Notes the right at a place of the order, if it is short, for the links whose carry would help it and no senior.
+/// Notes the right at a place of the order, if it is short, for the links whose carry would help it and no senior. Its
+/// core is searched for if an undecided link enters its reach.
 fn note_right(
     search: &mut ResidualSearch,
     basin: &Basin,
     roll: &Roll,
     month: &MonthRecord,
     place: usize,
+    undecided: &[u32],
+    count: usize,
     helped: &mut [Option<u32>],
 )
     requires search { IsSearchOf basin.now search.old }
@@ -155,14 +248,17 @@ fn note_right(
     requires reaches { HasReaches basin.now month.now }
     requires room { HasRoomForAll basin.now month.now }
     requires place { place < length basin.now.rights }
+    requires undecided { AreUndecided basin.now month.now helped.old undecided.now count }
     requires helped { AreHelpedTo basin.now month.now place helped.old }
     ensures search { IsSearchOf basin.now search.new }
+    ensures undecided { AreUndecided basin.now month.now helped.new undecided.now count }
     ensures helped { AreHelpedTo basin.now month.now (place + 1) helped.new }
 {
     let right = roll.by_seniority()[place];
-    if is_short(month, right) {
+    if could_be_helped(basin, month, right, undecided, count) {
         search.find_core(basin, roll, month, right);
-        note_links(basin, roll, month, place, search.core(), helped);
+        let core = search.core();
+        note_links(basin, roll, month, place, core, undecided, count, helped);
     }
 }
 
@@ -190,14 +286,16 @@ fn instream_link(basin: &Basin, right: u32) -> Option<u32>
     }
 }
 
-/// Notes the right at a place of the order, if it is an instream right that is short. No other could be helped by a
-/// link of which no right was told at first.
+/// Notes the right at a place of the order, if it is an instream right that is short. No other could be helped by an
+/// undecided link.
 fn note_place(
     search: &mut ResidualSearch,
     basin: &Basin,
     roll: &Roll,
     month: &MonthRecord,
     place: usize,
+    undecided: &[u32],
+    count: usize,
     helped: &mut [Option<u32>],
 )
     requires search { IsSearchOf basin.now search.old }
@@ -206,26 +304,31 @@ fn note_place(
     requires reaches { HasReaches basin.now month.now }
     requires room { HasRoomForAll basin.now month.now }
     requires place { place < length basin.now.rights }
+    requires undecided { AreUndecided basin.now month.now helped.old undecided.now count }
     requires helped { AreHelpedTo basin.now month.now place helped.old }
     ensures search { IsSearchOf basin.now search.new }
+    ensures undecided { AreUndecided basin.now month.now helped.new undecided.now count }
     ensures helped { AreHelpedTo basin.now month.now (place + 1) helped.new }
 {
     let right = right_at(basin, roll, place);
     match instream_link(basin, right) {
-        Some(_) => note_right(search, basin, roll, month, place, helped),
+        Some(_) => note_right(search, basin, roll, month, place, undecided, count, helped),
         None => {}
     }
 }
 
-/// For each link the most senior right that one more unit of carry on it would help, or none. The right to which one
-/// more unit at each node would go tells it of most links. A core is searched for each short instream right, and no
-/// memory is taken.
+/// For each link the most senior right that one more unit of carry on it would help, or none.
+///
+/// The right to which one more unit at each node would go tells it of most links. The others are listed in `undecided`,
+/// which has a place for each link: they are full. Only an instream right could be helped by one, and its core is
+/// searched for if one enters its reach. No memory is taken.
 pub fn find_helped(
     search: &mut ResidualSearch,
     basin: &Basin,
     roll: &Roll,
     month: &MonthRecord,
     next: &[Option<u32>],
+    undecided: &mut [u32],
     helped: &mut [Option<u32>],
 )
     requires search { IsSearchOf basin.now search.old }
@@ -234,12 +337,14 @@ pub fn find_helped(
     requires reaches { HasReaches basin.now month.now }
     requires room { HasRoomForAll basin.now month.now }
     requires next { AreNext basin.now month.now next.now }
+    requires undecided { length undecided.old ≡ length basin.now.links }
     requires helped { length helped.old ≡ length basin.now.links }
     ensures search { IsSearchOf basin.now search.new }
+    ensures undecided { length undecided.new ≡ length undecided.old }
     ensures helped { AreHelped basin.now month.now helped.new }
 {
-    begin(basin, month, next, helped);
+    let count = begin(basin, month, next, helped, undecided);
     for place in 0..basin.rights.len() {
-        note_place(search, basin, roll, month, place, helped);
+        note_place(search, basin, roll, month, place, undecided, count, helped);
     }
 }

@@ -52,7 +52,7 @@ fn opposite(basin: &Basin, step: u32) -> u32
 }
 
 /// Whether a link carries less than it can.
-fn can_rise(basin: &Basin, month: &MonthRecord, link: u32) -> bool
+pub fn can_rise(basin: &Basin, month: &MonthRecord, link: u32) -> bool
     requires plan { HasPlan basin.now month.now }
     requires link { link < length basin.now.links }
     ensures { result ≡ can_rise basin.now month.now link }

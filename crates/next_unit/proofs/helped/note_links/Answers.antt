@@ -1,19 +1,27 @@
 use Rattle.std.proofs.Common.{arith}
-use Rattle.next_unit.proofs.Helping.{all_told, none_told, one_told}
+use Rattle.rights_roll.proofs.Seniors.{by_seniority_order}
+use Rattle.next_unit.proofs.Helping.{all_told, none_told, one_told, still_undecided}
 use Rattle.next_unit.proofs.helped.note_links.Goals as goal
 
-pub loop-link-init : goal.loop-link-init
-loop-link-init c = none_told c.args.basin.now c.args.month.now c.args.place c.args.helped.now c.requires.helped
+pub loop-j-init : goal.loop-j-init
+loop-j-init c = record {
+  undecided = c.requires.undecided;
+  helped = none_told c.args.basin.now c.args.month.now c.args.place c.args.helped.now c.args.undecided.now
+      c.requires.helped;
+}
 
-pub helped_with-requires-clause-before : goal.helped_with-requires-clause-before
-helped_with-requires-clause-before c = c.loop-link.invariant.rest c.loop-link.link (omega arith) (omega arith)
+pub loop-j-preserved : goal.loop-j-preserved
+loop-j-preserved c = record {
+  undecided = still_undecided c.args.basin.now c.args.month.now c.args.place c.loop-j.helped c.args.undecided.now
+      c.args.count c.loop-j.j c.helped_with.result (omega arith) c.loop-j.invariant.undecided
+      c.loop-j.invariant.helped.each.count;
+  helped = one_told c.args.basin.now c.args.month.now c.args.place c.loop-j.helped c.args.undecided.now c.args.count
+      c.loop-j.j c.helped_with.result (omega arith) c.loop-j.invariant.undecided
+      c.loop-j.invariant.helped.each.count c.loop-j.invariant.helped c.helped_with.ensures;
+}
 
-pub loop-link-preserved : goal.loop-link-preserved
-loop-link-preserved c =
-    one_told c.args.basin.now c.args.month.now c.args.place c.loop-link.helped c.loop-link.link c.helped_with.result
-    (omega arith) c.loop-link.invariant c.helped_with.ensures
-
-pub returns : goal.returns
-returns c =
-    all_told c.args.basin.now c.args.month.now c.args.place c.loop-link.helped c.loop-link.link (omega arith)
-    c.loop-link.invariant
+pub returns-clause-helped : goal.returns-clause-helped
+returns-clause-helped c =
+    all_told c.args.basin.now c.args.month.now c.args.place c.loop-j.helped c.args.undecided.now c.args.count
+    c.loop-j.j (by_seniority_order c.args.basin.now.rights c.requires.plan.valid.roll.strict) c.requires.place
+    (omega arith) c.loop-j.invariant.undecided c.loop-j.invariant.helped

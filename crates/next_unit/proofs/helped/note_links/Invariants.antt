@@ -1,5 +1,8 @@
-use Rattle.next_unit.specs.Helped.{AreBeingHelped}
+use Rattle.next_unit.specs.Helped.{AreBeingHelped, AreUndecided}
 use Rattle.next_unit.proofs.helped.note_links.Given as goal
 
-abbrev pub invariant-loop-link : goal.invariant-loop-link
-invariant-loop-link l = AreBeingHelped l.basin l.month l.place l.helped l.link
+abbrev pub invariant-loop-j : goal.invariant-loop-j
+invariant-loop-j l = record {
+  undecided : AreUndecided l.basin l.month l.helped l.undecided l.count;
+  helped : AreBeingHelped l.basin l.month l.place l.helped l.undecided l.j;
+}

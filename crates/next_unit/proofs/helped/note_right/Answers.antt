@@ -1,7 +1,9 @@
 use Rattle.std.proofs.Common.{ℕ, ◌<◌, length, subst, sym, ◌∙◌, arith}
-use Rattle.std.proofs.lemmas.Bool.{both_ways, lt-ltb, ltb-true}
+use Rattle.std.proofs.lemmas.Bool.{OnFalse_at, OnTrue_at}
+use Rattle.rights_roll.proofs.Seniors.{by_seniority_order}
 use Rattle.water_model.specs.History.{IsShort}
-use Rattle.next_unit.proofs.Helping.{is_placed, nobody_more, short_has_reach}
+use Rattle.next_unit.specs.Helped.{HelpNot}
+use Rattle.next_unit.proofs.Helping.{is_placed, no_more, short_has_reach}
 use Rattle.next_unit.proofs.helped.note_right.Goals as goal
 
 pub bounds-by_seniority-place : goal.bounds-by_seniority-place
@@ -9,17 +11,10 @@ bounds-by_seniority-place c =
     (is_placed c.args.basin.now c.by_seniority.result.now c.args.place c.requires.plan.valid
     (c.by_seniority.ensures ∙ c.requires.roll.order) c.requires.place).within
 
-pub is_short-requires-clause-delivered : goal.is_short-requires-clause-delivered
-is_short-requires-clause-delivered c =
-    let at = is_placed c.args.basin.now c.by_seniority.result.now c.args.place c.requires.plan.valid
-    (c.by_seniority.ensures ∙ c.requires.roll.order) c.requires.place in
-    omega (arith, at.below, c.requires.plan.fits.delivered)
-
-pub is_short-requires-clause-want : goal.is_short-requires-clause-want
-is_short-requires-clause-want c =
-    let at = is_placed c.args.basin.now c.by_seniority.result.now c.args.place c.requires.plan.valid
-    (c.by_seniority.ensures ∙ c.requires.roll.order) c.requires.place in
-    omega (arith, at.below, c.requires.plan.fits.want)
+pub could_be_helped-requires-clause-right : goal.could_be_helped-requires-clause-right
+could_be_helped-requires-clause-right c =
+    (is_placed c.args.basin.now c.by_seniority.result.now c.args.place c.requires.plan.valid
+    (c.by_seniority.ensures ∙ c.requires.roll.order) c.requires.place).below
 
 pub note_links-requires-clause-room : goal.note_links-requires-clause-room
 note_links-requires-clause-room c =
@@ -27,7 +22,7 @@ note_links-requires-clause-room c =
     (c.by_seniority.ensures ∙ c.requires.roll.order) c.requires.place in
     c.requires.room.each _ (subst (λ (r : ℕ). r < length c.args.basin.now.rights) at.is at.below)
     (subst (λ (r : ℕ). IsShort c.args.month.now r) at.is
-    (ltb-true _ _ (sym c.is_short.ensures ∙ c.if-is_short.true)))
+    (OnTrue_at c.if-could_be_helped.true c.could_be_helped.ensures.yes))
 
 pub note_links-requires-clause-reach : goal.note_links-requires-clause-reach
 note_links-requires-clause-reach c =
@@ -36,13 +31,14 @@ note_links-requires-clause-reach c =
     short_has_reach c.args.basin.now c.args.month.now _ c.requires.reaches
     (subst (λ (r : ℕ). r < length c.args.basin.now.rights) at.is at.below)
     (subst (λ (r : ℕ). IsShort c.args.month.now r) at.is
-    (ltb-true _ _ (sym c.is_short.ensures ∙ c.if-is_short.true)))
+    (OnTrue_at c.if-could_be_helped.true c.could_be_helped.ensures.yes))
 
-pub returns-else-is_short-clause-helped : goal.returns-else-is_short-clause-helped
-returns-else-is_short-clause-helped c =
-    let at = is_placed c.args.basin.now c.by_seniority.result.now c.args.place c.requires.plan.valid
+pub returns-else-could_be_helped-clause-helped : goal.returns-else-could_be_helped-clause-helped
+returns-else-could_be_helped-clause-helped c =
+    let b = c.args.basin.now in
+    let at = is_placed b c.by_seniority.result.now c.args.place c.requires.plan.valid
     (c.by_seniority.ensures ∙ c.requires.roll.order) c.requires.place in
-    nobody_more c.args.basin.now c.args.month.now c.args.place c.args.helped.now
-    (subst (λ (r : ℕ). IsShort c.args.month.now r → ⊥) at.is
-    (λ short. both_ways c.is_short.result c.if-is_short.false (c.is_short.ensures ∙ lt-ltb _ _ short)))
-    (subst (λ (r : ℕ). r < length c.args.basin.now.rights) at.is at.below) c.requires.helped
+    no_more b c.args.month.now c.args.place c.args.helped.now c.args.undecided.now c.args.count
+    (by_seniority_order b.rights c.requires.plan.valid.roll.strict) c.requires.place
+    (subst (λ (r : ℕ). HelpNot b c.args.month.now c.args.undecided.now c.args.count r) at.is
+    (OnFalse_at c.if-could_be_helped.false c.could_be_helped.ensures.no)) c.requires.undecided c.requires.helped

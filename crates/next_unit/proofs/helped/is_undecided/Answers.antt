@@ -1,0 +1,36 @@
+use Rattle.std.proofs.Common.{◌≡◌, ℕ, Bool, true, false, refl, ◌∙◌, sym, ap, subst}
+use Rattle.std.proofs.lemmas.Bool.{OnFalse_from, true_from_ne_false, both_ways}
+use Rattle.std.specs.Prelude.{Option, None, Some, is_some, not}
+use Rattle.water_model.specs.Basin.{head_of}
+use Rattle.water_model.proofs.Balance.{ends}
+use Rattle.plan_residual.specs.Next.{IsNextOrFree}
+use Rattle.plan_residual.specs.Residual.{can_rise}
+use Rattle.next_unit.specs.Helped.{IsHelped}
+use Rattle.next_unit.proofs.Told.{free_link, not_full, told_some, told_none}
+use Rattle.next_unit.proofs.helped.is_undecided.Goals as goal
+
+pub returns-then-is_some : goal.returns-then-is_some
+returns-then-is_some c =
+    told_some c.args.basin.now c.args.month.now c.args.link c.args.told (sym c.is_some.ensures ∙ c.if-is_some.true)
+    c.requires.told
+
+pub returns-in-Some : goal.returns-in-Some
+returns-in-Some c =
+    OnFalse_from (not c.can_rise.result) (IsHelped c.args.basin.now c.args.month.now c.args.link c.args.told)
+    (λ rises. told_none c.args.basin.now c.args.month.now c.args.link c.args.told
+    (sym c.is_some.ensures ∙ c.if-is_some.false)
+    (not_full c.args.basin.now c.args.month.now c.args.link c.requires.plan c.requires.reaches c.requires.room
+    c.requires.link (sym c.can_rise.ensures ∙ not-false c.can_rise.result rises)))
+  where
+    not-false : (b : Bool) → not b ≡ false → b ≡ true
+    not-false true e = refl
+    not-false false e = absurd (both_ways false refl (sym e))
+
+pub returns-in-None : goal.returns-in-None
+returns-in-None c =
+    let b = c.args.basin.now in
+    told_none b c.args.month.now c.args.link c.args.told (sym c.is_some.ensures ∙ c.if-is_some.false)
+    (free_link b c.args.month.now c.args.link c.requires.plan c.requires.reaches c.requires.room c.requires.link
+    (subst (λ (o : Option ℕ). IsNextOrFree b c.args.month.now (head_of b c.args.link) o)
+    (sym c.at_head.ensures ∙ c.in-None.is)
+    (c.requires.next.each (head_of b c.args.link) (ends b c.requires.plan.valid c.args.link c.requires.link).1)))
