@@ -118,7 +118,7 @@ SAID = re.compile(r"(basin2?|series2?|script): [A-Z][A-Za-z]* .*|usage: .*|(read
 # --- Records ----------------------------------------------------------------------------------------------------------
 @dataclass
 class Month:
-    """A month of a result. Each field but `month` is a dictionary by name; `sets` has the nodes behind each call."""
+    """A month of a result. Each field but `month` is a dictionary by name; `sets` has the nodes after each call."""
 
     month: str
     opening: dict = field(default_factory=dict)
@@ -140,7 +140,7 @@ class Month:
         return {right: lack for right, lack in lacks.items() if lack > 0}
 
     def rows(self):
-        """Each row of the month's tables, behind the name of its table."""
+        """Each row of the month's tables, after the name of its table."""
         for right, want in self.wanted.items():
             got = self.delivered[right]
             yield "rights", (self.month, right, want, got, want - got, self.callers.get(right, ""))
@@ -530,7 +530,7 @@ def lines_of(name):
 
 # --- Calling the program ----------------------------------------------------------------------------------------------
 def lines(*words, answers=(0,)):
-    """The lines that the program writes for the words of a command, one by one; behind the last one, a status that is
+    """The lines that the program writes for the words of a command, one by one; after the last one, a status that is
     none of the answers is raised. Who stops reading before ends the program."""
     with tempfile.TemporaryFile() as errors:
         child = subprocess.Popen([PROGRAM, *map(str, words)], stdin=subprocess.DEVNULL, stdout=subprocess.PIPE,
@@ -569,7 +569,7 @@ def audit(basin, series, result):
 
 
 def answer(*words):
-    """The number behind an answer of one line, or the refutation that it is."""
+    """The number after an answer of one line, or the refutation that it is."""
     word, *said = list(lines(*words, answers=(0, 1)))[0].split()
     if word == "refuted":
         raise Refuted(int(said[0]), said[1])

@@ -12,7 +12,7 @@ from hints import HERE, load
 ROOT = os.path.join(HERE, "..")
 VALLEY, WEIR = "examples/valley.toml examples/valley.csv", "examples/weir.toml examples/weir.csv"
 USAGE = "usage: basin_cli COMMAND WORDS"
-# Words, the status, the program's line, and what the script says behind it.
+# Words, the status, the program's line, and what the script says after it.
 ANSWERS = (
     ("chek examples/weir.toml", 2, USAGE, "there is no command chek; did you mean check?"),
     ("examples/weir.toml", 2, USAGE,

@@ -174,7 +174,7 @@ def names(v):
 
 
 def doubts(d, basin):
-    """All warnings, and behind them all notes, each in the order of the file."""
+    """All warnings, and after them all notes, each in the order of the file."""
     valley = Valley(d, basin)
     for look in (names, links, reservoirs, rights, returns):
         look(valley)

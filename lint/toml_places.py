@@ -165,7 +165,7 @@ class Reader:
             here = self.expression(top, here)
             self.skip(BLANKS)
             if self.sign() not in ("", "#", "\n", "\r"):
-                raise Wrong(behind_value(self.text, self.at), self.at)
+                raise Wrong(after_value(self.text, self.at), self.at)
             self.skip(GAP)
         return top
 
@@ -253,7 +253,7 @@ class Reader:
             self.separator("}", table.at, "table in braces")
 
     def separator(self, closing, start, what):
-        """Reads the comma behind an item, unless the end of the list or table stands there."""
+        """Reads the comma after an item, unless the end of the list or table stands there."""
         self.skip(GAP)
         if self.sign() == ",":
             self.at += 1
@@ -261,7 +261,7 @@ class Reader:
             raise Wrong(f"the {what} that begins in line {line_of(self.text, start)} isn't closed with {closing}",
                 self.at)
         elif self.sign() != closing:
-            why = behind_item(self.text, self.at)
+            why = after_item(self.text, self.at)
             raise Wrong(why
                 or f"a comma is missing here, or the {closing} that ends the {what} of line "
                 f"{line_of(self.text, start)}", self.at)
@@ -285,7 +285,7 @@ class Reader:
             parts.append(self.escaped())
 
     def escaped(self):
-        """What stands behind a backslash."""
+        """What stands after a backslash."""
         sign = self.sign()
         count = {"x": 2, "u": 4, "U": 8}.get(sign, 0)
         digits = self.text[self.at + 1:self.at + 1 + count]
@@ -351,12 +351,12 @@ def no_key(text, at):
 
 def no_equals(text, at, path):
     if text[at:at + 1] == ":":
-        return f"found a colon behind {path[-1]}: write {path[-1]} = .."
-    return f"behind {path[-1]} comes {rest_of_line(text, at) or 'nothing'}: write {path[-1]} = and then its value"
+        return f"found a colon after {path[-1]}: write {path[-1]} = .."
+    return f"after {path[-1]} comes {rest_of_line(text, at) or 'nothing'}: write {path[-1]} = and then its value"
 
 
 def no_value(text, at, word):
-    """Why what stands behind `=`, or in a list, is no value."""
+    """Why what stands after `=`, or in a list, is no value."""
     rest = rest_of_line(text, at)
     if rest == "" or rest[0] == "#":
         return "no value stands here"
@@ -381,27 +381,27 @@ def no_value(text, at, word):
     return f"found {rest}: here a number, a text in quotation marks, true, false or a list has to stand"
 
 
-def behind_item(text, at):
-    """What a sign behind a number means, or None."""
+def after_item(text, at):
+    """What a sign after a number means, or None."""
     before, rest = re.search(r"[0-9.]*$", text[max(0, at - 30):at].rstrip(" "))[0], rest_of_line(text, at)
     if rest[:1] == "%":
         return "found a percent sign: write a whole number; part counts parts of 10,000, so 25% is 2500"
     if before and rest[:1].isalpha():
-        return f"found {rest} behind the number {before}: write the number alone, without a unit"
+        return f"found {rest} after the number {before}: write the number alone, without a unit"
     if before and re.match(r"['’ ]?[0-9]{3}\b", rest):
         return f"found {before} and then {rest}: write the number without signs within, as 1200"
     return None
 
 
-def behind_value(text, at):
-    """Why something stands behind a value."""
+def after_value(text, at):
+    """Why something stands after a value."""
     rest = rest_of_line(text, at)
     before = re.search(r"[0-9]*$", text[max(0, at - 30):at])[0]
     digits = re.match(r",([0-9,]+)", rest)
     if before and digits:
         return f"found {before}{digits[0]}: write the number without commas, {before}{digits[1].replace(',', '')}"
     if rest.startswith(","):
-        return "found a comma: behind a value nothing else stands on the line"
+        return "found a comma: after a value nothing else stands on the line"
     if rest.startswith("//"):
         return "found //: a comment begins with #"
-    return behind_item(text, at) or f"found {rest} behind the value: nothing else may stand on the line"
+    return after_item(text, at) or f"found {rest} after the value: nothing else may stand on the line"

@@ -95,7 +95,7 @@ class View:
 
     def rows(self, node):
         """The lines of a node's box: its parts, but for those of 0 that are no right's; callers below their rights,
-        behind a line feed; and in a large basin the instream rights of the links that leave it."""
+        after a line feed; and in a large basin the instream rights of the links that leave it."""
         for amount, what, name in self.balanced(node):
             caller = f"\n    called by {self.now.callers[name]}" if name in self.now.callers else ""
             if amount or name:

@@ -16,7 +16,7 @@ const lack = (m, r) => data.want[m][r] - data.got[m][r];
 const canals = links.map((link, l) => l).filter(l => links[l][3]);
 
 // --- The account of a right in a month -------------------------------------------------------------------------------
-// The nodes that stand behind a right's call, as a list of truths by node, or null.
+// The nodes that stand after a right's call, as a list of truths by node, or null.
 function setOf(m, r) {
   if (!(r in data.cut[m])) return null;
   const bytes = atob(data.sets[data.cut[m][r]]);
@@ -104,10 +104,10 @@ function showAccount(set) {
 }
 
 // A text with the name of a right that a click chooses.
-function nameIn(parent, before, r, behind) {
+function nameIn(parent, before, r, after) {
   parent.append(before);
   make("a", rights[r][0], parent).onclick = () => choose(chosen.month, r);
-  parent.append(behind);
+  parent.append(after);
 }
 
 function showCalls(box, m, r) {

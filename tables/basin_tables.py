@@ -7,7 +7,7 @@ import os
 TABLES_FOLDER = os.path.dirname(os.path.abspath(__file__))
 # For each file its list in the basin file (None: no list of its own), and its columns. A cell is a text, a whole
 # number, a truth, a month, a day, a calendar month, a list of these, or an amount of a kind of `measures`; with a star,
-# for each calendar month or for all of them, and behind a bar the word that may stand in its place.
+# for each calendar month or for all of them, and after a bar the word that may stand in its place.
 DATED = {"date": "day", "order": "whole"}
 TABLES = {
     "run": (None, {"format": "whole", "first_month": "month", "months": "whole", "year_start": "calendar"}),

@@ -21,7 +21,7 @@ KINDS = {
     "depth": ("a depth of evaporation in a month", "millimetres", Fraction(1, 1000), 1, (0, -1)),
     "part": ("a part, as percent is", "parts of 10,000", Fraction(1, 10000), 0, (0,)),
 }
-# What a column may say behind its unit without a change of its meaning.
+# What a column may say after its unit without a change of its meaning.
 OWN_TIME = {"water": "month", "depth": "month", "yearly": "year"}
 # Units that pint hasn't, or has by another name, and spellings that it doesn't read.
 DEFINED = (

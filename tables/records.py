@@ -44,7 +44,7 @@ def names_in(text):
 
 @functools.lru_cache(maxsize=64)
 def read_file(path):
-    """Whether a file is RDB, its headings, and its rows with their numbers. Lines behind a `#` are passed over."""
+    """Whether a file is RDB, its headings, and its rows with their numbers. Lines that begin with `#` are passed over."""
     numbered = enumerate((line.rstrip("\r\n") for line in table_files.read_lines(path)), 1)
     lines = [(number, line) for number, line in numbered if line.strip() and not line.startswith("#")]
     widths = lines[1][1].split("\t") if len(lines) > 1 else []
@@ -82,7 +82,7 @@ class Record:
         if not self.name:
             self.stop("name", "the record has no name, no node and no right")
         if not kind:
-            how = "write daily or monthly, and behind it rate, volume or contents"
+            how = "write daily or monthly, and after it rate, volume or contents"
             self.stop("kind", f"`{cells['kind']}` is not read: {how}")
         self.is_daily, self.is_rate, self.is_contents = kind[1] == "daily", kind[2] == "rate", kind[2] == "contents"
         if self.is_contents and self.target:
